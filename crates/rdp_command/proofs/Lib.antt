@@ -1,0 +1,4 @@
+pub mod Signed
+pub mod Bytes
+pub mod Triangles
+pub mod Spreading

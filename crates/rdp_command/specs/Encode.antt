@@ -1,0 +1,96 @@
+-- Document 01, refusals 15 and 14: the words of a command, written at the front of the output.
+use mathlib.Core.Bool.{Bool, true, cond, _&&_}
+use mathlib.Core.List.{List, [], _∷_, _++_, map}
+use Prim.Native.Nat.{ℕ, zero, suc, _+_, _-_, _*_, _/_, _^_, min}
+use lib.Dec.{eqb, ltb}
+use lib.ListN.{length}
+use Rattle.rdp_command.specs.Words.{bytesOf, overwrite}
+use Rattle.rdp_command.specs.Kinds.{wordsOf, isNoOperation}
+use Rattle.rdp_command.specs.Layout.{layout}
+use Rattle.rdp_command.specs.Fields.{numberOfValue, allFit, packed}
+use Rattle.rdp_command.specs.Commands.{valuesOf, numberOf}
+use Rattle.rdp_command.specs.Decode.{suffixWords}
+use Rattle.rdp_command.specs.declared.command.Answer.{Answer}
+use Rattle.rdp_command.specs.declared.command.Command.{Command}
+use Rattle.rdp_command.specs.declared.command.Command.the-variants.{NoOperation, FillTriangle, TextureRectangle, TextureRectangleFlip, SyncLoad, SyncPipe, SyncTile, SyncFull, SetKeyGb, SetKeyR, SetConvert, SetScissor, SetPrimitiveDepth, SetOtherModes, LoadTlut, SetTileSize, LoadBlock, LoadTile, SetTile, FillRectangle, SetFillColor, SetFogColor, SetBlendColor, SetPrimitiveColor, SetEnvironmentColor, SetCombineMode, SetTextureImage, SetDepthImage, SetColorImage}
+
+-- the bits of a number that no bit line holds: all of it, but for a triangle's three flags
+abbrev pub fixedBits : ℕ → ℕ
+fixedBits n = cond (eqb (n / 8) 1) 8 n
+
+-- word i of the command with number n whose fields have the numbers ns
+abbrev pub packedWord : ℕ → List ℕ → ℕ → ℕ
+packedWord n ns i = cond (eqb i 0) (fixedBits n * 2 ^ 56) 0 + packed i (layout n) ns
+
+-- the bytes of its first k words
+unfoldable pub packedBytes : ℕ → List ℕ → ℕ → List ℕ
+packedBytes n ns zero = []
+packedBytes n ns (suc k) = packedBytes n ns k ++ bytesOf (packedWord n ns k)
+
+-- the words of a command before its suffix
+abbrev pub baseWords : ℕ → ℕ
+baseWords n = min 4 (wordsOf n)
+
+abbrev pub numbersOf : Command → List ℕ
+numbersOf c = map numberOfValue (valuesOf c)
+
+-- the bytes of a command: its base words, and the suffix as given
+unfoldable pub bytesWith : ℕ → List ℕ → List ℕ → List ℕ
+bytesWith n ns suffix = packedBytes n ns (baseWords n) ++ suffix
+
+abbrev pub encodedBytes : Command → List ℕ → List ℕ
+encodedBytes c suffix = bytesWith (numberOf c) (numbersOf c) suffix
+
+-- refusal 15 for a no operation whose number is not in its row
+abbrev pub numberFits : Command → Bool
+numberFits (NoOperation n) = isNoOperation n
+numberFits (FillTriangle g) = true
+numberFits (TextureRectangle g) = true
+numberFits (TextureRectangleFlip g) = true
+numberFits SyncLoad = true
+numberFits SyncPipe = true
+numberFits SyncTile = true
+numberFits SyncFull = true
+numberFits (SetKeyGb g) = true
+numberFits (SetKeyR g) = true
+numberFits (SetConvert g) = true
+numberFits (SetScissor g) = true
+numberFits (SetPrimitiveDepth g) = true
+numberFits (SetOtherModes g) = true
+numberFits (LoadTlut g) = true
+numberFits (SetTileSize g) = true
+numberFits (LoadBlock g) = true
+numberFits (LoadTile g) = true
+numberFits (SetTile g) = true
+numberFits (FillRectangle g) = true
+numberFits (SetFillColor g) = true
+numberFits (SetFogColor g) = true
+numberFits (SetBlendColor g) = true
+numberFits (SetPrimitiveColor g) = true
+numberFits (SetEnvironmentColor g) = true
+numberFits (SetCombineMode g) = true
+numberFits (SetTextureImage g) = true
+numberFits (SetDepthImage g) = true
+numberFits (SetColorImage g) = true
+
+-- none of the parts of refusal 15 holds
+unfoldable pub encodable : Command → List ℕ → Bool
+encodable c suffix =
+    (numberFits c && allFit (layout (numberOf c)) (valuesOf c)) && eqb (length suffix) (8 * suffixWords (wordsOf (numberOf c)))
+
+-- 15 at 0 where what is given can't be encoded, then 14 at the words needed, else 0 and the words written
+unfoldable pub answerWith : Bool → ℕ → List ℕ → Answer
+answerWith ok n out =
+    cond ok (cond (ltb (length out / 8) (wordsOf n)) (record { number = 14; place = wordsOf n }) (record { number = 0; place = wordsOf n }))
+    (record { number = 15; place = 0 })
+
+-- the output: the bytes at its front, or as it was at a refusal
+unfoldable pub outWith : Bool → ℕ → List ℕ → List ℕ → List ℕ
+outWith ok n bytes out = cond ok (cond (ltb (length out / 8) (wordsOf n)) out (overwrite bytes out)) out
+
+-- what encoding a command answers, and the output after it
+abbrev pub encodeAnswer : Command → List ℕ → List ℕ → Answer
+encodeAnswer c suffix out = answerWith (encodable c suffix) (numberOf c) out
+
+abbrev pub encodeOut : Command → List ℕ → List ℕ → List ℕ
+encodeOut c suffix out = outWith (encodable c suffix) (numberOf c) (encodedBytes c suffix) out

@@ -1,0 +1,86 @@
+-- Document 01, "Words and lengths": the table of command numbers, kinds and words.
+use mathlib.Core.Bool.{Bool, true, false, cond, _&&_, _||_}
+use mathlib.Core.List.{List, [], _∷_}
+use Prim.Native.Nat.{ℕ, _+_, _/_, _%_}
+use lib.Dec.{leb, ltb, eqb}
+
+pub data Kind : Type 0 where
+  noOperation : Kind
+  triangle : Kind
+  textureRectangle : Kind
+  fillRectangle : Kind
+  syncLoad : Kind
+  syncTile : Kind
+  syncPipe : Kind
+  syncFull : Kind
+  load : Kind
+  setTile : Kind
+  attribute : Kind
+  free : Kind
+
+abbrev pub between : ℕ → ℕ → ℕ → Bool
+between low high n = leb low n && leb n high
+
+abbrev pub among : ℕ → List ℕ → Bool
+among n [] = false
+among n (x ∷ xs) = eqb n x || among n xs
+
+-- the row of 01's table that names a number; a number that no other row names is a no operation
+unfoldable pub kindOf : ℕ → Kind
+kindOf n =
+    cond (between 0x08 0x0F n) triangle
+    (cond (among n (0x24 ∷ 0x25 ∷ [])) textureRectangle
+    (cond (eqb n 0x36) fillRectangle
+    (cond (eqb n 0x26) syncLoad
+    (cond (eqb n 0x28) syncTile
+    (cond (eqb n 0x27) syncPipe
+    (cond (eqb n 0x29) syncFull
+    (cond (among n (0x30 ∷ 0x33 ∷ 0x34 ∷ [])) load
+    (cond (eqb n 0x35) setTile
+    (cond (among n (0x2A ∷ 0x2B ∷ 0x2C ∷ 0x2F ∷ 0x37 ∷ 0x38 ∷ 0x39 ∷ 0x3B ∷ 0x3C ∷ 0x3E ∷ 0x3F ∷ [])) attribute
+    (cond (among n (0x2D ∷ 0x2E ∷ 0x32 ∷ 0x3A ∷ 0x3D ∷ [])) free
+    noOperation))))))))))
+
+abbrev pub isNone : Kind → Bool
+isNone noOperation = true
+isNone triangle = false
+isNone textureRectangle = false
+isNone fillRectangle = false
+isNone syncLoad = false
+isNone syncTile = false
+isNone syncPipe = false
+isNone syncFull = false
+isNone load = false
+isNone setTile = false
+isNone attribute = false
+isNone free = false
+
+-- a number of the row of no operations
+unfoldable pub isNoOperation : ℕ → Bool
+isNoOperation n = ltb n 64 && isNone (kindOf n)
+
+-- bit k of n, for p = 2 ^ k
+abbrev pub hasBit : ℕ → ℕ → Bool
+hasBit p n = eqb (n / p % 2) 1
+
+-- bits 58, 57 and 56 of a triangle's first word are bits 2, 1 and 0 of its number
+abbrev pub triangleWords : ℕ → ℕ
+triangleWords n = 4 + cond (hasBit 4 n) 8 0 + cond (hasBit 2 n) 8 0 + cond (hasBit 1 n) 2 0
+
+abbrev pub wordsOfKind : Kind → ℕ → ℕ
+wordsOfKind noOperation n = 1
+wordsOfKind triangle n = triangleWords n
+wordsOfKind textureRectangle n = 2
+wordsOfKind fillRectangle n = 1
+wordsOfKind syncLoad n = 1
+wordsOfKind syncTile n = 1
+wordsOfKind syncPipe n = 1
+wordsOfKind syncFull n = 1
+wordsOfKind load n = 1
+wordsOfKind setTile n = 1
+wordsOfKind attribute n = 1
+wordsOfKind free n = 1
+
+-- the words of a command, by its number
+unfoldable pub wordsOf : ℕ → ℕ
+wordsOf n = wordsOfKind (kindOf n) n

@@ -1,0 +1,10 @@
+pub mod Words
+pub mod Kinds
+pub mod Layout
+pub mod Table
+pub mod Fields
+pub mod Groups
+pub mod Commands
+pub mod Decode
+pub mod Encode
+pub mod Numbers

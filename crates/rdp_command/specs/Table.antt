@@ -1,0 +1,37 @@
+-- The table that the code reads bit lines from, and that it holds the layout.
+use mathlib.Core.List.{List, [], _∷_, map}
+use mathlib.Core.Path.{_≡_}
+use Prim.Native.Nat.{ℕ, _/_, _%_, _<_, _≤_}
+use lib.Dec.{eqb}
+use lib.ListN.{getD, take, drop}
+use Rattle.rdp_command.specs.Layout.{Line, width, layout}
+use Rattle.rdp_command.specs.declared.packing.BitLine.{BitLine}
+
+-- a bit line out of decimal digits: 1 where it is signed, word, high bit, low bit
+abbrev pub lineOf : ℕ → Line
+lineOf c = record { signed = eqb (c / 100000) 1; word = c / 10000 % 10; high = c / 100 % 100; low = c % 100 }
+
+-- the bit lines from an index on
+abbrev pub linesAt : List ℕ → ℕ → ℕ → List Line
+linesAt t first count = map lineOf (take count (drop first t))
+
+-- entry n says where the bit lines of number n stand, and how many they are
+abbrev pub Agrees : List ℕ → Type 0
+Agrees t = (n : ℕ) → n < 64 → linesAt t (getD t n 0 / 64) (getD t n 0 % 64) ≡ layout n
+
+-- a bit line that a word of a command can hold
+pub record Readable (l : Line) : Type 0 where
+  pub ordered : l .low ≤ l .high
+  pub inside : l .high < 64
+  pub narrow : width l ≤ 56
+
+abbrev pub AllReadable : List Line → Type 0
+AllReadable [] = Unit
+AllReadable (l ∷ ls) = Readable l × AllReadable ls
+
+-- a bit line as the code holds it
+pub record LineIs (l : Line) (r : BitLine) : Type 0 where
+  pub signed : r .signed ≡ l .signed
+  pub word : r .word ≡ l .word
+  pub width : r .width ≡ width l
+  pub low : r .low ≡ l .low

@@ -1,0 +1,169 @@
+// A command's words out of its number and the numbers of its fields, and back.
+ghost use mathlib.Core.Bool.{_&&_};
+ghost use mathlib.Core.List.{_++_};
+ghost use mathlib.Core.Path.{_≡_};
+ghost use Prim.Native.Nat.{_*_, _+_, _-_, _<_, _≤_, _/_, _%_};
+ghost use lib.Dec.{eqb};
+ghost use lib.ListN.{length, getD};
+ghost use Rattle.rdp_command.specs.Words.{overwrite};
+ghost use Rattle.rdp_command.specs.Kinds.{wordsOf};
+ghost use Rattle.rdp_command.specs.Layout.{layout};
+ghost use Rattle.rdp_command.specs.Table.{Agrees};
+ghost use Rattle.rdp_command.specs.Decode.{suffixWords};
+ghost use Rattle.rdp_command.specs.Encode.{fixedBits, packedWord, packedBytes, baseWords, bytesWith, answerWith, outWith};
+ghost use Rattle.rdp_command.specs.Numbers.{numbersFit, flagsAgree, fromNumbers};
+use crate::command::*;
+use crate::{decoding, packing, table, words, words_of};
+
+// Where the bit lines of a number stand in the table, and how many they are.
+pub struct Lines {
+    pub first: usize,
+    pub count: usize,
+}
+
+fn lines_of(table: &[u32; 203], number: u8) -> Lines
+    requires { ⌜ number < 64 ⌝ }
+    ensures { λ r. ⌜ (r .first ≡ getD (now (table .entry)) number 0 / 64) × (r .count ≡ getD (now (table .entry)) number 0 % 64) ⌝ }
+{
+    let at = number as usize;
+    let entry = table[at] as usize;
+    Lines {
+        first: entry / 64,
+        count: entry % 64,
+    }
+}
+
+// Whether there are as many numbers as bit lines, and each fits its own.
+fn numbers_fit(table: &[u32; 203], number: u8, numbers: &[u64]) -> bool
+    requires { ⌜ Agrees (now table) × (number < 64) ⌝ }
+    ensures { λ r. ⌜ r ≡ numbersFit number (now (numbers .entry)) ⌝ }
+{
+    let lines = lines_of(table, number);
+    let first = lines.first;
+    let count = lines.count;
+    if numbers.len() == count {
+        return packing::all_fit(table, first, numbers);
+    }
+    false
+}
+
+// The bits of a number that no bit line holds: all of it, but for a triangle's three flags.
+fn fixed_bits(number: u8) -> u8
+    ensures { λ r. ⌜ r ≡ fixedBits number ⌝ }
+{
+    if number / 8 == 1 { 8 } else { number }
+}
+
+// Word k of a command.
+fn packed_word(table: &[u32; 203], number: u8, numbers: &[u64], k: usize) -> u64
+    requires { ⌜ Agrees (now table) × ((number < 64) × (length (now numbers) ≡ length (layout number))) ⌝ }
+    ensures { λ r. ⌜ r ≡ packedWord number (now (numbers .entry)) k ⌝ }
+{
+    let lines = lines_of(table, number);
+    let first = lines.first;
+    let rest = packing::packed_word(table, first, k, numbers);
+    if k == 0 {
+        return (fixed_bits(number) as u64) * 0x100_0000_0000_0000 + rest;
+    }
+    rest
+}
+
+// Writes the first words of a command at the front.
+fn write_base(table: &[u32; 203], number: u8, numbers: &[u64], base: usize, out: &mut [u8])
+    requires { ⌜ Agrees (now table) × ((number < 64) × ((length (now numbers) ≡ length (layout number)) × (8 * base ≤ length (now out)))) ⌝ }
+    ensures { λ _. ⌜ now (out .exit) ≡ overwrite (packedBytes number (now (numbers .entry)) base) (now (out .entry)) ⌝ }
+{
+    let mut k = 0;
+    while k < base {
+        let w = packed_word(table, number, numbers, k);
+        words::put_word(out, 8 * k, w);
+        k += 1;
+    }
+}
+
+// Writes a command of n words at the front.
+fn write_whole(table: &[u32; 203], number: u8, numbers: &[u64], n: usize, suffix: &[u8], out: &mut [u8])
+    requires { ⌜ Agrees (now table) × ((number < 64) × ((length (now numbers) ≡ length (layout number)) × ((n ≡ wordsOf number) × ((8 * n ≤ length (now out)) × (length (now suffix) ≡ 8 * suffixWords n))))) ⌝ }
+    ensures { λ _. ⌜ now (out .exit) ≡ overwrite (bytesWith number (now (numbers .entry)) (now (suffix .entry))) (now (out .entry)) ⌝ }
+{
+    if n < 4 {
+        write_base(table, number, numbers, n, out);
+        return;
+    }
+    write_base(table, number, numbers, 4, out);
+    words::copy(out, 32, suffix);
+}
+
+// The bytes due after a command's base.
+fn suffix_len(n: usize) -> usize
+    requires { ⌜ n ≤ 22 ⌝ }
+    ensures { λ r. ⌜ r ≡ 8 * suffixWords n ⌝ }
+{
+    if n < 4 { 0 } else { 8 * (n - 4) }
+}
+
+// Writes a command at the front of out: 15, then 14, else 0 and the words written.
+pub fn write_command(number: u8, numbers: &[u64], suffix: &[u8], out: &mut [u8]) -> Answer
+    requires { ⌜ number < 64 ⌝ }
+    ensures answer { λ r. ⌜ r ≡ answerWith (numbersFit number (now (numbers .entry)) && eqb (length (now (suffix .entry))) (8 * suffixWords (wordsOf number))) number (now (out .entry)) ⌝ }
+    ensures output { λ _. ⌜ now (out .exit) ≡ outWith (numbersFit number (now (numbers .entry)) && eqb (length (now (suffix .entry))) (8 * suffixWords (wordsOf number))) number (bytesWith number (now (numbers .entry)) (now (suffix .entry))) (now (out .entry)) ⌝ }
+{
+    let table = table::layout_table();
+    if !numbers_fit(&table, number, numbers) {
+        return Answer {
+            number: 15,
+            place: 0,
+        };
+    }
+    let n = words_of(number);
+    if suffix.len() != suffix_len(n) {
+        return Answer {
+            number: 15,
+            place: 0,
+        };
+    }
+    if out.len() / 8 < n {
+        return Answer {
+            number: 14,
+            place: n as u32,
+        };
+    }
+    write_whole(&table, number, numbers, n, suffix, out);
+    Answer {
+        number: 0,
+        place: n as u32,
+    }
+}
+
+// Whether the flags of a triangle are those of its number.
+fn flags_agree(number: u8, numbers: &[u64]) -> bool
+    requires { ⌜ length (now numbers) ≡ length (layout number) ⌝ }
+    ensures { λ r. ⌜ r ≡ flagsAgree number (now (numbers .entry)) ⌝ }
+{
+    if number / 8 == 1 {
+        let n = number as u64;
+        return (numbers[0] == n / 4 % 2) & (numbers[1] == n / 2 % 2) & (numbers[2] == n % 2);
+    }
+    true
+}
+
+// The command of a number and the numbers of its fields, or 15 at 0.
+pub fn command_of(number: u8, numbers: &[u64]) -> Decoded
+    requires { ⌜ number < 64 ⌝ }
+    ensures { λ r. ⌜ r ≡ fromNumbers number (now (numbers .entry)) ⌝ }
+{
+    let table = table::layout_table();
+    if numbers_fit(&table, number, numbers) {
+        if flags_agree(number, numbers) {
+            let w0 = packed_word(&table, number, numbers, 0);
+            let w1 = packed_word(&table, number, numbers, 1);
+            let w2 = packed_word(&table, number, numbers, 2);
+            let w3 = packed_word(&table, number, numbers, 3);
+            return Decoded::Whole(decoding::command_in(number, w0, w1, w2, w3));
+        }
+    }
+    Decoded::Refused(Answer {
+        number: 15,
+        place: 0,
+    })
+}

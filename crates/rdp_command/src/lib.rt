@@ -1,0 +1,141 @@
+// Decoding and encoding of the display processor's commands.
+ghost use mathlib.Core.Path.{_≡_};
+ghost use Prim.Native.Nat.{_+_, _%_, _^_, _/_};
+ghost use denote.Ref.{ptr};
+ghost use Rattle.rdp_command.specs.Words.{wordAt, numberIn};
+ghost use Rattle.rdp_command.specs.Kinds.{wordsOf};
+ghost use Rattle.rdp_command.specs.Decode.{decodeOf, suffixOf, suffixStart};
+ghost use Rattle.rdp_command.specs.Encode.{encodeAnswer, encodeOut};
+ghost use Rattle.rdp_command.specs.Numbers.{fieldsAnswer, fieldsOut, fromNumbers};
+
+pub mod command;
+pub mod draw_fields;
+mod decoding;
+mod encoding;
+mod packing;
+mod read;
+mod table;
+mod values;
+mod words;
+
+use command::*;
+
+// The word at a place of a list; 0 where the list has no whole word there.
+pub fn word_at(list: &[u8], place: usize) -> u64
+    ensures { λ r. ⌜ r ≡ wordAt (now (list .entry)) place ⌝ }
+{
+    if place < list.len() / 8 {
+        let at = 8 * place;
+        words::half_at(list, at) * 0x1_0000_0000 + words::half_at(list, at + 4)
+    } else {
+        0
+    }
+}
+
+// The number of the command that begins with a word.
+pub fn number_in(w: u64) -> u8
+    ensures { λ r. ⌜ r ≡ numberIn w ⌝ }
+{
+    ((w >> 56) % 64) as u8
+}
+
+// The words of a command, by its number.
+pub fn words_of(number: u8) -> usize
+    ensures { λ r. ⌜ r ≡ wordsOf number ⌝ }
+{
+    let n = number as usize;
+    if n / 8 == 1 {
+        return 4 + n / 4 % 2 * 8 + n / 2 % 2 * 8 + n % 2 * 2;
+    }
+    if n / 2 == 0x12 {
+        return 2;
+    }
+    1
+}
+
+// The first command of a list, or 3 at 0 where its words are not all there. Bytes beyond its words are not read.
+pub fn decode(list: &[u8]) -> Decoded
+    ensures { λ r. ⌜ r ≡ decodeOf (now (list .entry)) ⌝ }
+{
+    let n = words::whole_words(list);
+    if n == 0 {
+        return Decoded::Refused(Answer {
+            number: 3,
+            place: 0,
+        });
+    }
+    let w0 = word_at(list, 0);
+    let w1 = words::own_word(list, n, 1);
+    let w2 = words::own_word(list, n, 2);
+    let w3 = words::own_word(list, n, 3);
+    Decoded::Whole(decoding::command_in(number_in(w0), w0, w1, w2, w3))
+}
+
+// The bytes after the base of the first command, where that is a whole triangle; else none. They are the caller's own bytes, and no copy.
+pub fn suffix(list: &[u8]) -> &[u8]
+    ensures bytes { λ r. ⌜ now r ≡ suffixOf (now (list .entry)) ⌝ }
+    ensures block { λ r. ⌜ ptr r .0 ≡ ptr (list .entry) .0 ⌝ }
+    ensures offset { λ r. ⌜ ptr r .1 ≡ ptr (list .entry) .1 + suffixStart (now (list .entry)) ⌝ }
+{
+    let n = words::whole_words(list);
+    if n <= 4 {
+        return &list[0..0];
+    }
+    let end = 8 * n;
+    &list[32..end]
+}
+
+// Writes a command at the front of out, with the bytes given for what follows a triangle's base. Answers 0 and the words written; 15 at 0 where the
+// command can't be encoded so; 14 at the words needed where out is too short.
+pub fn encode(command: Command, suffix: &[u8], out: &mut [u8]) -> Answer
+    ensures answer { λ r. ⌜ r ≡ encodeAnswer command (now (suffix .entry)) (now (out .entry)) ⌝ }
+    ensures output { λ _. ⌜ now (out .exit) ≡ encodeOut command (now (suffix .entry)) (now (out .entry)) ⌝ }
+{
+    let numbers = values::spread(command);
+    let known = numbers.known;
+    if known {
+        let number = numbers.number;
+        let count = numbers.count;
+        let all = numbers.values;
+        return encoding::write_command(number, &all[..count], suffix, out);
+    }
+    Answer {
+        number: 15,
+        place: 0,
+    }
+}
+
+// Writes the fields of a command as numbers to the front of out, in the order of the layout. Answers 0 and their count, or 14 at the count where out
+// is too short.
+pub fn fields(command: Command, out: &mut [u64]) -> Answer
+    ensures answer { λ r. ⌜ r ≡ fieldsAnswer command (now (out .entry)) ⌝ }
+    ensures output { λ _. ⌜ now (out .exit) ≡ fieldsOut command (now (out .entry)) ⌝ }
+{
+    let numbers = values::spread(command);
+    let count = numbers.count;
+    if out.len() < count {
+        return Answer {
+            number: 14,
+            place: count as u32,
+        };
+    }
+    let all = numbers.values;
+    values::copy_values(out, &all[..count]);
+    Answer {
+        number: 0,
+        place: count as u32,
+    }
+}
+
+// The command of a number and its fields as numbers, or 15 at 0.
+pub fn from_fields(number: u32, numbers: &[u64]) -> Decoded
+    ensures { λ r. ⌜ r ≡ fromNumbers number (now (numbers .entry)) ⌝ }
+{
+    if number < 64 {
+        return encoding::command_of(number as u8, numbers);
+    }
+    Decoded::Refused(Answer {
+        number: 15,
+        place: 0,
+    })
+}

@@ -1,0 +1,82 @@
+// The words of a list of bytes: reading and writing.
+ghost use mathlib.Core.Path.{_≡_};
+ghost use Prim.Native.Nat.{_<_, _*_, _+_, _≤_};
+ghost use lib.ListN.{length, drop};
+ghost use Rattle.rdp_command.specs.Words.{halfOf, bytesOf, overwrite, pasted};
+ghost use Rattle.rdp_command.specs.Decode.{wholeWords, ownWord};
+use crate::{number_in, word_at, words_of};
+
+fn wide(x: u8) -> u64
+    ensures { λ r. ⌜ (r ≡ x) × (r < 256) ⌝ }
+{
+    x as u64
+}
+
+// The four bytes from an index on as a number.
+pub fn half_at(list: &[u8], at: usize) -> u64
+    requires { ⌜ at + 4 ≤ length (now list) ⌝ }
+    ensures { λ r. ⌜ r ≡ halfOf (drop at (now (list .entry))) ⌝ }
+{
+    wide(list[at]) * 0x100_0000
+        + wide(list[at + 1]) * 0x1_0000
+        + wide(list[at + 2]) * 0x100
+        + wide(list[at + 3])
+}
+
+// The words of the first command, or 0 where they are not all there.
+pub fn whole_words(list: &[u8]) -> usize
+    ensures { λ r. ⌜ (r ≡ wholeWords (now (list .entry))) × (8 * r ≤ length (now (list .entry))) ⌝ }
+{
+    let n = words_of(number_in(word_at(list, 0)));
+    if list.len() / 8 < n { 0 } else { n }
+}
+
+// Word k of a command of n words, which is not read where the command has no such word.
+pub fn own_word(list: &[u8], n: usize, k: usize) -> u64
+    ensures { λ r. ⌜ r ≡ ownWord (now (list .entry)) n k ⌝ }
+{
+    if k < n { word_at(list, k) } else { 0 }
+}
+
+// Writes a word at the front, most significant byte first.
+fn put_front(out: &mut [u8], w: u64)
+    requires { ⌜ 8 ≤ length (now out) ⌝ }
+    ensures { λ _. ⌜ now (out .exit) ≡ overwrite (bytesOf w) (now (out .entry)) ⌝ }
+{
+    out[0] = ((w >> 56) % 0x100) as u8;
+    out[1] = ((w >> 48) % 0x100) as u8;
+    out[2] = ((w >> 40) % 0x100) as u8;
+    out[3] = ((w >> 32) % 0x100) as u8;
+    out[4] = ((w >> 24) % 0x100) as u8;
+    out[5] = ((w >> 16) % 0x100) as u8;
+    out[6] = ((w >> 8) % 0x100) as u8;
+    out[7] = (w % 0x100) as u8;
+}
+
+// Copies src to the front of out.
+fn copy_front(out: &mut [u8], src: &[u8])
+    requires { ⌜ length (now src) ≤ length (now out) ⌝ }
+    ensures { λ _. ⌜ now (out .exit) ≡ overwrite (now (src .entry)) (now (out .entry)) ⌝ }
+{
+    let mut i = 0;
+    while i < src.len() {
+        out[i] = src[i];
+        i += 1;
+    }
+}
+
+// Writes a word at an index.
+pub fn put_word(out: &mut [u8], at: usize, w: u64)
+    requires { ⌜ at + 8 ≤ length (now out) ⌝ }
+    ensures { λ _. ⌜ now (out .exit) ≡ pasted at (bytesOf w) (now (out .entry)) ⌝ }
+{
+    put_front(&mut out[at..], w);
+}
+
+// Copies src to an index of out.
+pub fn copy(out: &mut [u8], at: usize, src: &[u8])
+    requires { ⌜ at + length (now src) ≤ length (now out) ⌝ }
+    ensures { λ _. ⌜ now (out .exit) ≡ pasted at (now (src .entry)) (now (out .entry)) ⌝ }
+{
+    copy_front(&mut out[at..], src);
+}
