@@ -2,3 +2,12 @@ pub mod Signed
 pub mod Bytes
 pub mod Triangles
 pub mod Spreading
+pub mod Tests
+pub mod KindLaws
+pub mod TableLaws
+pub mod PackLaws
+pub mod CommandLaws
+pub mod BitLaws
+pub mod ValueLaws
+pub mod LayoutLaws
+pub mod AnswerLaws

@@ -1,8 +1,61 @@
--- What is shown of a command's case holds of a command that equals it. Assumes nothing.
-use mathlib.Core.Path.{_≡_, subst, sym}
-use Rattle.rdp_command.specs.Numbers.{Spread}
+-- A command's number with the numbers of its fields. Assumes nothing.
+use Prim.Native.Nat.{ℕ, _*_, _≤_}
+use mathlib.Core.Bool.{true, false, _&&_}
+use mathlib.Core.List.{List}
+use lib.Dec.{eqb}
+use borrow.Author.Tests.{eq-eqb}
+use mathlib.Core.Path.{_≡_, ap, subst, sym, _∙_}
+use lib.ListN.{length, take, drop, replicate}
+use lib.Seq.{take-append-seam}
+use Rattle.rdp_command.specs.Words.{overwrite}
+use Rattle.rdp_command.specs.Encode.{numbersOf, numberFits, encodable}
+use Rattle.rdp_command.specs.Kinds.{wordsOf}
+use Rattle.rdp_command.specs.Layout.{layout}
+use Rattle.rdp_command.specs.Fields.{Value, allFit}
+use Rattle.rdp_command.specs.Commands.{numberOf}
+use Rattle.rdp_command.specs.Decode.{suffixWords}
+use Rattle.rdp_command.specs.Numbers.{numbersFit, Spread}
 use Rattle.rdp_command.specs.declared.values.Numbers.{Numbers}
 use Rattle.rdp_command.specs.declared.command.Command.{Command}
+use Rattle.rdp_command.proofs.Bytes.{length-overwrite}
 
+-- what is shown of a command's case holds of a command that equals it
 pub spread-as : {c d : Command} {r : Numbers} → c ≡ d → Spread d r → Spread c r
 spread-as {r = r} e s = subst (λ (c : Command). Spread c r) (sym e) s
+
+module _ (c : Command) (r : Numbers) (s : Spread c r) where
+  pub count-is : r .count ≡ length (numbersOf c)
+  count-is = ap (λ (x : Numbers). x .count) (s .numbers)
+
+  pub few : r .count ≤ 37
+  few = rw count-is (s .few)
+
+  values-are : r .values ≡ overwrite (numbersOf c) (replicate 37 0)
+  values-are = ap (λ (x : Numbers). x .values) (s .numbers)
+
+  pub values-long : length (r .values) ≡ 37
+  values-long = ap length values-are ∙ length-overwrite (numbersOf c) (replicate 37 0) (s .few)
+
+  -- the numbers stand at the front
+  pub front : take (r .count) (r .values) ≡ numbersOf c
+  unfolding overwrite
+  front = (λ i. take (count-is i) (values-are i)) ∙ take-append-seam (numbersOf c) (drop (length (numbersOf c)) (replicate 37 0))
+
+  pub number-is : r .number ≡ numberOf c
+  number-is = ap (λ (x : Numbers). x .number) (s .numbers)
+
+  pub known-is : r .known ≡ numberFits c
+  known-is = ap (λ (x : Numbers). x .known) (s .numbers)
+
+  -- refusal 15 by the numbers
+  pub encodable-by :
+      (suffix : List ℕ) → numberFits c ≡ true →
+      encodable c suffix ≡ numbersFit (numberOf c) (numbersOf c) && eqb (length suffix) (8 * suffixWords (wordsOf (numberOf c)))
+  unfolding encodable numbersFit
+  encodable-by suffix e =
+      rw (e, eq-eqb (length (numbersOf c)) (length (layout (numberOf c))) (sym (s .sized e)))
+      (ap (λ (vs : List Value). allFit (layout (numberOf c)) vs && eqb (length suffix) (8 * suffixWords (wordsOf (numberOf c)))) (sym (s .kept)))
+
+pub not-encodable : (c : Command) (suffix : List ℕ) → numberFits c ≡ false → encodable c suffix ≡ false
+unfolding encodable
+not-encodable c suffix e = rw e

@@ -1,5 +1,5 @@
 -- The numbers 0x08 to 0x0F. Assumes nothing.
-use Prim.Native.Nat.{ℕ, _/_}
+use Prim.Native.Nat.{ℕ, _/_, _<_}
 use mathlib.Core.Path.{_≡_}
 use native.Mathlib.Omega.{arith}
 use borrow.Author.Tests.{eq-eqb}
@@ -18,3 +18,6 @@ triangle-eighth g = omega (arith, bool-le (g .shade), bool-le (g .texture), bool
 
 pub triangle-layout : (g : TriangleBase) → layout (numberOf (FillTriangle g)) ≡ triangleBaseLines
 triangle-layout g = layout-at (numberOf (FillTriangle g)) (triangle-eighth g)
+
+pub triangle-small : (g : TriangleBase) → numberOf (FillTriangle g) < 64
+triangle-small g = omega (arith, bool-le (g .shade), bool-le (g .texture), bool-le (g .zbuffer))

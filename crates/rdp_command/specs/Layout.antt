@@ -30,24 +30,24 @@ signedBits w h l = record { signed = true; word = w; high = h; low = l }
 -- Fill Triangle, word 0 of the base
 abbrev pub triangleHeadLines : List Line
 triangleHeadLines =
-    bit 0 58 ∷ -- shade
-    bit 0 57 ∷ -- texture
-    bit 0 56 ∷ -- zbuffer
-    bit 0 55 ∷ -- lmajor
-    bits 0 53 51 ∷ -- level
-    bits 0 50 48 ∷ -- tile
-    signedBits 0 45 32 ∷ -- yl
-    signedBits 0 29 16 ∷ -- ym
-    signedBits 0 13 0 ∷ -- yh
+    bit 0 58 ∷  -- shade
+    bit 0 57 ∷  -- texture
+    bit 0 56 ∷  -- zbuffer
+    bit 0 55 ∷  -- lmajor
+    bits 0 53 51 ∷  -- level
+    bits 0 50 48 ∷  -- tile
+    signedBits 0 45 32 ∷  -- yl
+    signedBits 0 29 16 ∷  -- ym
+    signedBits 0 13 0 ∷  -- yh
     []
 
 -- words 1, 2 and 3 of the base: the edges l, h and m
 abbrev pub edgeLines : ℕ → List Line
 edgeLines w =
-    signedBits w 59 48 ∷ -- x.i
-    bits w 47 32 ∷ -- x.f
-    signedBits w 29 16 ∷ -- dxdy.i
-    bits w 15 0 ∷ -- dxdy.f
+    signedBits w 59 48 ∷  -- x.i
+    bits w 47 32 ∷  -- x.f
+    signedBits w 29 16 ∷  -- dxdy.i
+    bits w 15 0 ∷  -- dxdy.f
     []
 
 abbrev pub triangleBaseLines : List Line
@@ -56,208 +56,208 @@ triangleBaseLines = triangleHeadLines ++ (edgeLines 1 ++ (edgeLines 2 ++ edgeLin
 -- Texture Rectangle and Texture Rectangle Flip
 abbrev pub textureStepLines : ℕ → List Line
 textureStepLines w =
-    signedBits w 63 48 ∷ -- s
-    signedBits w 47 32 ∷ -- t
-    signedBits w 31 16 ∷ -- dsdx
-    signedBits w 15 0 ∷ -- dtdy
+    signedBits w 63 48 ∷  -- s
+    signedBits w 47 32 ∷  -- t
+    signedBits w 31 16 ∷  -- dsdx
+    signedBits w 15 0 ∷  -- dtdy
     []
 
 abbrev pub texturedRectangleLines : List Line
 texturedRectangleLines =
-    bits 0 55 44 ∷ -- lower_right.x
-    bits 0 43 32 ∷ -- lower_right.y
-    bits 0 26 24 ∷ -- tile
-    bits 0 23 12 ∷ -- upper_left.x
-    bits 0 11 0 ∷ -- upper_left.y
+    bits 0 55 44 ∷  -- lower_right.x
+    bits 0 43 32 ∷  -- lower_right.y
+    bits 0 26 24 ∷  -- tile
+    bits 0 23 12 ∷  -- upper_left.x
+    bits 0 11 0 ∷  -- upper_left.y
     textureStepLines 1
 
 -- Set Key GB
 abbrev pub keyGbLines : List Line
 keyGbLines =
-    bits 0 55 44 ∷ -- width_g
-    bits 0 43 32 ∷ -- width_b
-    bits 0 31 24 ∷ -- center_g
-    bits 0 23 16 ∷ -- scale_g
-    bits 0 15 8 ∷ -- center_b
-    bits 0 7 0 ∷ -- scale_b
+    bits 0 55 44 ∷  -- width_g
+    bits 0 43 32 ∷  -- width_b
+    bits 0 31 24 ∷  -- center_g
+    bits 0 23 16 ∷  -- scale_g
+    bits 0 15 8 ∷  -- center_b
+    bits 0 7 0 ∷  -- scale_b
     []
 
 -- Set Key R
 abbrev pub keyRLines : List Line
 keyRLines =
-    bits 0 27 16 ∷ -- width_r
-    bits 0 15 8 ∷ -- center_r
-    bits 0 7 0 ∷ -- scale_r
+    bits 0 27 16 ∷  -- width_r
+    bits 0 15 8 ∷  -- center_r
+    bits 0 7 0 ∷  -- scale_r
     []
 
 -- Set Convert
 abbrev pub convertLines : List Line
 convertLines =
-    bits 0 53 45 ∷ -- k0
-    bits 0 44 36 ∷ -- k1
-    bits 0 35 27 ∷ -- k2
-    bits 0 26 18 ∷ -- k3
-    bits 0 17 9 ∷ -- k4
-    bits 0 8 0 ∷ -- k5
+    bits 0 53 45 ∷  -- k0
+    bits 0 44 36 ∷  -- k1
+    bits 0 35 27 ∷  -- k2
+    bits 0 26 18 ∷  -- k3
+    bits 0 17 9 ∷  -- k4
+    bits 0 8 0 ∷  -- k5
     []
 
 -- Set Scissor
 abbrev pub scissorLines : List Line
 scissorLines =
-    bits 0 55 44 ∷ -- upper_left.x
-    bits 0 43 32 ∷ -- upper_left.y
-    bit 0 25 ∷ -- field
-    bit 0 24 ∷ -- odd
-    bits 0 23 12 ∷ -- lower_right.x
-    bits 0 11 0 ∷ -- lower_right.y
+    bits 0 55 44 ∷  -- upper_left.x
+    bits 0 43 32 ∷  -- upper_left.y
+    bit 0 25 ∷  -- field
+    bit 0 24 ∷  -- odd
+    bits 0 23 12 ∷  -- lower_right.x
+    bits 0 11 0 ∷  -- lower_right.y
     []
 
 -- Set Primitive Depth
 abbrev pub primitiveDepthLines : List Line
 primitiveDepthLines =
-    bits 0 31 16 ∷ -- z
-    bits 0 15 0 ∷ -- dz
+    bits 0 31 16 ∷  -- z
+    bits 0 15 0 ∷  -- dz
     []
 
 -- Set Other Modes; bits 54, 35:32 and 15 are named by no field
 abbrev pub textureModesLines : List Line
 textureModesLines =
-    bit 0 51 ∷ -- persp_tex_en
-    bit 0 50 ∷ -- detail_tex_en
-    bit 0 49 ∷ -- sharpen_tex_en
-    bit 0 48 ∷ -- tex_lod_en
-    bit 0 47 ∷ -- tlut_en
-    bit 0 46 ∷ -- tlut_type
-    bit 0 45 ∷ -- sample_type
-    bit 0 44 ∷ -- mid_texel
-    bit 0 43 ∷ -- bi_lerp_0
-    bit 0 42 ∷ -- bi_lerp_1
-    bit 0 41 ∷ -- convert_one
+    bit 0 51 ∷  -- persp_tex_en
+    bit 0 50 ∷  -- detail_tex_en
+    bit 0 49 ∷  -- sharpen_tex_en
+    bit 0 48 ∷  -- tex_lod_en
+    bit 0 47 ∷  -- tlut_en
+    bit 0 46 ∷  -- tlut_type
+    bit 0 45 ∷  -- sample_type
+    bit 0 44 ∷  -- mid_texel
+    bit 0 43 ∷  -- bi_lerp_0
+    bit 0 42 ∷  -- bi_lerp_1
+    bit 0 41 ∷  -- convert_one
     []
 
 abbrev pub blenderInputsLines : List Line
 blenderInputsLines =
-    bits 0 31 30 ∷ -- bl_m1a_0
-    bits 0 29 28 ∷ -- bl_m1a_1
-    bits 0 27 26 ∷ -- bl_m1b_0
-    bits 0 25 24 ∷ -- bl_m1b_1
-    bits 0 23 22 ∷ -- bl_m2a_0
-    bits 0 21 20 ∷ -- bl_m2a_1
-    bits 0 19 18 ∷ -- bl_m2b_0
-    bits 0 17 16 ∷ -- bl_m2b_1
+    bits 0 31 30 ∷  -- bl_m1a_0
+    bits 0 29 28 ∷  -- bl_m1a_1
+    bits 0 27 26 ∷  -- bl_m1b_0
+    bits 0 25 24 ∷  -- bl_m1b_1
+    bits 0 23 22 ∷  -- bl_m2a_0
+    bits 0 21 20 ∷  -- bl_m2a_1
+    bits 0 19 18 ∷  -- bl_m2b_0
+    bits 0 17 16 ∷  -- bl_m2b_1
     []
 
 abbrev pub pixelModesLines : List Line
 pixelModesLines =
-    bit 0 14 ∷ -- force_blend
-    bit 0 13 ∷ -- alpha_cvg_select
-    bit 0 12 ∷ -- cvg_x_alpha
-    bits 0 11 10 ∷ -- z_mode
-    bits 0 9 8 ∷ -- cvg_dest
-    bit 0 7 ∷ -- color_on_cvg
-    bit 0 6 ∷ -- image_read_en
-    bit 0 5 ∷ -- z_update_en
-    bit 0 4 ∷ -- z_compare_en
-    bit 0 3 ∷ -- antialias_en
-    bit 0 2 ∷ -- z_source_sel
-    bit 0 1 ∷ -- dither_alpha_en
-    bit 0 0 ∷ -- alpha_compare_en
+    bit 0 14 ∷  -- force_blend
+    bit 0 13 ∷  -- alpha_cvg_select
+    bit 0 12 ∷  -- cvg_x_alpha
+    bits 0 11 10 ∷  -- z_mode
+    bits 0 9 8 ∷  -- cvg_dest
+    bit 0 7 ∷  -- color_on_cvg
+    bit 0 6 ∷  -- image_read_en
+    bit 0 5 ∷  -- z_update_en
+    bit 0 4 ∷  -- z_compare_en
+    bit 0 3 ∷  -- antialias_en
+    bit 0 2 ∷  -- z_source_sel
+    bit 0 1 ∷  -- dither_alpha_en
+    bit 0 0 ∷  -- alpha_compare_en
     []
 
 abbrev pub otherModesLines : List Line
 otherModesLines =
-    bit 0 55 ∷ -- atomic_prim
-    bits 0 53 52 ∷ -- cycle_type
+    bit 0 55 ∷  -- atomic_prim
+    bits 0 53 52 ∷  -- cycle_type
     (textureModesLines ++
-    bit 0 40 ∷ -- key_en
-    bits 0 39 38 ∷ -- rgb_dither_sel
-    bits 0 37 36 ∷ -- alpha_dither_sel
+    bit 0 40 ∷  -- key_en
+    bits 0 39 38 ∷  -- rgb_dither_sel
+    bits 0 37 36 ∷  -- alpha_dither_sel
     (blenderInputsLines ++ pixelModesLines))
 
 -- Load TLUT, Set Tile Size and Load Tile
 abbrev pub tileAreaLines : List Line
 tileAreaLines =
-    bits 0 55 44 ∷ -- upper_left.s
-    bits 0 43 32 ∷ -- upper_left.t
-    bits 0 26 24 ∷ -- tile
-    bits 0 23 12 ∷ -- lower_right.s
-    bits 0 11 0 ∷ -- lower_right.t
+    bits 0 55 44 ∷  -- upper_left.s
+    bits 0 43 32 ∷  -- upper_left.t
+    bits 0 26 24 ∷  -- tile
+    bits 0 23 12 ∷  -- lower_right.s
+    bits 0 11 0 ∷  -- lower_right.t
     []
 
 -- Load Block
 abbrev pub blockLines : List Line
 blockLines =
-    bits 0 55 44 ∷ -- upper_left.s
-    bits 0 43 32 ∷ -- upper_left.t
-    bits 0 26 24 ∷ -- tile
-    bits 0 23 12 ∷ -- lower_right_s
-    bits 0 11 0 ∷ -- dxt
+    bits 0 55 44 ∷  -- upper_left.s
+    bits 0 43 32 ∷  -- upper_left.t
+    bits 0 26 24 ∷  -- tile
+    bits 0 23 12 ∷  -- lower_right_s
+    bits 0 11 0 ∷  -- dxt
     []
 
 -- Set Tile
 abbrev pub tileDescriptorLines : List Line
 tileDescriptorLines =
-    bits 0 55 53 ∷ -- format
-    bits 0 52 51 ∷ -- size
-    bits 0 49 41 ∷ -- line
-    bits 0 40 32 ∷ -- address
-    bits 0 26 24 ∷ -- index
-    bits 0 23 20 ∷ -- palette
-    bit 0 19 ∷ -- clamp_t
-    bit 0 18 ∷ -- mirror_t
-    bits 0 17 14 ∷ -- mask_t
-    bits 0 13 10 ∷ -- shift_t
-    bit 0 9 ∷ -- clamp_s
-    bit 0 8 ∷ -- mirror_s
-    bits 0 7 4 ∷ -- mask_s
-    bits 0 3 0 ∷ -- shift_s
+    bits 0 55 53 ∷  -- format
+    bits 0 52 51 ∷  -- size
+    bits 0 49 41 ∷  -- line
+    bits 0 40 32 ∷  -- address
+    bits 0 26 24 ∷  -- index
+    bits 0 23 20 ∷  -- palette
+    bit 0 19 ∷  -- clamp_t
+    bit 0 18 ∷  -- mirror_t
+    bits 0 17 14 ∷  -- mask_t
+    bits 0 13 10 ∷  -- shift_t
+    bit 0 9 ∷  -- clamp_s
+    bit 0 8 ∷  -- mirror_s
+    bits 0 7 4 ∷  -- mask_s
+    bits 0 3 0 ∷  -- shift_s
     []
 
 -- Fill Rectangle
 abbrev pub rectangleLines : List Line
 rectangleLines =
-    bits 0 55 44 ∷ -- lower_right.x
-    bits 0 43 32 ∷ -- lower_right.y
-    bits 0 23 12 ∷ -- upper_left.x
-    bits 0 11 0 ∷ -- upper_left.y
+    bits 0 55 44 ∷  -- lower_right.x
+    bits 0 43 32 ∷  -- lower_right.y
+    bits 0 23 12 ∷  -- upper_left.x
+    bits 0 11 0 ∷  -- upper_left.y
     []
 
 -- Set Fog Color, Set Blend Color and Set Environment Color
 abbrev pub colorLines : List Line
 colorLines =
-    bits 0 31 24 ∷ -- red
-    bits 0 23 16 ∷ -- green
-    bits 0 15 8 ∷ -- blue
-    bits 0 7 0 ∷ -- alpha
+    bits 0 31 24 ∷  -- red
+    bits 0 23 16 ∷  -- green
+    bits 0 15 8 ∷  -- blue
+    bits 0 7 0 ∷  -- alpha
     []
 
 -- Set Primitive Color
 abbrev pub primitiveColorLines : List Line
 primitiveColorLines =
-    bits 0 47 40 ∷ -- min_level
-    bits 0 39 32 ∷ -- prim_lod_frac
-    bits 0 31 24 ∷ -- color.red
-    bits 0 23 16 ∷ -- color.green
-    bits 0 15 8 ∷ -- color.blue
-    bits 0 7 0 ∷ -- color.alpha
+    bits 0 47 40 ∷  -- min_level
+    bits 0 39 32 ∷  -- prim_lod_frac
+    bits 0 31 24 ∷  -- color.red
+    bits 0 23 16 ∷  -- color.green
+    bits 0 15 8 ∷  -- color.blue
+    bits 0 7 0 ∷  -- color.alpha
     []
 
 -- Set Texture Image
 abbrev pub imageLines : List Line
 imageLines =
-    bits 0 55 53 ∷ -- format
-    bits 0 52 51 ∷ -- size
-    bits 0 41 32 ∷ -- width
-    bits 0 23 0 ∷ -- address
+    bits 0 55 53 ∷  -- format
+    bits 0 52 51 ∷  -- size
+    bits 0 41 32 ∷  -- width
+    bits 0 23 0 ∷  -- address
     []
 
 -- Set Color Image; its address has the bits that document 01 names
 abbrev pub colorImageLines : List Line
 colorImageLines =
-    bits 0 55 53 ∷ -- format
-    bits 0 52 51 ∷ -- size
-    bits 0 41 32 ∷ -- width
-    bits 0 25 0 ∷ -- address
+    bits 0 55 53 ∷  -- format
+    bits 0 52 51 ∷  -- size
+    bits 0 41 32 ∷  -- width
+    bits 0 25 0 ∷  -- address
     []
 
 -- Set Fill Color

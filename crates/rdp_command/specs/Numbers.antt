@@ -2,7 +2,7 @@
 use mathlib.Core.Bool.{Bool, true, false, cond, _&&_}
 use mathlib.Core.List.{List, [], _∷_}
 use mathlib.Core.Path.{_≡_}
-use Prim.Native.Nat.{ℕ, _+_, _*_, _/_, _%_, _<_}
+use Prim.Native.Nat.{ℕ, _+_, _*_, _/_, _%_, _<_, _≤_}
 use lib.Dec.{eqb, ltb}
 use lib.ListN.{length, getD, replicate}
 use mir.Syntax.{w64}
@@ -62,3 +62,4 @@ pub record Spread (c : Command) (r : Numbers) : Type 0 where
   pub kept : valuesFrom (layout (numberOf c)) (numbersOf c) ≡ valuesOf c
   pub sized : numberFits c ≡ true → length (layout (numberOf c)) ≡ length (numbersOf c)
   pub small : numberFits c ≡ true → numberOf c < 64
+  pub few : length (numbersOf c) ≤ 37

@@ -1,9 +1,9 @@
 -- The table that the code reads bit lines from, and that it holds the layout.
 use mathlib.Core.List.{List, [], _∷_, map}
 use mathlib.Core.Path.{_≡_}
-use Prim.Native.Nat.{ℕ, _/_, _%_, _<_, _≤_}
+use Prim.Native.Nat.{ℕ, _+_, _/_, _%_, _<_, _≤_}
 use lib.Dec.{eqb}
-use lib.ListN.{getD, take, drop}
+use lib.ListN.{length, getD, take, drop}
 use Rattle.rdp_command.specs.Layout.{Line, width, layout}
 use Rattle.rdp_command.specs.declared.packing.BitLine.{BitLine}
 
@@ -15,9 +15,16 @@ lineOf c = record { signed = eqb (c / 100000) 1; word = c / 10000 % 10; high = c
 abbrev pub linesAt : List ℕ → ℕ → ℕ → List Line
 linesAt t first count = map lineOf (take count (drop first t))
 
+-- bit lines that stand in the table from an index on
+pub record Row (t : List ℕ) (first count : ℕ) (ls : List Line) : Type 0 where
+  pub lines : linesAt t first count ≡ ls
+  pub counted : count ≡ length ls
+  pub room : first + count ≤ 203
+
 -- entry n says where the bit lines of number n stand, and how many they are
-abbrev pub Agrees : List ℕ → Type 0
-Agrees t = (n : ℕ) → n < 64 → linesAt t (getD t n 0 / 64) (getD t n 0 % 64) ≡ layout n
+pub record Agrees (t : List ℕ) : Type 0 where
+  pub long : length t ≡ 203
+  pub rows : (n : ℕ) → n < 64 → Row t (getD t n 0 / 64) (getD t n 0 % 64) (layout n)
 
 -- a bit line that a word of a command can hold
 pub record Readable (l : Line) : Type 0 where

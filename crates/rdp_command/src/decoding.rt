@@ -4,7 +4,8 @@ ghost use mathlib.Core.List.{List, [], _∷_};
 ghost use Prim.Native.Nat.{ℕ, _/_, _<_, _≤_};
 ghost use Rattle.rdp_command.specs.Decode.{commandIn};
 use crate::command::*;
-use crate::{draw_fields, read};
+use crate::draw_fields;
+use crate::read;
 
 // A number below 0x30 that is no triangle's, whatever words follow.
 fn low_command(number: u8, w0: u64, w1: u64) -> Command
@@ -30,7 +31,7 @@ fn low_command(number: u8, w0: u64, w1: u64) -> Command
 
 // A number from 0x30 on, whatever words follow.
 fn high_command(number: u8, w: u64) -> Command
-    requires { ⌜ 0x30 ≤ number ⌝ }
+    requires { ⌜ (0x30 ≤ number) × (number < 64) ⌝ }
     ensures { λ r. ⌜ ((ws : List ℕ) → r ≡ commandIn number (w ∷ ws)) ⌝ }
 {
     match number {
@@ -54,6 +55,7 @@ fn high_command(number: u8, w: u64) -> Command
 }
 
 pub fn command_in(number: u8, w0: u64, w1: u64, w2: u64, w3: u64) -> Command
+    requires { ⌜ number < 64 ⌝ }
     ensures { λ r. ⌜ r ≡ commandIn number (w0 ∷ w1 ∷ w2 ∷ w3 ∷ []) ⌝ }
 {
     if number / 8 == 1 {

@@ -13,7 +13,11 @@ ghost use Rattle.rdp_command.specs.Decode.{suffixWords};
 ghost use Rattle.rdp_command.specs.Encode.{fixedBits, packedWord, packedBytes, baseWords, bytesWith, answerWith, outWith};
 ghost use Rattle.rdp_command.specs.Numbers.{numbersFit, flagsAgree, fromNumbers};
 use crate::command::*;
-use crate::{decoding, packing, table, words, words_of};
+use crate::decoding;
+use crate::packing;
+use crate::table;
+use crate::words;
+use crate::words_of;
 
 // Where the bit lines of a number stand in the table, and how many they are.
 pub struct Lines {
@@ -21,12 +25,18 @@ pub struct Lines {
     pub count: usize,
 }
 
+fn index(x: u32) -> usize
+    ensures { λ r. ⌜ r ≡ x ⌝ }
+{
+    x as usize
+}
+
 fn lines_of(table: &[u32; 203], number: u8) -> Lines
     requires { ⌜ number < 64 ⌝ }
     ensures { λ r. ⌜ (r .first ≡ getD (now (table .entry)) number 0 / 64) × (r .count ≡ getD (now (table .entry)) number 0 % 64) ⌝ }
 {
     let at = number as usize;
-    let entry = table[at] as usize;
+    let entry = index(table[at]);
     Lines {
         first: entry / 64,
         count: entry % 64,
@@ -56,7 +66,7 @@ fn fixed_bits(number: u8) -> u8
 
 // Word k of a command.
 fn packed_word(table: &[u32; 203], number: u8, numbers: &[u64], k: usize) -> u64
-    requires { ⌜ Agrees (now table) × ((number < 64) × (length (now numbers) ≡ length (layout number))) ⌝ }
+    requires { ⌜ Agrees (now table) × ((number < 64) × ((length (now numbers) ≡ length (layout number)) × (k < 4))) ⌝ }
     ensures { λ r. ⌜ r ≡ packedWord number (now (numbers .entry)) k ⌝ }
 {
     let lines = lines_of(table, number);
@@ -70,7 +80,7 @@ fn packed_word(table: &[u32; 203], number: u8, numbers: &[u64], k: usize) -> u64
 
 // Writes the first words of a command at the front.
 fn write_base(table: &[u32; 203], number: u8, numbers: &[u64], base: usize, out: &mut [u8])
-    requires { ⌜ Agrees (now table) × ((number < 64) × ((length (now numbers) ≡ length (layout number)) × (8 * base ≤ length (now out)))) ⌝ }
+    requires { ⌜ Agrees (now table) × ((number < 64) × ((length (now numbers) ≡ length (layout number)) × ((base ≤ 4) × (8 * base ≤ length (now out))))) ⌝ }
     ensures { λ _. ⌜ now (out .exit) ≡ overwrite (packedBytes number (now (numbers .entry)) base) (now (out .entry)) ⌝ }
 {
     let mut k = 0;
@@ -82,7 +92,14 @@ fn write_base(table: &[u32; 203], number: u8, numbers: &[u64], base: usize, out:
 }
 
 // Writes a command of n words at the front.
-fn write_whole(table: &[u32; 203], number: u8, numbers: &[u64], n: usize, suffix: &[u8], out: &mut [u8])
+fn write_whole(
+    table: &[u32; 203],
+    number: u8,
+    numbers: &[u64],
+    n: usize,
+    suffix: &[u8],
+    out: &mut [u8],
+)
     requires { ⌜ Agrees (now table) × ((number < 64) × ((length (now numbers) ≡ length (layout number)) × ((n ≡ wordsOf number) × ((8 * n ≤ length (now out)) × (length (now suffix) ≡ 8 * suffixWords n))))) ⌝ }
     ensures { λ _. ⌜ now (out .exit) ≡ overwrite (bytesWith number (now (numbers .entry)) (now (suffix .entry))) (now (out .entry)) ⌝ }
 {

@@ -9,8 +9,8 @@ ghost use Rattle.rdp_command.specs.Encode.{encodeAnswer, encodeOut};
 ghost use Rattle.rdp_command.specs.Numbers.{fieldsAnswer, fieldsOut, fromNumbers};
 
 pub mod command;
-pub mod draw_fields;
 mod decoding;
+pub mod draw_fields;
 mod encoding;
 mod packing;
 mod read;

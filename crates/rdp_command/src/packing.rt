@@ -61,7 +61,7 @@ fn fits_line(code: u32, n: u64) -> bool
 
 // Whether each number fits its bit line; the lines stand in the table from an index on.
 pub fn all_fit(table: &[u32; 203], first: usize, numbers: &[u64]) -> bool
-    requires { ⌜ (first + length (now numbers) ≤ 203) × AllReadable (linesAt (now table) first (length (now numbers))) ⌝ }
+    requires { ⌜ (length (now table) ≡ 203) × ((first + length (now numbers) ≤ 203) × AllReadable (linesAt (now table) first (length (now numbers)))) ⌝ }
     ensures { λ r. ⌜ r ≡ allFit (linesAt (now (table .entry)) first (length (now (numbers .entry)))) (valuesFrom (linesAt (now (table .entry)) first (length (now (numbers .entry)))) (now (numbers .entry))) ⌝ }
 {
     let mut k = 0;
@@ -93,7 +93,7 @@ fn placed_in(word: usize, code: u32, n: u64) -> u64
 
 // A word of a command: the numbers at their bit lines, all other bits zero.
 pub fn packed_word(table: &[u32; 203], first: usize, word: usize, numbers: &[u64]) -> u64
-    requires { ⌜ (first + length (now numbers) ≤ 203) × (AllReadable (linesAt (now table) first (length (now numbers))) × (packed word (linesAt (now table) first (length (now numbers))) (now numbers) < 2 ^ 64)) ⌝ }
+    requires { ⌜ (length (now table) ≡ 203) × ((first + length (now numbers) ≤ 203) × (AllReadable (linesAt (now table) first (length (now numbers))) × (packed word (linesAt (now table) first (length (now numbers))) (now numbers) < 2 ^ 64))) ⌝ }
     ensures { λ r. ⌜ r ≡ packed word (linesAt (now (table .entry)) first (length (now (numbers .entry)))) (now (numbers .entry)) ⌝ }
 {
     let mut sum = 0u64;

@@ -76,12 +76,7 @@ fn none(number: u8, known: bool) -> Numbers
 fn edge(g: Edge) -> [u64; 4]
     ensures { λ r. ⌜ (r ≡ map numberOfValue (edgeValues g)) × (valuesFrom (edgeLines 0) (map numberOfValue (edgeValues g)) ≡ edgeValues g) ⌝ }
 {
-    [
-        twos(g.x.i),
-        g.x.f as u64,
-        twos(g.dxdy.i),
-        g.dxdy.f as u64,
-    ]
+    [twos(g.x.i), g.x.f as u64, twos(g.dxdy.i), g.dxdy.f as u64]
 }
 
 // The number of a triangle: what follows its base is its low three bits.
@@ -164,11 +159,7 @@ fn key_gb(number: u8, g: KeyGb) -> Numbers
 fn key_r(number: u8, g: KeyR) -> Numbers
     ensures { λ r. ⌜ r ≡ numbered number true (map numberOfValue (keyRValues g)) ⌝ }
 {
-    let values = [
-        g.width_r as u64,
-        g.center_r as u64,
-        g.scale_r as u64,
-    ];
+    let values = [g.width_r as u64, g.center_r as u64, g.scale_r as u64];
     padded(number, &values)
 }
 
@@ -203,10 +194,7 @@ fn scissor(number: u8, g: Scissor) -> Numbers
 fn primitive_depth(number: u8, g: PrimitiveDepth) -> Numbers
     ensures { λ r. ⌜ r ≡ numbered number true (map numberOfValue (primitiveDepthValues g)) ⌝ }
 {
-    let values = [
-        g.z as u64,
-        g.dz as u64,
-    ];
+    let values = [g.z as u64, g.dz as u64];
     padded(number, &values)
 }
 
@@ -318,12 +306,7 @@ fn rectangle(number: u8, g: Rectangle) -> Numbers
 fn color(number: u8, g: Color) -> Numbers
     ensures { λ r. ⌜ r ≡ numbered number true (map numberOfValue (colorValues g)) ⌝ }
 {
-    let values = [
-        g.red as u64,
-        g.green as u64,
-        g.blue as u64,
-        g.alpha as u64,
-    ];
+    let values = [g.red as u64, g.green as u64, g.blue as u64, g.alpha as u64];
     padded(number, &values)
 }
 

@@ -1,10 +1,12 @@
 // The words of a list of bytes: reading and writing.
 ghost use mathlib.Core.Path.{_≡_};
-ghost use Prim.Native.Nat.{_<_, _*_, _+_, _≤_};
+ghost use Prim.Native.Nat.{_<_, _*_, _+_, _≤_, _^_};
 ghost use lib.ListN.{length, drop};
 ghost use Rattle.rdp_command.specs.Words.{halfOf, bytesOf, overwrite, pasted};
 ghost use Rattle.rdp_command.specs.Decode.{wholeWords, ownWord};
-use crate::{number_in, word_at, words_of};
+use crate::number_in;
+use crate::word_at;
+use crate::words_of;
 
 fn wide(x: u8) -> u64
     ensures { λ r. ⌜ (r ≡ x) × (r < 256) ⌝ }
@@ -15,7 +17,7 @@ fn wide(x: u8) -> u64
 // The four bytes from an index on as a number.
 pub fn half_at(list: &[u8], at: usize) -> u64
     requires { ⌜ at + 4 ≤ length (now list) ⌝ }
-    ensures { λ r. ⌜ r ≡ halfOf (drop at (now (list .entry))) ⌝ }
+    ensures { λ r. ⌜ (r ≡ halfOf (drop at (now (list .entry)))) × (r < 2 ^ 32) ⌝ }
 {
     wide(list[at]) * 0x100_0000
         + wide(list[at + 1]) * 0x1_0000

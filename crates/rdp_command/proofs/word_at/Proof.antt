@@ -1,41 +1,43 @@
+use Prim.Native.Nat.{_+_, _*_, _^_}
+use mathlib.Core.Path.{ap, sym, _∙_}
+use native.Mathlib.Omega.{arith}
+use lib.Seq.{drop-drop}
+use borrow.Author.Tests.{lt-ltb, le-ltb}
+use denote.Ref.{now}
+use Rattle.rdp_command.specs.Words.{halfOf, wordAt}
 use borrow.Author.Needs.{needs}
 use Rattle.rdp_command.proofs.word_at.Statement.{statement}
 use Rattle.rdp_command.proofs.word_at.Tie as tie
-use Rattle.rdp_command.proofs.word_at.Reads as reads
-use Rattle.rdp_command.proofs.word_at.Lts as lts
-use Rattle.rdp_command.proofs.words.half_at.Reads as half-at-reads
 
--- src/lib.rt:28:18
 mul-at : tie.Need-mul-at
 mul-at c = search needs
 
--- src/lib.rt:29:9
 half-at-requires : tie.Need-half-at-requires
 half-at-requires c κs = search needs
 
--- src/lib.rt:29:9
 mul-result : tie.Need-mul-result
-mul-result c = ?
+mul-result c = omega (arith, c .half-at .ensures .1)
 
--- src/lib.rt:29:73
 add-half-at : tie.Need-add-half-at
 add-half-at c = search needs
 
--- src/lib.rt:29:52
 half-at-requires-2 : tie.Need-half-at-requires-2
 half-at-requires-2 c κs = search needs
 
--- src/lib.rt:29:9
 add-result : tie.Need-add-result
-add-result c = ?
+add-result c = omega (arith, c .before .half-at .ensures .1, c .half-at2 .ensures .1)
 
--- src/lib.rt:24:1
 returns : tie.Need-returns
-returns c = ?
+unfolding wordAt
+returns c =
+    let list = now (c .before .before .before .before .args .list) in
+    let at = 8 * c .before .before .before .before .args .place in
+    rw (lt-ltb _ _ (c .before .before .if1 .taken))
+    (λ i. c .before .half-at .ensures .0 i * 2 ^ 32 + (c .half-at2 .ensures .0 ∙ ap halfOf (sym (drop-drop 4 at list))) i)
 
--- src/lib.rt:24:1
 returns-2 : tie.Need-returns-2
-returns-2 c = ?
+unfolding wordAt
+returns-2 c = rw (le-ltb _ _ (c .if1 .left))
 
 pub word-at-spec : {M : Type 1} → statement M
 word-at-spec =

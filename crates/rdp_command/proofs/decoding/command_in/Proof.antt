@@ -1,35 +1,28 @@
+use mathlib.Core.List.{[], _∷_}
+use mathlib.Core.Path.{ap, _∙_}
+use Rattle.rdp_command.specs.declared.command.Command.the-variants.{FillTriangle}
+use Rattle.rdp_command.proofs.CommandLaws.{at-triangle}
 use borrow.Author.Needs.{needs}
 use Rattle.rdp_command.proofs.decoding.command_in.Statement.{statement}
 use Rattle.rdp_command.proofs.decoding.command_in.Tie as tie
-use Rattle.rdp_command.proofs.decoding.command_in.Reads as reads
-use Rattle.rdp_command.proofs.decoding.command_in.Lts as lts
-use Rattle.rdp_command.proofs.decoding.high_command.Reads as high-command-reads
-use Rattle.rdp_command.proofs.decoding.low_command.Reads as low-command-reads
-use Rattle.rdp_command.proofs.read.triangle_base.Reads as triangle-base-reads
 
--- src/decoding.rt:60:38
 triangle-base-requires : tie.Need-triangle-base-requires
 triangle-base-requires c κs = search needs
 
--- src/decoding.rt:60:9
 returns : tie.Need-returns
-returns c = ?
+returns c = ap FillTriangle (c .triangle-base .ensures) ∙ at-triangle (c .before .before .args .number) (c .before .before .args .w0 ∷ c .before .before .args .w1 ∷ c .before .before .args .w2 ∷ c .before .before .args .w3 ∷ []) (c .before .if1 .taken)
 
--- src/decoding.rt:63:9
 low-command-requires : tie.Need-low-command-requires
 low-command-requires c κs = search needs
 
--- src/decoding.rt:63:9
 returns-2 : tie.Need-returns-2
-returns-2 c = ?
+returns-2 c = c .low-command .ensures (c .before .before .before .args .w2 ∷ c .before .before .before .args .w3 ∷ [])
 
--- src/decoding.rt:65:5
 high-command-requires : tie.Need-high-command-requires
 high-command-requires c κs = search needs
 
--- src/decoding.rt:56:1
 returns-3 : tie.Need-returns-3
-returns-3 c = ?
+returns-3 c = c .high-command .ensures (c .before .before .before .args .w1 ∷ c .before .before .before .args .w2 ∷ c .before .before .before .args .w3 ∷ [])
 
 pub command-in-spec : {M : Type 1} → statement M
 command-in-spec =

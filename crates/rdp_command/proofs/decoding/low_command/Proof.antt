@@ -1,99 +1,88 @@
+use mathlib.Core.List.{_∷_}
+use mathlib.Core.Path.{_≡_, ap, refl, sym, _∙_}
+use Rattle.rdp_command.specs.Layout.{layout}
+use Rattle.rdp_command.specs.Fields.{fieldsOf}
+use Rattle.rdp_command.specs.Commands.{commandOf}
+use Rattle.rdp_command.specs.declared.command.Command.the-variants.{NoOperation, TextureRectangle, TextureRectangleFlip, SetKeyGb, SetKeyR, SetConvert, SetScissor, SetPrimitiveDepth, SetOtherModes}
+use Rattle.rdp_command.proofs.CommandLaws.{at-number, under, low-command}
 use borrow.Author.Needs.{needs}
 use Rattle.rdp_command.proofs.decoding.low_command.Statement.{statement}
 use Rattle.rdp_command.proofs.decoding.low_command.Tie as tie
-use Rattle.rdp_command.proofs.decoding.low_command.Reads as reads
-use Rattle.rdp_command.proofs.decoding.low_command.Lts as lts
-use Rattle.rdp_command.proofs.draw_fields.scissor.Reads as scissor-reads
-use Rattle.rdp_command.proofs.read.convert.Reads as convert-reads
-use Rattle.rdp_command.proofs.read.key_gb.Reads as key-gb-reads
-use Rattle.rdp_command.proofs.read.key_r.Reads as key-r-reads
-use Rattle.rdp_command.proofs.read.other_modes.Reads as other-modes-reads
-use Rattle.rdp_command.proofs.read.primitive_depth.Reads as primitive-depth-reads
-use Rattle.rdp_command.proofs.read.textured_rectangle.Reads as textured-rectangle-reads
 
--- src/decoding.rt:15:43
 textured-rectangle-requires : tie.Need-textured-rectangle-requires
 textured-rectangle-requires c κs = search needs
 
--- src/decoding.rt:16:47
 textured-rectangle-requires-2 : tie.Need-textured-rectangle-requires-2
 textured-rectangle-requires-2 c κs = search needs
 
--- src/decoding.rt:21:35
 key-gb-requires : tie.Need-key-gb-requires
 key-gb-requires c κs = search needs
 
--- src/decoding.rt:22:34
 key-r-requires : tie.Need-key-r-requires
 key-r-requires c κs = search needs
 
--- src/decoding.rt:23:37
 convert-requires : tie.Need-convert-requires
 convert-requires c κs = search needs
 
--- src/decoding.rt:24:37
 scissor-requires : tie.Need-scissor-requires
 scissor-requires c κs = search needs
 
--- src/decoding.rt:25:44
 primitive-depth-requires : tie.Need-primitive-depth-requires
 primitive-depth-requires c κs = search needs
 
--- src/decoding.rt:26:40
 other-modes-requires : tie.Need-other-modes-requires
 other-modes-requires c κs = search needs
 
--- src/decoding.rt:10:1
 returns : tie.Need-returns
-returns c = ?
+unfolding commandOf layout
+returns c = λ ws. at-number (c .before .before .args .w0 ∷ c .before .before .args .w1 ∷ ws) (c .before .match .keys1) (ap TextureRectangle (c .textured-rectangle .ensures))
 
--- src/decoding.rt:10:1
 returns-2 : tie.Need-returns-2
-returns-2 c = ?
+unfolding commandOf layout
+returns-2 c = λ ws. at-number (c .before .before .args .w0 ∷ c .before .before .args .w1 ∷ ws) (c .before .match .keys2) (ap TextureRectangleFlip (c .textured-rectangle2 .ensures))
 
--- src/decoding.rt:10:1
 returns-3 : tie.Need-returns-3
-returns-3 c = ?
+unfolding commandOf layout
+returns-3 c = λ ws. at-number (c .before .args .w0 ∷ c .before .args .w1 ∷ ws) (c .match .keys3) refl
 
--- src/decoding.rt:10:1
 returns-4 : tie.Need-returns-4
-returns-4 c = ?
+unfolding commandOf layout
+returns-4 c = λ ws. at-number (c .before .args .w0 ∷ c .before .args .w1 ∷ ws) (c .match .keys4) refl
 
--- src/decoding.rt:10:1
 returns-5 : tie.Need-returns-5
-returns-5 c = ?
+unfolding commandOf layout
+returns-5 c = λ ws. at-number (c .before .args .w0 ∷ c .before .args .w1 ∷ ws) (c .match .keys5) refl
 
--- src/decoding.rt:10:1
 returns-6 : tie.Need-returns-6
-returns-6 c = ?
+unfolding commandOf layout
+returns-6 c = λ ws. at-number (c .before .args .w0 ∷ c .before .args .w1 ∷ ws) (c .match .keys6) refl
 
--- src/decoding.rt:10:1
 returns-7 : tie.Need-returns-7
-returns-7 c = ?
+unfolding commandOf layout
+returns-7 c = λ ws. at-number (c .before .before .args .w0 ∷ c .before .before .args .w1 ∷ ws) (c .before .match .keys7) (ap SetKeyGb (c .key-gb .ensures))
 
--- src/decoding.rt:10:1
 returns-8 : tie.Need-returns-8
-returns-8 c = ?
+unfolding commandOf layout
+returns-8 c = λ ws. at-number (c .before .before .args .w0 ∷ c .before .before .args .w1 ∷ ws) (c .before .match .keys8) (ap SetKeyR (c .key-r .ensures))
 
--- src/decoding.rt:10:1
 returns-9 : tie.Need-returns-9
-returns-9 c = ?
+unfolding commandOf layout
+returns-9 c = λ ws. at-number (c .before .before .args .w0 ∷ c .before .before .args .w1 ∷ ws) (c .before .match .keys9) (ap SetConvert (c .convert .ensures))
 
--- src/decoding.rt:10:1
 returns-10 : tie.Need-returns-10
-returns-10 c = ?
+unfolding commandOf layout
+returns-10 c = λ ws. at-number (c .before .before .args .w0 ∷ c .before .before .args .w1 ∷ ws) (c .before .match .keys10) (ap SetScissor (c .scissor .ensures))
 
--- src/decoding.rt:10:1
 returns-11 : tie.Need-returns-11
-returns-11 c = ?
+unfolding commandOf layout
+returns-11 c = λ ws. at-number (c .before .before .args .w0 ∷ c .before .before .args .w1 ∷ ws) (c .before .match .keys11) (ap SetPrimitiveDepth (c .primitive-depth .ensures))
 
--- src/decoding.rt:10:1
 returns-12 : tie.Need-returns-12
-returns-12 c = ?
+unfolding commandOf layout
+returns-12 c = λ ws. at-number (c .before .before .args .w0 ∷ c .before .before .args .w1 ∷ ws) (c .before .match .keys12) (ap SetOtherModes (c .other-modes .ensures))
 
--- src/decoding.rt:10:1
 returns-13 : tie.Need-returns-13
-returns-13 c = ?
+returns-13 c = λ ws. sym (low-command (c .before .args .number) (fieldsOf (layout (c .before .args .number)) (c .before .args .w0 ∷ c .before .args .w1 ∷ ws)) (under 0x24 (under 0x25 (under 0x26 (under 0x27 (under 0x28 (under 0x29 (under 0x2A (under 0x2B (under 0x2C (under 0x2D (under 0x2E (under 0x2F (c .before .pre .0) (c .match .rest .1)) (c .match .rest .0 .1)) (c .match .rest .0 .0 .1)) (c .match .rest .0 .0 .0 .1)) (c .match .rest .0 .0 .0 .0 .1)) (c .match .rest .0 .0 .0 .0 .0 .1)) (c .match .rest .0 .0 .0 .0 .0 .0 .1)) (c .match .rest .0 .0 .0 .0 .0 .0 .0 .1)) (c .match .rest .0 .0 .0 .0 .0 .0 .0 .0 .1)) (c .match .rest .0 .0 .0 .0 .0 .0 .0 .0 .0 .1)) (c .match .rest .0 .0 .0 .0 .0 .0 .0 .0 .0 .0 .1)) (c .match .rest .0 .0 .0 .0 .0 .0 .0 .0 .0 .0 .0 .1)) (c .before .pre .1))
 
 pub low-command-spec : {M : Type 1} → statement M
 low-command-spec =

@@ -1,15 +1,12 @@
+use borrow.Author.Tests.{eq-eqb, ne-eqb}
 use Rattle.rdp_command.proofs.encoding.fixed_bits.Statement.{statement}
 use Rattle.rdp_command.proofs.encoding.fixed_bits.Tie as tie
-use Rattle.rdp_command.proofs.encoding.fixed_bits.Reads as reads
-use Rattle.rdp_command.proofs.encoding.fixed_bits.Lts as lts
 
--- src/encoding.rt:51:1
 returns : tie.Need-returns
-returns c = ?
+returns c = rw (eq-eqb _ _ (c .if1 .taken))
 
--- src/encoding.rt:51:1
 returns-2 : tie.Need-returns-2
-returns-2 c = ?
+returns-2 c = rw (ne-eqb _ _ (c .if1 .left))
 
 pub fixed-bits-spec : {M : Type 1} → statement M
 fixed-bits-spec = tie.close (tie.spec returns returns-2)

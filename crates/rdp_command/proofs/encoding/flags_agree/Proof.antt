@@ -1,27 +1,30 @@
+use Prim.Native.Nat.{_<_}
+use mathlib.Core.Path.{ap, _∙_}
+use native.Mathlib.Omega.{arith}
+use borrow.Author.Tests.{eq-eqb, ne-eqb}
+use lib.ListN.{length}
+use denote.Ref.{now}
+use Rattle.rdp_command.proofs.Triangles.{layout-at}
 use Rattle.rdp_command.proofs.encoding.flags_agree.Statement.{statement}
 use Rattle.rdp_command.proofs.encoding.flags_agree.Tie as tie
-use Rattle.rdp_command.proofs.encoding.flags_agree.Reads as reads
-use Rattle.rdp_command.proofs.encoding.flags_agree.Lts as lts
 
--- src/encoding.rt:145:17
+long : (c : tie.Then1) → 2 < length (now (c .before .args .numbers))
+long c = let e = c .before .pre ∙ ap length (layout-at (c .before .args .number) (c .if1 .taken)) in omega arith
+
 shared-slice-read-result : tie.Need-shared-slice-read-result
-shared-slice-read-result c = ?
+shared-slice-read-result c = omega (arith, long (c .before))
 
--- src/encoding.rt:145:45
 shared-slice-read-result-2 : tie.Need-shared-slice-read-result-2
-shared-slice-read-result-2 c = ?
+shared-slice-read-result-2 c = omega (arith, long (c .before .before))
 
--- src/encoding.rt:145:73
 shared-slice-read-result-3 : tie.Need-shared-slice-read-result-3
-shared-slice-read-result-3 c = ?
+shared-slice-read-result-3 c = omega (arith, long (c .before .before .before))
 
--- src/encoding.rt:145:9
 returns : tie.Need-returns
-returns c = ?
+returns c = rw (eq-eqb _ _ (c .before .before .before .if1 .taken))
 
--- src/encoding.rt:139:1
 returns-2 : tie.Need-returns-2
-returns-2 c = ?
+returns-2 c = rw (ne-eqb _ _ (c .if1 .left))
 
 pub flags-agree-spec : {M : Type 1} → statement M
 flags-agree-spec =

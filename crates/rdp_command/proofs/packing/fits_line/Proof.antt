@@ -1,46 +1,36 @@
+use mathlib.Core.Path.{sym, _∙_}
+use Rattle.rdp_command.specs.Table.{lineOf}
+use Rattle.rdp_command.proofs.PackLaws.{fits-signed, fits-unsigned}
 use borrow.Author.Needs.{needs}
 use Rattle.rdp_command.proofs.packing.fits_line.Statement.{statement}
 use Rattle.rdp_command.proofs.packing.fits_line.Tie as tie
-use Rattle.rdp_command.proofs.packing.fits_line.Reads as reads
-use Rattle.rdp_command.proofs.packing.fits_line.Lts as lts
-use Rattle.rdp_command.proofs.packing.line_of.Reads as line-of-reads
-use Rattle.rdp_command.proofs.packing.magnitude.Reads as magnitude-reads
 
--- src/packing.rt:52:9
 line-of-requires : tie.Need-line-of-requires
 line-of-requires c κs = search needs
 
--- src/packing.rt:56:9
 magnitude-requires : tie.Need-magnitude-requires
 magnitude-requires c κs = search needs
 
--- src/packing.rt:56:33
 sub-result : tie.Need-sub-result
 sub-result c = search needs
 
--- src/packing.rt:56:33
 cast-result : tie.Need-cast-result
 cast-result c = search needs
 
--- src/packing.rt:56:24
 shl-result : tie.Need-shl-result
 shl-result c = search needs
 
--- src/packing.rt:58:21
 cast-result-2 : tie.Need-cast-result-2
 cast-result-2 c = search needs
 
--- src/packing.rt:58:13
 shl-result-2 : tie.Need-shl-result-2
 shl-result-2 c = search needs
 
--- src/packing.rt:48:1
 returns : tie.Need-returns
-returns c = ?
+returns c = fits-signed (lineOf (c .before .before .before .args .code)) (c .before .before .before .pre) (c .before .before .before .args .n) (c .before .before .line-of .ensures .width) (sym (c .before .before .line-of .ensures .signed) ∙ c .before .if1 .taken) (c .magnitude .ensures)
 
--- src/packing.rt:48:1
 returns-2 : tie.Need-returns-2
-returns-2 c = ?
+returns-2 c = fits-unsigned (lineOf (c .before .before .args .code)) (c .before .before .pre) (c .before .before .args .n) (c .before .line-of .ensures .width) (sym (c .before .line-of .ensures .signed) ∙ c .if1 .left)
 
 pub fits-line-spec : {M : Type 1} → statement M
 fits-line-spec =

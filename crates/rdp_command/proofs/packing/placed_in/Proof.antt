@@ -1,41 +1,40 @@
+use mathlib.Core.Path.{_≡_, sym, _∙_}
+use borrow.Author.Tests.{eq-eqb, ne-eqb}
+use Rattle.rdp_command.specs.Table.{lineOf}
+use Rattle.rdp_command.proofs.PackLaws.{divisor-pos, placed-at}
 use borrow.Author.Needs.{needs}
 use Rattle.rdp_command.proofs.packing.placed_in.Statement.{statement}
 use Rattle.rdp_command.proofs.packing.placed_in.Tie as tie
-use Rattle.rdp_command.proofs.packing.placed_in.Reads as reads
-use Rattle.rdp_command.proofs.packing.placed_in.Lts as lts
-use Rattle.rdp_command.proofs.packing.line_of.Reads as line-of-reads
 
--- src/packing.rt:83:9
 line-of-requires : tie.Need-line-of-requires
 line-of-requires c κs = search needs
 
--- src/packing.rt:88:23
 cast-result : tie.Need-cast-result
 cast-result c = search needs
 
--- src/packing.rt:88:15
 shl-result : tie.Need-shl-result
 shl-result c = search needs
 
--- src/packing.rt:88:10
 rem-result : tie.Need-rem-result
-rem-result c = ?
+rem-result c = divisor-pos (lineOf (c .before .before .args .code)) (c .before .before .pre) (c .before .before .args .n) (c .before .line-of .ensures .width)
 
--- src/packing.rt:88:34
 cast-result-2 : tie.Need-cast-result-2
 cast-result-2 c = search needs
 
--- src/packing.rt:88:9
 shl-result-2 : tie.Need-shl-result-2
 shl-result-2 c = search needs
 
--- src/packing.rt:79:1
 returns : tie.Need-returns
-returns c = ?
+returns c =
+    let l = lineOf (c .before .before .args .code) in
+    let e : l .word ≡ c .before .before .args .word = sym (c .before .line-of .ensures .word) ∙ c .if1 .taken in
+    rw (eq-eqb _ _ e) (placed-at l (c .before .before .pre) (c .before .before .args .n) (c .before .line-of .ensures .width) (c .before .line-of .ensures .low))
 
--- src/packing.rt:79:1
 returns-2 : tie.Need-returns-2
-returns-2 c = ?
+returns-2 c =
+    let l = lineOf (c .before .before .args .code) in
+    let e : l .word ≡ c .before .before .args .word → ⊥ = λ d. c .if1 .left (c .before .line-of .ensures .word ∙ d) in
+    rw (ne-eqb _ _ e)
 
 pub placed-in-spec : {M : Type 1} → statement M
 placed-in-spec =

@@ -1,4 +1,9 @@
-use mathlib.Core.Path.{refl}
+use mathlib.Core.Bool.{Bool}
+use mathlib.Core.List.{[]}
+use mathlib.Core.Path.{refl, ap, _∙_}
+use lib.Dec.{lit<, lit≤}
+use Rattle.rdp_command.specs.Numbers.{numbered}
+use Rattle.rdp_command.proofs.KindLaws.{no-operation-lines, no-operation-small}
 use borrow.Author.Needs.{needs}
 use Rattle.rdp_command.specs.Layout.{layout}
 use Rattle.rdp_command.proofs.Spreading.{spread-as}
@@ -7,6 +12,9 @@ use Rattle.rdp_command.proofs.values.spread.Tie as tie
 
 enum-known-command : tie.Need-enum-known-command
 enum-known-command c = search needs
+
+is-no-operation-requires : tie.Need-is-no-operation-requires
+is-no-operation-requires c κs = search needs
 
 none-requires : tie.Need-none-requires
 none-requires c κs = search needs
@@ -187,7 +195,15 @@ image-requires-2 c κs = search needs
 
 returns : tie.Need-returns
 unfolding layout
-returns c = spread-as (c .before .before .command .given .1) (record { numbers = c .none .ensures; kept = refl })
+returns c =
+    spread-as (c .before .before .before .command .given .1)
+    (record {
+      numbers = c .none .ensures ∙ ap (λ (k : Bool). numbered (c .before .before .before .command .given .0 .0) k []) (c .before .is-no-operation .ensures);
+      kept = refl;
+      sized = no-operation-lines (c .before .before .before .command .given .0 .0);
+      small = no-operation-small (c .before .before .before .command .given .0 .0);
+      few = lit≤ tt;
+    })
 
 returns-2 : tie.Need-returns-2
 unfolding layout
@@ -195,117 +211,118 @@ returns-2 c = spread-as (c .before .before .command2 .given .1) (c .triangle-bas
 
 returns-3 : tie.Need-returns-3
 unfolding layout
-returns-3 c = spread-as (c .before .before .command3 .given .1) (record { numbers = c .textured-rectangle .ensures .0; kept = c .textured-rectangle .ensures .1 })
+returns-3 c = spread-as (c .before .before .command3 .given .1) (record { numbers = c .textured-rectangle .ensures .0; kept = c .textured-rectangle .ensures .1; sized = λ _. refl; small = λ _. lit< tt; few = lit≤ tt })
 
 returns-4 : tie.Need-returns-4
 unfolding layout
-returns-4 c = spread-as (c .before .before .command4 .given .1) (record { numbers = c .textured-rectangle2 .ensures .0; kept = c .textured-rectangle2 .ensures .1 })
+returns-4 c = spread-as (c .before .before .command4 .given .1) (record { numbers = c .textured-rectangle2 .ensures .0; kept = c .textured-rectangle2 .ensures .1; sized = λ _. refl; small = λ _. lit< tt; few = lit≤ tt })
 
 returns-5 : tie.Need-returns-5
 unfolding layout
-returns-5 c = spread-as (c .before .enum-told .given .1) (record { numbers = c .none2 .ensures; kept = refl })
+returns-5 c = spread-as (c .before .enum-told .given .1) (record { numbers = c .none2 .ensures; kept = refl; sized = λ _. refl; small = λ _. lit< tt; few = lit≤ tt })
 
 returns-6 : tie.Need-returns-6
 unfolding layout
-returns-6 c = spread-as (c .before .enum-told2 .given .1) (record { numbers = c .none3 .ensures; kept = refl })
+returns-6 c = spread-as (c .before .enum-told2 .given .1) (record { numbers = c .none3 .ensures; kept = refl; sized = λ _. refl; small = λ _. lit< tt; few = lit≤ tt })
 
 returns-7 : tie.Need-returns-7
 unfolding layout
-returns-7 c = spread-as (c .before .enum-told3 .given .1) (record { numbers = c .none4 .ensures; kept = refl })
+returns-7 c = spread-as (c .before .enum-told3 .given .1) (record { numbers = c .none4 .ensures; kept = refl; sized = λ _. refl; small = λ _. lit< tt; few = lit≤ tt })
 
 returns-8 : tie.Need-returns-8
 unfolding layout
-returns-8 c = spread-as (c .before .enum-told4 .given .1) (record { numbers = c .none5 .ensures; kept = refl })
+returns-8 c = spread-as (c .before .enum-told4 .given .1) (record { numbers = c .none5 .ensures; kept = refl; sized = λ _. refl; small = λ _. lit< tt; few = lit≤ tt })
 
 returns-9 : tie.Need-returns-9
 unfolding layout
-returns-9 c = spread-as (c .before .before .command5 .given .1) (record { numbers = c .key-gb .ensures; kept = refl })
+returns-9 c = spread-as (c .before .before .command5 .given .1) (record { numbers = c .key-gb .ensures; kept = refl; sized = λ _. refl; small = λ _. lit< tt; few = lit≤ tt })
 
 returns-10 : tie.Need-returns-10
 unfolding layout
-returns-10 c = spread-as (c .before .before .command6 .given .1) (record { numbers = c .key-r .ensures; kept = refl })
+returns-10 c = spread-as (c .before .before .command6 .given .1) (record { numbers = c .key-r .ensures; kept = refl; sized = λ _. refl; small = λ _. lit< tt; few = lit≤ tt })
 
 returns-11 : tie.Need-returns-11
 unfolding layout
-returns-11 c = spread-as (c .before .before .command7 .given .1) (record { numbers = c .convert .ensures; kept = refl })
+returns-11 c = spread-as (c .before .before .command7 .given .1) (record { numbers = c .convert .ensures; kept = refl; sized = λ _. refl; small = λ _. lit< tt; few = lit≤ tt })
 
 returns-12 : tie.Need-returns-12
 unfolding layout
-returns-12 c = spread-as (c .before .before .command8 .given .1) (record { numbers = c .scissor .ensures; kept = refl })
+returns-12 c = spread-as (c .before .before .command8 .given .1) (record { numbers = c .scissor .ensures; kept = refl; sized = λ _. refl; small = λ _. lit< tt; few = lit≤ tt })
 
 returns-13 : tie.Need-returns-13
 unfolding layout
-returns-13 c = spread-as (c .before .before .command9 .given .1) (record { numbers = c .primitive-depth .ensures; kept = refl })
+returns-13 c = spread-as (c .before .before .command9 .given .1) (record { numbers = c .primitive-depth .ensures; kept = refl; sized = λ _. refl; small = λ _. lit< tt; few = lit≤ tt })
 
 returns-14 : tie.Need-returns-14
 unfolding layout
-returns-14 c = spread-as (c .before .before .command10 .given .1) (record { numbers = c .other-modes .ensures; kept = refl })
+returns-14 c = spread-as (c .before .before .command10 .given .1) (record { numbers = c .other-modes .ensures; kept = refl; sized = λ _. refl; small = λ _. lit< tt; few = lit≤ tt })
 
 returns-15 : tie.Need-returns-15
 unfolding layout
-returns-15 c = spread-as (c .before .before .command11 .given .1) (record { numbers = c .tile-area .ensures; kept = refl })
+returns-15 c = spread-as (c .before .before .command11 .given .1) (record { numbers = c .tile-area .ensures; kept = refl; sized = λ _. refl; small = λ _. lit< tt; few = lit≤ tt })
 
 returns-16 : tie.Need-returns-16
 unfolding layout
-returns-16 c = spread-as (c .before .before .command12 .given .1) (record { numbers = c .tile-area2 .ensures; kept = refl })
+returns-16 c = spread-as (c .before .before .command12 .given .1) (record { numbers = c .tile-area2 .ensures; kept = refl; sized = λ _. refl; small = λ _. lit< tt; few = lit≤ tt })
 
 returns-17 : tie.Need-returns-17
 unfolding layout
-returns-17 c = spread-as (c .before .before .command13 .given .1) (record { numbers = c .block .ensures; kept = refl })
+returns-17 c = spread-as (c .before .before .command13 .given .1) (record { numbers = c .block .ensures; kept = refl; sized = λ _. refl; small = λ _. lit< tt; few = lit≤ tt })
 
 returns-18 : tie.Need-returns-18
 unfolding layout
-returns-18 c = spread-as (c .before .before .command14 .given .1) (record { numbers = c .tile-area3 .ensures; kept = refl })
+returns-18 c = spread-as (c .before .before .command14 .given .1) (record { numbers = c .tile-area3 .ensures; kept = refl; sized = λ _. refl; small = λ _. lit< tt; few = lit≤ tt })
 
 returns-19 : tie.Need-returns-19
 unfolding layout
-returns-19 c = spread-as (c .before .before .command15 .given .1) (record { numbers = c .tile-descriptor .ensures; kept = refl })
+returns-19 c = spread-as (c .before .before .command15 .given .1) (record { numbers = c .tile-descriptor .ensures; kept = refl; sized = λ _. refl; small = λ _. lit< tt; few = lit≤ tt })
 
 returns-20 : tie.Need-returns-20
 unfolding layout
-returns-20 c = spread-as (c .before .before .command16 .given .1) (record { numbers = c .rectangle .ensures; kept = refl })
+returns-20 c = spread-as (c .before .before .command16 .given .1) (record { numbers = c .rectangle .ensures; kept = refl; sized = λ _. refl; small = λ _. lit< tt; few = lit≤ tt })
 
 returns-21 : tie.Need-returns-21
 unfolding layout
-returns-21 c = spread-as (c .before .before .command17 .given .1) (record { numbers = c .one .ensures; kept = refl })
+returns-21 c = spread-as (c .before .before .command17 .given .1) (record { numbers = c .one .ensures; kept = refl; sized = λ _. refl; small = λ _. lit< tt; few = lit≤ tt })
 
 returns-22 : tie.Need-returns-22
 unfolding layout
-returns-22 c = spread-as (c .before .before .command18 .given .1) (record { numbers = c .color .ensures; kept = refl })
+returns-22 c = spread-as (c .before .before .command18 .given .1) (record { numbers = c .color .ensures; kept = refl; sized = λ _. refl; small = λ _. lit< tt; few = lit≤ tt })
 
 returns-23 : tie.Need-returns-23
 unfolding layout
-returns-23 c = spread-as (c .before .before .command19 .given .1) (record { numbers = c .color2 .ensures; kept = refl })
+returns-23 c = spread-as (c .before .before .command19 .given .1) (record { numbers = c .color2 .ensures; kept = refl; sized = λ _. refl; small = λ _. lit< tt; few = lit≤ tt })
 
 returns-24 : tie.Need-returns-24
 unfolding layout
-returns-24 c = spread-as (c .before .before .command20 .given .1) (record { numbers = c .primitive-color .ensures; kept = refl })
+returns-24 c = spread-as (c .before .before .command20 .given .1) (record { numbers = c .primitive-color .ensures; kept = refl; sized = λ _. refl; small = λ _. lit< tt; few = lit≤ tt })
 
 returns-25 : tie.Need-returns-25
 unfolding layout
-returns-25 c = spread-as (c .before .before .command21 .given .1) (record { numbers = c .color3 .ensures; kept = refl })
+returns-25 c = spread-as (c .before .before .command21 .given .1) (record { numbers = c .color3 .ensures; kept = refl; sized = λ _. refl; small = λ _. lit< tt; few = lit≤ tt })
 
 returns-26 : tie.Need-returns-26
 unfolding layout
-returns-26 c = spread-as (c .before .before .command22 .given .1) (record { numbers = c .one2 .ensures; kept = refl })
+returns-26 c = spread-as (c .before .before .command22 .given .1) (record { numbers = c .one2 .ensures; kept = refl; sized = λ _. refl; small = λ _. lit< tt; few = lit≤ tt })
 
 returns-27 : tie.Need-returns-27
 unfolding layout
-returns-27 c = spread-as (c .before .before .command23 .given .1) (record { numbers = c .image .ensures; kept = refl })
+returns-27 c = spread-as (c .before .before .command23 .given .1) (record { numbers = c .image .ensures; kept = refl; sized = λ _. refl; small = λ _. lit< tt; few = lit≤ tt })
 
 returns-28 : tie.Need-returns-28
 unfolding layout
-returns-28 c = spread-as (c .before .before .command24 .given .1) (record { numbers = c .one3 .ensures; kept = refl })
+returns-28 c = spread-as (c .before .before .command24 .given .1) (record { numbers = c .one3 .ensures; kept = refl; sized = λ _. refl; small = λ _. lit< tt; few = lit≤ tt })
 
 returns-29 : tie.Need-returns-29
 unfolding layout
-returns-29 c = spread-as (c .before .before .command25 .given .1) (record { numbers = c .image2 .ensures; kept = refl })
+returns-29 c = spread-as (c .before .before .command25 .given .1) (record { numbers = c .image2 .ensures; kept = refl; sized = λ _. refl; small = λ _. lit< tt; few = lit≤ tt })
 
 pub spread-spec : {M : Type 1} → statement M
 spread-spec =
     tie.close
     (tie.spec
     enum-known-command
+    is-no-operation-requires
     none-requires
     enum-known-command-2
     triangle-base-requires

@@ -1,3 +1,4 @@
+use mathlib.Core.Bool.{true}
 use mathlib.Core.List.{List, [], _∷_}
 use mathlib.Core.Path.{_∙_}
 use Prim.Native.Nat.{ℕ}
@@ -55,7 +56,7 @@ returns : tie.Need-returns
 returns c =
     let g = c .before .before .before .before .before .before .before .before .args .g in
     let step = c .before .before .before .before .before .before .before .texture-step .ensures in (
-      c .padded .ensures ∙ (λ i. numbered (c .before .before .before .before .before .before .before .before .args .number) (laid g (step .0 i))),
+      c .padded .ensures ∙ (λ i. numbered (c .before .before .before .before .before .before .before .before .args .number) true (laid g (step .0 i))),
       λ i.
           unsigned (g .«lower_right» .x) ∷ unsigned (g .«lower_right» .y) ∷ unsigned (g .tile) ∷ unsigned (g .«upper_left» .x) ∷
           unsigned (g .«upper_left» .y) ∷ step .1 i,

@@ -1,7 +1,9 @@
+use mathlib.Core.Bool.{true}
 use mathlib.Core.List.{List, [], _∷_, _++_}
 use mathlib.Core.Path.{ap, _∙_}
 use Prim.Native.Nat.{ℕ}
-use lib.ListN.{getD}
+use lib.Dec.{lit≤}
+use lib.ListN.{length, getD}
 use mir.Val.{boolByte}
 use Rattle.rdp_command.specs.Layout.{Line}
 use Rattle.rdp_command.specs.Fields.{unsigned, signed, flag}
@@ -10,7 +12,7 @@ use Rattle.rdp_command.specs.Numbers.{valuesFrom, numbered}
 use Rattle.rdp_command.specs.declared.command.TriangleBase.{TriangleBase}
 use Rattle.rdp_command.specs.declared.command.Command.the-variants.{FillTriangle}
 use Rattle.rdp_command.proofs.Signed.{given}
-use Rattle.rdp_command.proofs.Triangles.{triangle-layout}
+use Rattle.rdp_command.proofs.Triangles.{triangle-layout, triangle-small}
 use borrow.Author.Needs.{needs}
 use Rattle.rdp_command.proofs.values.triangle_base.Statement.{statement}
 use Rattle.rdp_command.proofs.values.triangle_base.Tie as tie
@@ -113,12 +115,15 @@ returns c =
     let h = c .before .before .before .before .before .before .before .before .before .before .before .before .before .before .before .before .edge2 .ensures in
     let m = c .before .before .before .before .before .before .before .before .before .before .before .before .before .before .before .edge3 .ensures in
     record {
-      numbers = c .padded .ensures ∙ (λ i. numbered (c .before .before .triangle-number .ensures i) (laid g (yl .0 i) (ym .0 i) (yh .0 i) (l .0 i) (h .0 i) (m .0 i)));
+      numbers = c .padded .ensures ∙ (λ i. numbered (c .before .before .triangle-number .ensures i) true (laid g (yl .0 i) (ym .0 i) (yh .0 i) (l .0 i) (h .0 i) (m .0 i)));
       kept =
           ap (λ (ls : List Line). valuesFrom ls (numbersOf (FillTriangle g))) (triangle-layout g) ∙
           (λ i.
           flag (g .shade) ∷ flag (g .texture) ∷ flag (g .zbuffer) ∷ flag (g .lmajor) ∷ unsigned (g .level) ∷ unsigned (g .tile) ∷
           signed (yl .1 i) ∷ signed (ym .1 i) ∷ signed (yh .1 i) ∷ (l .1 i ++ (h .1 i ++ m .1 i)));
+      sized = λ _. ap length (triangle-layout g);
+      small = λ _. triangle-small g;
+      few = lit≤ tt;
     }
 
 pub triangle-base-spec : {M : Type 1} → statement M

@@ -1,45 +1,61 @@
+use Prim.Native.Nat.{ℕ, _≤_, _-_, zero-le}
+use mathlib.Core.List.{List}
+use mathlib.Core.Path.{_≡_, refl, ap, sym, _∙_}
+use native.Mathlib.Omega.{arith}
+use lib.ListN.{length, set, getD}
+use denote.Ref.{now}
+use Rattle.rdp_command.proofs.Bytes.{copied, copied-more, copied-all, length-copied}
 use Rattle.rdp_command.proofs.words.copy_front.Statement.{statement}
 use Rattle.rdp_command.proofs.words.copy_front.Tie as tie
-use Rattle.rdp_command.proofs.words.copy_front.Reads as reads
-use Rattle.rdp_command.proofs.words.copy_front.Lts as lts
 
 abbrev Inv-loop : tie.InvT-loop
-Inv-loop out₀ src i₀ out i = ?
+Inv-loop out₀ src i₀ out i = (i ≤ length src) × (out ≡ copied out₀ src i)
 
 abbrev μ-loop : tie.MeasureT-loop
-μ-loop out₀ src i₀ out i = ?
+μ-loop out₀ src i₀ out i = length src - i
 
--- src/words.rt:62:5
+-- what is copied so far has the length of the output
+module _ (c : tie.At-loop Inv-loop μ-loop) where
+  abbrev out : List ℕ
+  out = now (c .before .args .out)
+
+  abbrev src : List ℕ
+  src = now (c .before .args .src)
+
+  long : length (c .loop .out) ≡ length out
+  long = ap length (c .loop .inv .1) ∙ length-copied out src (c .loop .i) (c .loop .inv .0) (omega arith)
+
 loop-holds : tie.Need-loop-holds Inv-loop μ-loop
-loop-holds c = ?
+loop-holds c = (zero-le, refl)
 
--- src/words.rt:63:18
 shared-slice-read-out : tie.Need-shared-slice-read-out Inv-loop μ-loop
-shared-slice-read-out c = ?
+shared-slice-read-out c = omega arith
 
--- src/words.rt:63:9
 slice-write-out : tie.Need-slice-write-out Inv-loop μ-loop
-slice-write-out c = ?
+slice-write-out c = omega (arith, long (c .before .before))
 
--- src/words.rt:64:9
 add-i : tie.Need-add-i Inv-loop μ-loop
-add-i c = ?
+add-i c = omega arith
 
--- src/words.rt:62:5
 loop-less : tie.Need-loop-less Inv-loop μ-loop
-loop-less c = ?
+loop-less c = omega arith
 
--- src/words.rt:62:5
 loop-again : tie.Need-loop-again Inv-loop μ-loop
-loop-again c = ?
+loop-again c =
+    let at = c .before .before in (
+      omega arith,
+      ap (λ (l : List ℕ). set l (at .loop .i) (getD (src at) (at .loop .i) 0)) (at .loop .inv .1) ∙
+          copied-more (out at) (src at) (at .loop .i) (omega arith) (omega arith),
+    )
 
--- src/words.rt:57:1
 same-length : tie.Need-same-length Inv-loop μ-loop
-same-length c = ?
+same-length c = long (c .before)
 
--- src/words.rt:57:1
 returns : tie.Need-returns Inv-loop μ-loop
-returns c = ?
+returns c =
+    let at = c .before in
+    let e : at .loop .i ≡ length (src at) = omega arith in
+    at .loop .inv .1 ∙ ap (copied (out at) (src at)) e ∙ copied-all (out at) (src at)
 
 pub copy-front-spec : {M : Type 1} → statement M
 copy-front-spec =

@@ -1,81 +1,78 @@
+use Prim.Native.Nat.{ℕ, _+_, _*_, _^_}
+use mathlib.Core.Path.{ap, sym, _∙_}
+use native.Mathlib.Nat.{add-zero}
+use native.Mathlib.Omega.{arith}
+use lib.ListN.{getD}
+use lib.Seq.{getD-drop}
+use denote.Ref.{now}
+use Rattle.rdp_command.specs.Words.{halfOf}
 use borrow.Author.Needs.{needs}
 use Rattle.rdp_command.proofs.words.half_at.Statement.{statement}
 use Rattle.rdp_command.proofs.words.half_at.Tie as tie
-use Rattle.rdp_command.proofs.words.half_at.Reads as reads
-use Rattle.rdp_command.proofs.words.half_at.Lts as lts
-use Rattle.rdp_command.proofs.words.wide.Reads as wide-reads
 
--- src/words.rt:20:10
 shared-slice-read-wide : tie.Need-shared-slice-read-wide
 shared-slice-read-wide c = search needs
 
--- src/words.rt:20:5
 wide-requires : tie.Need-wide-requires
 wide-requires c κs = search needs
 
--- src/words.rt:20:5
 mul-result : tie.Need-mul-result
 mul-result c = search needs
 
--- src/words.rt:21:21
 add-wide : tie.Need-add-wide
 add-wide c = search needs
 
--- src/words.rt:21:16
 shared-slice-read-wide-2 : tie.Need-shared-slice-read-wide-2
 shared-slice-read-wide-2 c = search needs
 
--- src/words.rt:21:11
 wide-requires-2 : tie.Need-wide-requires-2
 wide-requires-2 c κs = search needs
 
--- src/words.rt:21:11
 mul-result-2 : tie.Need-mul-result-2
 mul-result-2 c = search needs
 
--- src/words.rt:20:5
 add-result : tie.Need-add-result
 add-result c = search needs
 
--- src/words.rt:22:21
 add-wide-2 : tie.Need-add-wide-2
 add-wide-2 c = search needs
 
--- src/words.rt:22:16
 shared-slice-read-wide-3 : tie.Need-shared-slice-read-wide-3
 shared-slice-read-wide-3 c = search needs
 
--- src/words.rt:22:11
 wide-requires-3 : tie.Need-wide-requires-3
 wide-requires-3 c κs = search needs
 
--- src/words.rt:22:11
 mul-result-3 : tie.Need-mul-result-3
 mul-result-3 c = search needs
 
--- src/words.rt:20:5
 add-result-2 : tie.Need-add-result-2
 add-result-2 c = search needs
 
--- src/words.rt:23:21
 add-wide-3 : tie.Need-add-wide-3
 add-wide-3 c = search needs
 
--- src/words.rt:23:16
 shared-slice-read-wide-4 : tie.Need-shared-slice-read-wide-4
 shared-slice-read-wide-4 c = search needs
 
--- src/words.rt:23:11
 wide-requires-4 : tie.Need-wide-requires-4
 wide-requires-4 c κs = search needs
 
--- src/words.rt:20:5
 add-result-3 : tie.Need-add-result-3
 add-result-3 c = search needs
 
--- src/words.rt:16:1
 returns : tie.Need-returns
-returns c = ?
+unfolding halfOf
+returns c =
+    let list = now (c .before .before .before .before .before .before .before .before .before .args .list) in
+    let at = c .before .before .before .before .before .before .before .before .before .args .at in (
+      (λ i.
+          ((c .before .before .before .before .before .before .wide .ensures .0 ∙ ap (λ (k : ℕ). getD list k 0) (sym (add-zero at)) ∙ sym (getD-drop at list 0 0)) i * 2 ^ 24 +
+          (c .before .before .before .before .wide2 .ensures .0 ∙ sym (getD-drop at list 1 0)) i * 2 ^ 16 +
+          (c .before .before .wide3 .ensures .0 ∙ sym (getD-drop at list 2 0)) i * 2 ^ 8 +
+          (c .wide4 .ensures .0 ∙ sym (getD-drop at list 3 0)) i)),
+      omega arith,
+    )
 
 pub half-at-spec : {M : Type 1} → statement M
 half-at-spec =

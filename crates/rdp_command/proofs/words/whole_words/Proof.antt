@@ -1,31 +1,34 @@
+use Prim.Native.Nat.{zero-le}
+use mathlib.Core.Path.{_≡_, ap, _∙_}
+use native.Mathlib.Omega.{arith}
+use borrow.Author.Tests.{lt-ltb, le-ltb}
+use denote.Ref.{now}
+use Rattle.rdp_command.specs.Words.{numberIn}
+use Rattle.rdp_command.specs.Kinds.{wordsOf}
+use Rattle.rdp_command.specs.Decode.{firstNumber, wholeWords}
 use borrow.Author.Needs.{needs}
 use Rattle.rdp_command.proofs.words.whole_words.Statement.{statement}
 use Rattle.rdp_command.proofs.words.whole_words.Tie as tie
-use Rattle.rdp_command.proofs.words.whole_words.Reads as reads
-use Rattle.rdp_command.proofs.words.whole_words.Lts as lts
-use Rattle.rdp_command.proofs.number_in.Reads as number-in-reads
-use Rattle.rdp_command.proofs.word_at.Reads as word-at-reads
-use Rattle.rdp_command.proofs.words_of.Reads as words-of-reads
 
--- src/words.rt:30:32
 word-at-requires : tie.Need-word-at-requires
 word-at-requires c κs = search needs
 
--- src/words.rt:30:22
 number-in-requires : tie.Need-number-in-requires
 number-in-requires c κs = search needs
 
--- src/words.rt:30:9
 words-of-requires : tie.Need-words-of-requires
 words-of-requires c κs = search needs
 
--- src/words.rt:27:1
-returns : tie.Need-returns
-returns c = ?
+counted : (c : tie.After-words-of) → c .words-of .result ≡ wordsOf (firstNumber (now (c .before .before .before .before .args .list)))
+counted c = c .words-of .ensures ∙ ap wordsOf (c .before .number-in .ensures ∙ ap numberIn (c .before .before .word-at .ensures))
 
--- src/words.rt:27:1
+returns : tie.Need-returns
+unfolding wholeWords
+returns c = (rw (lt-ltb _ _ (rw (counted (c .before)) at (c .if1 .taken))), zero-le)
+
 returns-2 : tie.Need-returns-2
-returns-2 c = ?
+unfolding wholeWords
+returns-2 c = (counted (c .before) ∙ rw (le-ltb _ _ (rw (counted (c .before)) at (c .if1 .left))), omega arith)
 
 pub whole-words-spec : {M : Type 1} → statement M
 whole-words-spec =

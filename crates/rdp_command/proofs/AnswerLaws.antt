@@ -1,0 +1,85 @@
+-- What decoding and encoding answer, by the tests that they make. Assumes nothing.
+use Prim.Native.Nat.{ℕ, _*_, _/_, _≤_, _<_}
+use mathlib.Core.Bool.{Bool, true, false, cond, _&&_, false≢true}
+use mathlib.Core.List.{List}
+use mathlib.Core.Path.{_≡_, refl, ap, sym, _∙_}
+use lib.Dec.{eqb, ltb}
+use lib.ListN.{length, getD}
+use borrow.Author.Tests.{eq-eqb, ne-eqb, lt-ltb, le-ltb, eqb-true}
+use Rattle.rdp_command.specs.Words.{overwrite}
+use Rattle.rdp_command.specs.Kinds.{wordsOf}
+use Rattle.rdp_command.specs.Layout.{layout}
+use Rattle.rdp_command.specs.Fields.{allFit}
+use Rattle.rdp_command.specs.Commands.{commandOf}
+use Rattle.rdp_command.specs.Decode.{firstNumber, wholeWords, ownWords, commandIn, decodeOf}
+use Rattle.rdp_command.specs.Encode.{answerWith, outWith}
+use Rattle.rdp_command.specs.Numbers.{valuesFrom, numbersFit, flagsAgree, fromNumbers}
+use Rattle.rdp_command.specs.declared.command.Answer.{Answer}
+use Rattle.rdp_command.specs.declared.command.Command.{Command}
+use Rattle.rdp_command.specs.declared.command.Decoded.the-variants.{Whole, Refused}
+
+abbrev pub answer : ℕ → ℕ → Answer
+answer number place = record { number = number; place = place }
+
+-- ---- decoding
+
+pub refused : (bs : List ℕ) → wholeWords bs ≡ 0 → Refused (answer 3 0) ≡ decodeOf bs
+unfolding decodeOf
+refused bs e = rw (eq-eqb _ _ e)
+
+pub whole : (bs : List ℕ) {r : Command} → (wholeWords bs ≡ 0 → ⊥) → r ≡ commandIn (firstNumber bs) (ownWords bs (wholeWords bs)) → Whole r ≡ decodeOf bs
+unfolding decodeOf
+whole bs h e = rw (ne-eqb _ _ h) (ap Whole e)
+
+cond-zero : (b : Bool) {x : ℕ} → (cond b 0 x ≡ 0 → ⊥) → cond b 0 x ≡ x
+cond-zero true p = absurd (p refl)
+cond-zero false p = refl
+
+pub nonzero-words : (bs : List ℕ) → (wholeWords bs ≡ 0 → ⊥) → wholeWords bs ≡ wordsOf (firstNumber bs)
+unfolding wholeWords
+nonzero-words bs h = cond-zero (ltb (length bs / 8) (wordsOf (firstNumber bs))) h
+
+-- ---- encoding
+
+pub unfit : {ok : Bool} → ok ≡ false → (n : ℕ) (bytes out : List ℕ) → (answer 15 0 ≡ answerWith ok n out) × (out ≡ outWith ok n bytes out)
+unfolding answerWith outWith
+unfit e n bytes out = (rw e, rw e)
+
+module _ {ok : Bool} (e : ok ≡ true) (n : ℕ) (bytes out : List ℕ) where
+  pub too-short : length out / 8 < wordsOf n → (answer 14 (wordsOf n) ≡ answerWith ok n out) × (out ≡ outWith ok n bytes out)
+  unfolding answerWith outWith
+  too-short h = (rw (e, lt-ltb _ _ h), rw (e, lt-ltb _ _ h))
+
+  pub written : wordsOf n ≤ length out / 8 → (answer 0 (wordsOf n) ≡ answerWith ok n out) × (overwrite bytes out ≡ outWith ok n bytes out)
+  unfolding answerWith outWith
+  written h = (rw (e, le-ltb _ _ h), rw (e, le-ltb _ _ h))
+
+-- ---- a number and the numbers of fields
+
+pub and-true : (a b : Bool) → a && b ≡ true → (a ≡ true) × (b ≡ true)
+and-true true b e = (refl, e)
+and-true false b e = (e, absurd (false≢true e))
+
+pub fit-parts : (n : ℕ) (ns : List ℕ) → numbersFit n ns ≡ true → (length ns ≡ length (layout n)) × (allFit (layout n) (valuesFrom (layout n) ns) ≡ true)
+unfolding numbersFit
+fit-parts n ns e =
+    let r = and-true (eqb (length ns) (length (layout n))) (allFit (layout n) (valuesFrom (layout n) ns)) e in
+    (eqb-true _ _ (r .0), r .1)
+
+module _ (n : ℕ) (ns : List ℕ) where
+  pub accepted :
+      n < 64 → numbersFit n ns ≡ true → flagsAgree n ns ≡ true → {r : Command} → r ≡ commandOf n (valuesFrom (layout n) ns) → Whole r ≡ fromNumbers n ns
+  unfolding fromNumbers
+  accepted h f g e = rw (lt-ltb _ _ h, f, g) (ap Whole e)
+
+  pub too-large : 64 ≤ n → Refused (answer 15 0) ≡ fromNumbers n ns
+  unfolding fromNumbers
+  too-large h = rw (le-ltb _ _ h)
+
+  pub misfit : n < 64 → numbersFit n ns ≡ false → Refused (answer 15 0) ≡ fromNumbers n ns
+  unfolding fromNumbers
+  misfit h f = rw (lt-ltb _ _ h, f)
+
+  pub contradicted : n < 64 → numbersFit n ns ≡ true → flagsAgree n ns ≡ false → Refused (answer 15 0) ≡ fromNumbers n ns
+  unfolding fromNumbers
+  contradicted h f g = rw (lt-ltb _ _ h, f, g)

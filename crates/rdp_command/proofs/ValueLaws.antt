@@ -1,0 +1,113 @@
+-- The value of a line from its bits, and its number back. Assumes nothing.
+use Prim.Native.Nat.{ℕ, zero, suc, _+_, _-_, _*_, _%_, _^_, _≤_, _<_}
+use mathlib.Core.Bool.{Bool, true, false}
+use mathlib.Core.Path.{_≡_, refl, ap, sym, _∙_}
+use native.Mathlib.Nat.{mod-eq-of-lt, mod-lt, add-mul-mod-self-right, pow-suc, mul-comm, suc-mul, add-comm, not-suc-le-zero}
+use native.Mathlib.Numerals.{sub-one}
+use native.Mathlib.Omega.{arith}
+use borrow.Author.Tests.{lt-ltb, le-ltb, ltb-true, ltb-false}
+use lib.Dec.{ltb}
+use lib.IntN.{ℤ, pos, negsuc}
+use lib.Pow.{pow-pos, pow-add, pow-mono}
+use lib.Signed.{mag}
+use mir.Syntax.{w64}
+use mir.Val.{toZ, ofZ}
+use mir.Facts.{ofZ-toZ}
+use Rattle.rdp_command.specs.Layout.{Line, width}
+use Rattle.rdp_command.specs.Fields.{Value, unsigned, signed, twosComplement, valueOf, numberOfValue, fitsLine}
+use Rattle.rdp_command.specs.Numbers.{valueFrom}
+use Rattle.rdp_command.proofs.Tests.{by-test}
+
+-- half is 2 to the bits less one, of which 2 ^ 64 is a multiple
+module _ (half k : ℕ) (m : 2 ^ 64 ≡ 2 * half + k * (2 * half)) where
+  -- a number below 0 that is not far from it, in its low bits
+  low-negative : (n : ℕ) → n < half → (2 ^ 64 - suc n) % (2 * half) ≡ 2 * half - suc n
+  low-negative n h =
+      let e : 2 ^ 64 - suc n ≡ 2 * half - suc n + k * (2 * half) = omega arith in
+      ap (λ (x : ℕ). x % (2 * half)) e ∙ add-mul-mod-self-right (2 * half - suc n) k (2 * half) ∙ mod-eq-of-lt (omega arith)
+
+  -- the low bits of a signed number that fits give the number back
+  signed-back : (z : ℤ) → mag z < half → twosComplement half (ofZ w64 z % (2 * half)) ≡ z
+  unfolding twosComplement
+  signed-back (pos n) h =
+      let r : n % (2 * half) ≡ n = mod-eq-of-lt (omega arith) in
+      rw (r, lt-ltb _ _ h)
+  signed-back (negsuc n) h =
+      let g : half ≤ 2 * half - suc n = omega arith in
+      let d : 2 * half - suc (2 * half - suc n) ≡ n = omega arith in
+      rw (low-negative n h, le-ltb _ _ g) (ap negsuc d)
+
+  -- the other way round
+  module _ (b : ℕ) (h : b < 2 * half) where
+    bits-back : ofZ w64 (twosComplement half b) % (2 * half) ≡ b
+    unfolding twosComplement
+    bits-back =
+        by-test (ltb b half) (λ t. rw t (mod-eq-of-lt h))
+        (λ f.
+        let g : half ≤ b = ltb-false b half f in
+        let d : 2 * half - suc (2 * half - suc b) ≡ b = omega arith in
+        rw f (low-negative (2 * half - suc b) (omega arith) ∙ d))
+
+    magnitude : mag (twosComplement half b) < half
+    unfolding twosComplement
+    magnitude =
+        by-test (ltb b half) (λ t. rw t (ltb-true b half t))
+        (λ f. let g : half ≤ b = ltb-false b half f in rw f (omega arith))
+
+-- two to the width, as twice its half, divides 2 ^ 64
+module _ (w : ℕ) (p : 0 < w) (q : w ≤ 64) where
+  doubled : 2 ^ w ≡ 2 * 2 ^ (w - 1)
+  doubled = let e : w ≡ suc (w - 1) = omega arith in ap (λ (x : ℕ). 2 ^ x) e ∙ pow-suc 2 (w - 1) ∙ mul-comm (2 ^ (w - 1)) 2
+
+  multiple : 2 ^ 64 ≡ 2 * 2 ^ (w - 1) + (2 ^ (64 - w) - 1) * (2 * 2 ^ (w - 1))
+  multiple =
+      let e : 64 ≡ 64 - w + w = omega arith in
+      let f : 2 ^ 64 ≡ 2 ^ (64 - w) * 2 ^ w = ap (λ (x : ℕ). 2 ^ x) e ∙ pow-add 2 (64 - w) w in
+      f ∙ ap (λ (x : ℕ). 2 ^ (64 - w) * x) doubled ∙ one-less (2 ^ (64 - w)) (2 * 2 ^ (w - 1)) (pow-pos (64 - w))
+    where
+      one-less : (a b : ℕ) → 0 < a → a * b ≡ b + (a - 1) * b
+      one-less zero b h = absurd (not-suc-le-zero h)
+      one-less (suc a) b h = suc-mul a b ∙ add-comm (a * b) b ∙ ap (λ (x : ℕ). b + x * b) (sym (sub-one (suc a)))
+
+-- ---- values of lines
+
+module _ (l : Line) (q : width l ≤ 64) where
+  abbrev w : ℕ
+  w = width l
+
+  one : 0 < w
+  one = omega arith
+
+  -- a number that fits a line is the value of its low bits
+  pub value-back : (n : ℕ) → n < 2 ^ 64 → fitsLine l (valueFrom (l .signed) n) ≡ true → valueOf (l .signed) w (n % 2 ^ w) ≡ valueFrom (l .signed) n
+  value-back n h = by (l .signed)
+    where
+      by : (s : Bool) → fitsLine l (valueFrom s n) ≡ true → valueOf s w (n % 2 ^ w) ≡ valueFrom s n
+      by false e = ap unsigned (mod-eq-of-lt (ltb-true n (2 ^ w) e))
+      by true e =
+          let g : mag (toZ w64 n) < 2 ^ (w - 1) = ltb-true (mag (toZ w64 n)) (2 ^ (w - 1)) e in
+          ap signed
+          (ap (λ (x : ℕ). twosComplement (2 ^ (w - 1)) (x % 2 ^ w)) (sym (ofZ-toZ {w = w64} {n = n} (record { fits = h }))) ∙
+          ap (λ (x : ℕ). twosComplement (2 ^ (w - 1)) (ofZ w64 (toZ w64 n) % x)) (doubled w one q) ∙
+          signed-back (2 ^ (w - 1)) (2 ^ (64 - w) - 1) (multiple w one q) (toZ w64 n) g)
+
+  -- what is read fits, and its number has the same low bits
+  module _ (b : ℕ) (h : b < 2 ^ w) where
+    under : b < 2 * 2 ^ (w - 1)
+    under = rw (doubled w one q) at h
+
+    pub value-fits : fitsLine l (valueOf (l .signed) w b) ≡ true
+    value-fits = by (l .signed)
+      where
+        by : (s : Bool) → fitsLine l (valueOf s w b) ≡ true
+        by false = lt-ltb _ _ h
+        by true = lt-ltb _ _ (magnitude (2 ^ (w - 1)) (2 ^ (64 - w) - 1) (multiple w one q) b under)
+
+    pub value-low : numberOfValue (valueOf (l .signed) w b) % 2 ^ w ≡ b
+    value-low = by (l .signed)
+      where
+        by : (s : Bool) → numberOfValue (valueOf s w b) % 2 ^ w ≡ b
+        by false = mod-eq-of-lt h
+        by true =
+            ap (λ (x : ℕ). ofZ w64 (twosComplement (2 ^ (w - 1)) b) % x) (doubled w one q) ∙
+            bits-back (2 ^ (w - 1)) (2 ^ (64 - w) - 1) (multiple w one q) b under
