@@ -6,7 +6,6 @@ use mathlib.Core.Path.{_≡_, refl, ap, sym, _∙_}
 use lib.Dec.{eqb, ltb}
 use lib.ListN.{length, getD}
 use borrow.Author.Tests.{eq-eqb, ne-eqb, lt-ltb, le-ltb, eqb-true}
-use Rattle.rdp_command.specs.Words.{overwrite}
 use Rattle.rdp_command.specs.Kinds.{wordsOf}
 use Rattle.rdp_command.specs.Layout.{layout}
 use Rattle.rdp_command.specs.Fields.{allFit}
@@ -44,15 +43,6 @@ nonzero-words bs h = cond-zero (ltb (length bs / 8) (wordsOf (firstNumber bs))) 
 pub unfit : {ok : Bool} → ok ≡ false → (n : ℕ) (bytes out : List ℕ) → (answer 15 0 ≡ answerWith ok n out) × (out ≡ outWith ok n bytes out)
 unfolding answerWith outWith
 unfit e n bytes out = (rw e, rw e)
-
-module _ {ok : Bool} (e : ok ≡ true) (n : ℕ) (bytes out : List ℕ) where
-  pub too-short : length out / 8 < wordsOf n → (answer 14 (wordsOf n) ≡ answerWith ok n out) × (out ≡ outWith ok n bytes out)
-  unfolding answerWith outWith
-  too-short h = (rw (e, lt-ltb _ _ h), rw (e, lt-ltb _ _ h))
-
-  pub written : wordsOf n ≤ length out / 8 → (answer 0 (wordsOf n) ≡ answerWith ok n out) × (overwrite bytes out ≡ outWith ok n bytes out)
-  unfolding answerWith outWith
-  written h = (rw (e, le-ltb _ _ h), rw (e, le-ltb _ _ h))
 
 -- ---- a number and the numbers of fields
 

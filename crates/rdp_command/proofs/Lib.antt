@@ -11,3 +11,4 @@ pub mod BitLaws
 pub mod ValueLaws
 pub mod LayoutLaws
 pub mod AnswerLaws
+pub mod GroupLaws

@@ -2,7 +2,7 @@
 use mathlib.Core.Bool.{Bool, true, cond, _&&_}
 use mathlib.Core.List.{List, [], _∷_, _++_, map}
 use Prim.Native.Nat.{ℕ, zero, suc, _+_, _-_, _*_, _/_, _^_, min}
-use lib.Dec.{eqb, ltb}
+use lib.Dec.{eqb, leb}
 use lib.ListN.{length}
 use Rattle.rdp_command.specs.Words.{bytesOf, overwrite}
 use Rattle.rdp_command.specs.Kinds.{wordsOf, isNoOperation}
@@ -78,15 +78,21 @@ unfoldable pub encodable : Command → List ℕ → Bool
 encodable c suffix =
     (numberFits c && allFit (layout (numberOf c)) (valuesOf c)) && eqb (length suffix) (8 * suffixWords (wordsOf (numberOf c)))
 
--- 15 at 0 where what is given can't be encoded, then 14 at the words needed, else 0 and the words written
+-- 15 at 0 where what is given can't be encoded, else 14 at the words needed where there is no room, else 0 at the words
+abbrev pub verdictOf : Bool → Bool → ℕ → Answer
+verdictOf ok room words =
+    cond ok (cond room (record { number = 0; place = words }) (record { number = 14; place = words })) (record { number = 15; place = 0 })
+
+-- room for the words of a command
+abbrev pub hasRoom : ℕ → List ℕ → Bool
+hasRoom n out = leb (wordsOf n) (length out / 8)
+
 unfoldable pub answerWith : Bool → ℕ → List ℕ → Answer
-answerWith ok n out =
-    cond ok (cond (ltb (length out / 8) (wordsOf n)) (record { number = 14; place = wordsOf n }) (record { number = 0; place = wordsOf n }))
-    (record { number = 15; place = 0 })
+answerWith ok n out = verdictOf ok (hasRoom n out) (wordsOf n)
 
 -- the output: the bytes at its front, or as it was at a refusal
 unfoldable pub outWith : Bool → ℕ → List ℕ → List ℕ → List ℕ
-outWith ok n bytes out = cond ok (cond (ltb (length out / 8) (wordsOf n)) out (overwrite bytes out)) out
+outWith ok n bytes out = cond (ok && hasRoom n out) (overwrite bytes out) out
 
 -- what encoding a command answers, and the output after it
 abbrev pub encodeAnswer : Command → List ℕ → List ℕ → Answer

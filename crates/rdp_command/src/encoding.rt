@@ -10,7 +10,7 @@ ghost use Rattle.rdp_command.specs.Kinds.{wordsOf};
 ghost use Rattle.rdp_command.specs.Layout.{layout};
 ghost use Rattle.rdp_command.specs.Table.{Agrees};
 ghost use Rattle.rdp_command.specs.Decode.{suffixWords};
-ghost use Rattle.rdp_command.specs.Encode.{fixedBits, packedWord, packedBytes, baseWords, bytesWith, answerWith, outWith};
+ghost use Rattle.rdp_command.specs.Encode.{fixedBits, packedWord, packedBytes, baseWords, bytesWith, verdictOf, answerWith, outWith};
 ghost use Rattle.rdp_command.specs.Numbers.{numbersFit, flagsAgree, fromNumbers};
 use crate::command::*;
 use crate::decoding;
@@ -119,37 +119,41 @@ fn suffix_len(n: usize) -> usize
     if n < 4 { 0 } else { 8 * (n - 4) }
 }
 
-// Writes a command at the front of out: 15, then 14, else 0 and the words written.
+// 15 at 0 where a command can't be encoded, else 14 at its n words where there is no room for them, else 0 at its n words.
+fn verdict(encodable: bool, room: bool, n: usize) -> Answer
+    requires { ⌜ n ≤ 22 ⌝ }
+    ensures { λ r. ⌜ r ≡ verdictOf encodable room n ⌝ }
+{
+    let place = n as u32;
+    if !encodable {
+        return Answer {
+            number: 15,
+            place: 0,
+        };
+    }
+    if !room {
+        return Answer { number: 14, place };
+    }
+    Answer { number: 0, place }
+}
+
+// Writes a command at the front of out, where it can be encoded and there is room.
 pub fn write_command(number: u8, numbers: &[u64], suffix: &[u8], out: &mut [u8]) -> Answer
     requires { ⌜ number < 64 ⌝ }
     ensures answer { λ r. ⌜ r ≡ answerWith (numbersFit number (now (numbers .entry)) && eqb (length (now (suffix .entry))) (8 * suffixWords (wordsOf number))) number (now (out .entry)) ⌝ }
     ensures output { λ _. ⌜ now (out .exit) ≡ outWith (numbersFit number (now (numbers .entry)) && eqb (length (now (suffix .entry))) (8 * suffixWords (wordsOf number))) number (bytesWith number (now (numbers .entry)) (now (suffix .entry))) (now (out .entry)) ⌝ }
 {
     let table = table::layout_table();
-    if !numbers_fit(&table, number, numbers) {
-        return Answer {
-            number: 15,
-            place: 0,
-        };
-    }
     let n = words_of(number);
-    if suffix.len() != suffix_len(n) {
-        return Answer {
-            number: 15,
-            place: 0,
-        };
+    let due = suffix_len(n);
+    let fits = numbers_fit(&table, number, numbers);
+    let encodable = fits & (suffix.len() == due);
+    let room = n <= out.len() / 8;
+    let answer = verdict(encodable, room, n);
+    if encodable & room {
+        write_whole(&table, number, numbers, n, suffix, out);
     }
-    if out.len() / 8 < n {
-        return Answer {
-            number: 14,
-            place: n as u32,
-        };
-    }
-    write_whole(&table, number, numbers, n, suffix, out);
-    Answer {
-        number: 0,
-        place: n as u32,
-    }
+    answer
 }
 
 // Whether the flags of a triangle are those of its number.

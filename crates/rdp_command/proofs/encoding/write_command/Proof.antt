@@ -1,18 +1,19 @@
-use Prim.Native.Nat.{ℕ, _*_, _≤_}
-use mathlib.Core.Bool.{Bool, true, false, not, _&&_}
+use Prim.Native.Nat.{ℕ, _*_, _/_, _≤_}
+use mathlib.Core.Bool.{Bool, true, _&&_}
 use mathlib.Core.List.{List}
 use mathlib.Core.Path.{_≡_, ap, sym, _∙_}
 use native.Mathlib.Omega.{arith}
-use borrow.Author.Tests.{eq-eqb, ne-eqb, not-true, not-false}
-use lib.Dec.{eqb}
+use borrow.Author.Tests.{eqb-true, leb-true}
+use lib.Dec.{eqb, leb}
 use lib.ListN.{length}
 use denote.Ref.{now}
 use Rattle.rdp_command.specs.Kinds.{wordsOf}
 use Rattle.rdp_command.specs.Decode.{suffixWords}
-use Rattle.rdp_command.specs.Encode.{bytesWith}
+use Rattle.rdp_command.specs.Encode.{verdictOf, hasRoom, answerWith, outWith}
 use Rattle.rdp_command.specs.Numbers.{numbersFit}
+use Rattle.rdp_command.specs.declared.command.Answer.{Answer}
 use Rattle.rdp_command.proofs.KindLaws.{words-most}
-use Rattle.rdp_command.proofs.AnswerLaws.{answer, unfit, too-short, written, fit-parts}
+use Rattle.rdp_command.proofs.AnswerLaws.{and-true, fit-parts}
 use borrow.Author.Needs.{needs}
 use Rattle.rdp_command.proofs.encoding.write_command.Statement.{statement}
 use Rattle.rdp_command.proofs.encoding.write_command.Tie as tie
@@ -20,90 +21,102 @@ use Rattle.rdp_command.proofs.encoding.write_command.Tie as tie
 layout-table-requires : tie.Need-layout-table-requires
 layout-table-requires c κs = search needs
 
-numbers-fit-requires : tie.Need-numbers-fit-requires
-numbers-fit-requires c κs = search needs
-
-module _ (c : tie.Start) where
-  abbrev due : Bool
-  due = eqb (length (now (c .args .suffix))) (8 * suffixWords (wordsOf (c .args .number)))
-
-  abbrev bytes : List ℕ
-  bytes = bytesWith (c .args .number) (now (c .args .numbers)) (now (c .args .suffix))
-
-  due-true : {n : ℕ} → n ≡ wordsOf (c .args .number) → length (now (c .args .suffix)) ≡ 8 * suffixWords n → due ≡ true
-  due-true e l = eq-eqb _ _ (l ∙ ap (λ (k : ℕ). 8 * suffixWords k) e)
-
-fitting : (c : tie.After-numbers-fit) → not (c .numbers-fit .result) ≡ false → numbersFit (c .before .before .before .before .before .before .args .number) (now (c .before .before .before .before .before .before .args .numbers)) ≡ true
-fitting c e = sym (c .numbers-fit .ensures) ∙ not-false _ e
-
-few : (c : tie.After-words-of) → c .words-of .result ≤ 22
-few c = rw (c .words-of .ensures) (words-most _ (c .before .before .before .before .before .before .before .before .pre))
-
-returns : tie.Need-returns
-returns c =
-    let at = c .before .before .before .before .before .before .before in
-    let fit = sym (c .before .numbers-fit .ensures) ∙ not-true _ (c .if1 .taken) in
-    unfit (ap (λ (b : Bool). b && due at) fit) (at .args .number) (bytes at) (now (at .args .out))
-
 words-of-requires : tie.Need-words-of-requires
 words-of-requires c κs = search needs
+
+-- once the numbers are tested
+module _ (c : tie.After-numbers-fit) where
+  abbrev number : ℕ
+  number = c .before .before .before .before .before .before .before .before .args .number
+
+  abbrev numbers : List ℕ
+  numbers = now (c .before .before .before .before .before .before .before .before .args .numbers)
+
+  abbrev suffix : List ℕ
+  suffix = now (c .before .before .before .before .before .before .before .before .args .suffix)
+
+  abbrev out : List ℕ
+  out = now (c .before .before .before .before .before .before .before .before .args .out)
+
+  words : c .before .before .before .words-of .result ≡ wordsOf number
+  words = c .before .before .before .words-of .ensures
+
+  abbrev encodable : Bool
+  encodable = numbersFit number numbers && eqb (length suffix) (8 * suffixWords (wordsOf number))
+
+  -- the tests of the code are those of the definition
+  by-code : (c .numbers-fit .result && eqb (length suffix) (c .before .before .suffix-len .result)) ≡ encodable
+  by-code =
+      λ i.
+      c .numbers-fit .ensures i && eqb (length suffix) ((c .before .before .suffix-len .ensures ∙ ap (λ (k : ℕ). 8 * suffixWords k) words) i)
+
+  by-room : leb (c .before .before .before .words-of .result) (length out / 8) ≡ hasRoom number out
+  by-room = ap (λ (k : ℕ). leb k (length out / 8)) words
+
+  tests :
+      ((c .numbers-fit .result && eqb (length suffix) (c .before .before .suffix-len .result)) && leb (c .before .before .before .words-of .result) (length out / 8)) ≡
+      encodable && hasRoom number out
+  tests = λ i. by-code i && by-room i
+
+  both-true :
+      ((c .numbers-fit .result && eqb (length suffix) (c .before .before .suffix-len .result)) && leb (c .before .before .before .words-of .result) (length out / 8)) ≡ true →
+      (encodable ≡ true) × (hasRoom number out ≡ true)
+  both-true e = and-true encodable (hasRoom number out) (sym tests ∙ e)
+
+  answered :
+      {r : Answer} → r ≡
+      verdictOf (c .numbers-fit .result && eqb (length suffix) (c .before .before .suffix-len .result))
+      (leb (c .before .before .before .words-of .result) (length out / 8)) (c .before .before .before .words-of .result) →
+      r ≡ verdictOf encodable (hasRoom number out) (wordsOf number)
+  answered e = e ∙ (λ i. verdictOf (by-code i) (by-room i) (words i))
+
+few : (c : tie.After-words-of) → c .words-of .result ≤ 22
+few c = rw (c .words-of .ensures) (words-most _ (c .before .before .before .before .before .pre))
 
 suffix-len-requires : tie.Need-suffix-len-requires
 suffix-len-requires c κs = few c
 
-returns-2 : tie.Need-returns-2
-returns-2 c =
-    let at = c .before .before .before .before .before .before .before .before .before .before in
-    let words = c .before .before .words-of .ensures in
-    let no : due at ≡ false = ne-eqb _ _ (λ e. c .if2 .taken (e ∙ ap (λ (n : ℕ). 8 * suffixWords n) (sym words) ∙ sym (c .before .suffix-len .ensures))) in
-    unfit ((λ i. fitting (c .before .before .before .before) (c .before .before .before .if1 .left) i && due at) ∙ no) (at .args .number) (bytes at) (now (at .args .out))
+numbers-fit-requires : tie.Need-numbers-fit-requires
+numbers-fit-requires c κs = search needs
 
-cast-t13 : tie.Need-cast-t13
-cast-t13 c = omega (arith, few (c .before .before .before))
-
-returns-3 : tie.Need-returns-3
-returns-3 c =
-    let at = c .before .before .before .before .before .before .before .before .before .before .before in
-    let words = c .before .before .before .words-of .ensures in
-    let ok = (λ i. fitting (c .before .before .before .before .before) (c .before .before .before .before .if1 .left) i && due at) ∙ due-true at words (c .before .if2 .left ∙ c .before .before .suffix-len .ensures) in
-    let r = too-short ok (at .args .number) (bytes at) (now (at .args .out)) (rw words at (c .if3 .taken)) in
-    (ap (answer 14) words ∙ r .0, r .1)
+verdict-requires : tie.Need-verdict-requires
+verdict-requires c κs = few (c .before .before .before)
 
 write-whole-requires : tie.Need-write-whole-requires
 write-whole-requires c κs =
-    let at = c .before .before .before .before .before .before .before .before .before .before .before .before .before in
-    let n = fit-parts (at .args .number) (now (at .args .numbers)) (fitting (c .before .before .before .before .before .before .before) (c .before .before .before .before .before .before .if1 .left)) in (
-      c .before .before .before .before .before .before .before .before .before .layout-table .ensures,
-      (at .pre, (n .0, (c .before .before .before .before .before .words-of .ensures, (omega (arith, c .before .before .if3 .left), c .before .before .before .if2 .left ∙ c .before .before .before .before .suffix-len .ensures)))),
+    let at = c .before .before .before .before in
+    let parts = both-true at (c .before .before .if1 .taken) in
+    let ok = and-true (numbersFit (number at) (numbers at)) (eqb (length (suffix at)) (8 * suffixWords (wordsOf (number at)))) (parts .0) in
+    let n = fit-parts (number at) (numbers at) (ok .0) in (
+      c .before .before .before .before .before .before .before .before .layout-table .ensures,
+      (c .before .before .before .before .before .before .before .before .before .before .before .before .pre, (n .0, (words at, (omega (arith, words at, leb-true (wordsOf (number at)) (length (out at) / 8) (parts .1)), eqb-true (length (suffix at)) (8 * suffixWords (wordsOf (number at))) (ok .1) ∙ ap (λ (k : ℕ). 8 * suffixWords k) (sym (words at)))))),
     )
-
-cast-t18 : tie.Need-cast-t18
-cast-t18 c = omega (arith, few (c .before .before .before .before .before .before .before .before))
 
 same-length : tie.Need-same-length
 same-length c = search needs
 
-returns-4 : tie.Need-returns-4
-returns-4 c =
-    let at = c .before .before .before .before .before .before .before .before .before .before .before .before .before .before .before .before in
-    let words = c .before .before .before .before .before .before .before .before .words-of .ensures in
-    let ok = (λ i. fitting (c .before .before .before .before .before .before .before .before .before .before) (c .before .before .before .before .before .before .before .before .before .if1 .left) i && due at) ∙ due-true at words (c .before .before .before .before .before .before .if2 .left ∙ c .before .before .before .before .before .before .before .suffix-len .ensures) in
-    let r = written ok (at .args .number) (bytes at) (now (at .args .out)) (rw words at (c .before .before .before .before .before .if3 .left)) in
-    (ap (answer 0) words ∙ r .0, c .before .before .write-whole .ensures ∙ r .1)
+returns : tie.Need-returns
+unfolding answerWith outWith
+returns c =
+    let at = c .before .before .before .before .before .before .before in
+    (answered at (c .before .before .before .before .before .before .verdict .ensures), rw (sym (tests at) ∙ c .before .before .before .before .before .if1 .taken) (c .before .before .write-whole .ensures))
+
+returns-2 : tie.Need-returns-2
+unfolding answerWith outWith
+returns-2 c =
+    let at = c .before .before in
+    (answered at (c .before .verdict .ensures), rw (sym (tests at) ∙ c .if1 .left))
 
 pub write-command-spec : {M : Type 1} → statement M
 write-command-spec =
     tie.close
     (tie.spec
     layout-table-requires
-    numbers-fit-requires
-    returns
     words-of-requires
     suffix-len-requires
-    returns-2
-    cast-t13
-    returns-3
+    numbers-fit-requires
+    verdict-requires
     write-whole-requires
-    cast-t18
     same-length
-    returns-4)
+    returns
+    returns-2)

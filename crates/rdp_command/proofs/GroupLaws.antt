@@ -1,0 +1,405 @@
+-- A command from its own number and values is the command again, and the values of what was read are what was read. Assumes nothing.
+use Prim.Native.Nat.{ℕ, _+_, _-_, _*_, _/_, _%_, _^_, _<_}
+use mathlib.Core.Bool.{Bool, true, false, not, _&&_, _||_, false≢true}
+use mathlib.Core.List.{List, [], _∷_, _++_}
+use mathlib.Core.Path.{_≡_, refl, ap, sym, subst, _∙_}
+use native.Mathlib.Omega.{arith}
+use lib.Dec.{T, eqb, ltb, lit<}
+use lib.ListN.{length, getD, drop}
+use mir.Val.{boolByte}
+use borrow.Author.Tests.{eqb-true, eqb-false, ltb-true, not-true}
+use Rattle.rdp_command.specs.Kinds.{among, kindOf, isNoOperation}
+use Rattle.rdp_command.specs.Layout.{Line, layout, bit, bits, signedBits, textureModesLines, pixelModesLines, otherModesLines, scissorLines, tileDescriptorLines, triangleBaseLines, triangleHeadLines}
+use Rattle.rdp_command.specs.Fields.{Value, unsigned, signed, flag, shiftRight, bitsAt, fieldAt, fieldsOf}
+use Rattle.rdp_command.specs.Groups.{natAt, scissorOf, scissorValues, otherModesOf, otherModesValues, textureModesOf, textureModesValues, pixelModesOf, pixelModesValues, tileDescriptorOf, tileDescriptorValues, triangleBaseOf, triangleBaseValues}
+use Rattle.rdp_command.specs.Commands.{commandOf, valuesOf, numberOf}
+use Rattle.rdp_command.specs.Decode.{commandIn}
+use Rattle.rdp_command.specs.Encode.{numberFits}
+use Rattle.rdp_command.specs.declared.command.Scissor.{Scissor}
+use Rattle.rdp_command.specs.declared.command.OtherModes.{OtherModes}
+use Rattle.rdp_command.specs.declared.command.TextureModes.{TextureModes}
+use Rattle.rdp_command.specs.declared.command.PixelModes.{PixelModes}
+use Rattle.rdp_command.specs.declared.command.TileDescriptor.{TileDescriptor}
+use Rattle.rdp_command.specs.declared.command.TriangleBase.{TriangleBase}
+use Rattle.rdp_command.specs.declared.command.Command.{Command}
+use Rattle.rdp_command.specs.declared.command.Command.the-variants.{NoOperation, FillTriangle, TextureRectangle, TextureRectangleFlip, SyncLoad, SyncPipe, SyncTile, SyncFull, SetKeyGb, SetKeyR, SetConvert, SetScissor, SetPrimitiveDepth, SetOtherModes, LoadTlut, SetTileSize, LoadBlock, LoadTile, SetTile, FillRectangle, SetFillColor, SetFogColor, SetBlendColor, SetPrimitiveColor, SetEnvironmentColor, SetCombineMode, SetTextureImage, SetDepthImage, SetColorImage}
+use Rattle.rdp_command.proofs.Tests.{each, below, by-test}
+use Rattle.rdp_command.proofs.KindLaws.{no-operation-small, no-operation-lines}
+use Rattle.rdp_command.proofs.AnswerLaws.{and-true}
+use Rattle.rdp_command.proofs.Triangles.{layout-at, triangle-eighth, triangle-layout}
+use Rattle.rdp_command.proofs.CommandLaws.{triangle-command, low-command}
+
+-- ---- what holds of each number holds of all
+
+abbrev named : List ℕ
+named = 0x24 ∷ 0x25 ∷ 0x26 ∷ 0x27 ∷ 0x28 ∷ 0x29 ∷ 0x2A ∷ 0x2B ∷ 0x2C ∷ 0x2D ∷ 0x2E ∷ 0x2F ∷ 0x30 ∷ 0x32 ∷ 0x33 ∷ 0x34 ∷ 0x35 ∷ 0x36 ∷ 0x37 ∷ 0x38 ∷ 0x39 ∷ 0x3A ∷ 0x3B ∷ 0x3C ∷ 0x3D ∷ 0x3E ∷ 0x3F ∷ []
+
+Each : (ℕ → Type 0) → List ℕ → Type 0
+Each P [] = Unit
+Each P (k ∷ ks) = P k × Each P ks
+
+or-cases : {P : Type 0} (a b : Bool) → a || b ≡ true → (a ≡ true → P) → (b ≡ true → P) → P
+or-cases true b e p q = p refl
+or-cases false b e p q = q e
+
+pick : (P : ℕ → Type 0) (ks : List ℕ) → Each P ks → (n : ℕ) → among n ks ≡ true → P n
+unfolding Each
+pick P [] ps n e = absurd (false≢true e)
+pick P (k ∷ ks) ps n e =
+    or-cases (eqb n k) (among n ks) e (λ f. subst P (sym (eqb-true n k f)) (ps .0)) (λ f. pick P ks (ps .1) n f)
+
+true-of : (b : Bool) → T b → b ≡ true
+true-of true t = refl
+true-of false t = absurd t
+
+cases-of : (n : ℕ) → n < 64 → (eqb (n / 8) 1 || among n named) || isNoOperation n ≡ true
+unfolding isNoOperation kindOf
+cases-of n h = true-of _ (below 64 (λ k. (eqb (k / 8) 1 || among k named) || isNoOperation k) tt n h)
+
+by-number :
+    (P : ℕ → Type 0) → ((n : ℕ) → n / 8 ≡ 1 → P n) → Each P named → ((n : ℕ) → isNoOperation n ≡ true → P n) → (n : ℕ) → n < 64 → P n
+by-number P tri ps none n h =
+    or-cases (eqb (n / 8) 1 || among n named) (isNoOperation n) (cases-of n h)
+    (λ e. or-cases (eqb (n / 8) 1) (among n named) e (λ f. tri n (eqb-true (n / 8) 1 f)) (pick P named ps n))
+    (none n)
+
+-- ---- no operations
+
+noneTest : ℕ → Bool
+noneTest n = eqb n 0x31 || (ltb n 0x24 && not (eqb (n / 8) 1))
+
+none-cases : (n : ℕ) → isNoOperation n ≡ true → noneTest n ≡ true
+unfolding isNoOperation kindOf noneTest
+none-cases n e =
+    let t = below 64 (λ k. not (isNoOperation k) || noneTest k) tt n (no-operation-small n e) in
+    true-of (noneTest n) (rw e at t)
+
+pub none-command : (n : ℕ) (vs : List Value) → isNoOperation n ≡ true → commandOf n vs ≡ NoOperation n
+unfolding commandOf noneTest
+none-command n vs e =
+    or-cases (eqb n 0x31) (ltb n 0x24 && not (eqb (n / 8) 1)) (none-cases n e)
+    (λ f. let g = eqb-true n 0x31 f in ap (λ (k : ℕ). commandOf k vs) g ∙ ap NoOperation (sym g))
+    (λ f.
+    let r = and-true (ltb n 0x24) (not (eqb (n / 8) 1)) f in
+    low-command n vs (ltb-true n 0x24 (r .0)) (eqb-false (n / 8) 1 (not-true _ (r .1))))
+
+-- ---- flags
+
+flag-back : (b : Bool) → eqb (boolByte b) 1 ≡ b
+flag-back true = refl
+flag-back false = refl
+
+flag-kept : (n : ℕ) → boolByte (eqb (n % 2) 1) ≡ n % 2
+flag-kept n =
+    by-test (eqb (n % 2) 1) (λ t. rw t (sym (eqb-true (n % 2) 1 t)))
+    (λ f. let g : n % 2 ≡ 1 → ⊥ = eqb-false (n % 2) 1 f in rw f (omega arith))
+
+scissor-back : (g : Scissor) → scissorOf (scissorValues g) ≡ g
+scissor-back g = λ i. record {
+  «upper_left» = g .«upper_left»;
+  «field» = flag-back (g .«field») i;
+  odd = flag-back (g .odd) i;
+  «lower_right» = g .«lower_right»;
+}
+
+other-modes-back : (g : OtherModes) → otherModesOf (otherModesValues g) ≡ g
+other-modes-back g = λ i. record {
+  «atomic_prim» = flag-back (g .«atomic_prim») i;
+  «cycle_type» = g .«cycle_type»;
+  texture = record {
+    «persp_tex_en» = flag-back (g .texture .«persp_tex_en») i;
+    «detail_tex_en» = flag-back (g .texture .«detail_tex_en») i;
+    «sharpen_tex_en» = flag-back (g .texture .«sharpen_tex_en») i;
+    «tex_lod_en» = flag-back (g .texture .«tex_lod_en») i;
+    «tlut_en» = flag-back (g .texture .«tlut_en») i;
+    «tlut_type» = flag-back (g .texture .«tlut_type») i;
+    «sample_type» = flag-back (g .texture .«sample_type») i;
+    «mid_texel» = flag-back (g .texture .«mid_texel») i;
+    «bi_lerp_0» = flag-back (g .texture .«bi_lerp_0») i;
+    «bi_lerp_1» = flag-back (g .texture .«bi_lerp_1») i;
+    «convert_one» = flag-back (g .texture .«convert_one») i;
+  };
+  «key_en» = flag-back (g .«key_en») i;
+  «rgb_dither_sel» = g .«rgb_dither_sel»;
+  «alpha_dither_sel» = g .«alpha_dither_sel»;
+  blender = g .blender;
+  pixel = record {
+    «force_blend» = flag-back (g .pixel .«force_blend») i;
+    «alpha_cvg_select» = flag-back (g .pixel .«alpha_cvg_select») i;
+    «cvg_x_alpha» = flag-back (g .pixel .«cvg_x_alpha») i;
+    «z_mode» = g .pixel .«z_mode»;
+    «cvg_dest» = g .pixel .«cvg_dest»;
+    «color_on_cvg» = flag-back (g .pixel .«color_on_cvg») i;
+    «image_read_en» = flag-back (g .pixel .«image_read_en») i;
+    «z_update_en» = flag-back (g .pixel .«z_update_en») i;
+    «z_compare_en» = flag-back (g .pixel .«z_compare_en») i;
+    «antialias_en» = flag-back (g .pixel .«antialias_en») i;
+    «z_source_sel» = flag-back (g .pixel .«z_source_sel») i;
+    «dither_alpha_en» = flag-back (g .pixel .«dither_alpha_en») i;
+    «alpha_compare_en» = flag-back (g .pixel .«alpha_compare_en») i;
+  };
+}
+
+tile-descriptor-back : (g : TileDescriptor) → tileDescriptorOf (tileDescriptorValues g) ≡ g
+tile-descriptor-back g = λ i. record {
+  format = g .format;
+  size = g .size;
+  line = g .line;
+  address = g .address;
+  index = g .index;
+  palette = g .palette;
+  «clamp_t» = flag-back (g .«clamp_t») i;
+  «mirror_t» = flag-back (g .«mirror_t») i;
+  «mask_t» = g .«mask_t»;
+  «shift_t» = g .«shift_t»;
+  «clamp_s» = flag-back (g .«clamp_s») i;
+  «mirror_s» = flag-back (g .«mirror_s») i;
+  «mask_s» = g .«mask_s»;
+  «shift_s» = g .«shift_s»;
+}
+
+triangle-base-back : (g : TriangleBase) → triangleBaseOf (triangleBaseValues g) ≡ g
+triangle-base-back g = λ i. record {
+  shade = flag-back (g .shade) i;
+  texture = flag-back (g .texture) i;
+  zbuffer = flag-back (g .zbuffer) i;
+  lmajor = flag-back (g .lmajor) i;
+  level = g .level;
+  tile = g .tile;
+  yl = g .yl;
+  ym = g .ym;
+  yh = g .yh;
+  l = g .l;
+  h = g .h;
+  m = g .m;
+}
+
+-- a command from its own number and values
+pub command-back : (c : Command) → numberFits c ≡ true → commandOf (numberOf c) (valuesOf c) ≡ c
+unfolding commandOf
+command-back (NoOperation n) e = none-command n [] e
+command-back (FillTriangle g) e =
+    triangle-command (numberOf (FillTriangle g)) (triangleBaseValues g) (triangle-eighth g) ∙ ap FillTriangle (triangle-base-back g)
+command-back (TextureRectangle g) e = refl
+command-back (TextureRectangleFlip g) e = refl
+command-back SyncLoad e = refl
+command-back SyncPipe e = refl
+command-back SyncTile e = refl
+command-back SyncFull e = refl
+command-back (SetKeyGb g) e = refl
+command-back (SetKeyR g) e = refl
+command-back (SetConvert g) e = refl
+command-back (SetScissor g) e = ap SetScissor (scissor-back g)
+command-back (SetPrimitiveDepth g) e = refl
+command-back (SetOtherModes g) e = ap SetOtherModes (other-modes-back g)
+command-back (LoadTlut g) e = refl
+command-back (SetTileSize g) e = refl
+command-back (LoadBlock g) e = refl
+command-back (LoadTile g) e = refl
+command-back (SetTile g) e = ap SetTile (tile-descriptor-back g)
+command-back (FillRectangle g) e = refl
+command-back (SetFillColor g) e = refl
+command-back (SetFogColor g) e = refl
+command-back (SetBlendColor g) e = refl
+command-back (SetPrimitiveColor g) e = refl
+command-back (SetEnvironmentColor g) e = refl
+command-back (SetCombineMode g) e = refl
+command-back (SetTextureImage g) e = refl
+command-back (SetDepthImage g) e = refl
+command-back (SetColorImage g) e = refl
+
+-- the flags of what was read
+flag-kept-bits : (w k : ℕ) → boolByte (eqb (bitsAt (bit 0 k) w) 1) ≡ bitsAt (bit 0 k) w
+flag-kept-bits w k = let e : k - k + 1 ≡ 1 = omega arith in rw e (flag-kept (shiftRight w k))
+
+read-flag : (w : ℕ) (k : ℕ) → flag (eqb (bitsAt (bit 0 k) w) 1) ≡ unsigned (bitsAt (bit 0 k) w)
+read-flag w k = ap unsigned (flag-kept-bits w k)
+
+scissor-kept : (ws : List ℕ) → scissorValues (scissorOf (fieldsOf scissorLines ws)) ≡ fieldsOf scissorLines ws
+scissor-kept ws =
+    let w = getD ws 0 0 in
+    λ i.
+    fieldAt ws (bits 0 55 44) ∷
+    fieldAt ws (bits 0 43 32) ∷
+    read-flag w 25 i ∷
+    read-flag w 24 i ∷
+    fieldAt ws (bits 0 23 12) ∷
+    fieldAt ws (bits 0 11 0) ∷ []
+
+other-modes-kept : (ws : List ℕ) → otherModesValues (otherModesOf (fieldsOf otherModesLines ws)) ≡ fieldsOf otherModesLines ws
+other-modes-kept ws =
+    let w = getD ws 0 0 in
+    λ i.
+    read-flag w 55 i ∷
+    fieldAt ws (bits 0 53 52) ∷
+    read-flag w 51 i ∷
+    read-flag w 50 i ∷
+    read-flag w 49 i ∷
+    read-flag w 48 i ∷
+    read-flag w 47 i ∷
+    read-flag w 46 i ∷
+    read-flag w 45 i ∷
+    read-flag w 44 i ∷
+    read-flag w 43 i ∷
+    read-flag w 42 i ∷
+    read-flag w 41 i ∷
+    read-flag w 40 i ∷
+    fieldAt ws (bits 0 39 38) ∷
+    fieldAt ws (bits 0 37 36) ∷
+    fieldAt ws (bits 0 31 30) ∷
+    fieldAt ws (bits 0 29 28) ∷
+    fieldAt ws (bits 0 27 26) ∷
+    fieldAt ws (bits 0 25 24) ∷
+    fieldAt ws (bits 0 23 22) ∷
+    fieldAt ws (bits 0 21 20) ∷
+    fieldAt ws (bits 0 19 18) ∷
+    fieldAt ws (bits 0 17 16) ∷
+    read-flag w 14 i ∷
+    read-flag w 13 i ∷
+    read-flag w 12 i ∷
+    fieldAt ws (bits 0 11 10) ∷
+    fieldAt ws (bits 0 9 8) ∷
+    read-flag w 7 i ∷
+    read-flag w 6 i ∷
+    read-flag w 5 i ∷
+    read-flag w 4 i ∷
+    read-flag w 3 i ∷
+    read-flag w 2 i ∷
+    read-flag w 1 i ∷
+    read-flag w 0 i ∷ []
+
+tile-descriptor-kept : (ws : List ℕ) → tileDescriptorValues (tileDescriptorOf (fieldsOf tileDescriptorLines ws)) ≡ fieldsOf tileDescriptorLines ws
+tile-descriptor-kept ws =
+    let w = getD ws 0 0 in
+    λ i.
+    fieldAt ws (bits 0 55 53) ∷
+    fieldAt ws (bits 0 52 51) ∷
+    fieldAt ws (bits 0 49 41) ∷
+    fieldAt ws (bits 0 40 32) ∷
+    fieldAt ws (bits 0 26 24) ∷
+    fieldAt ws (bits 0 23 20) ∷
+    read-flag w 19 i ∷
+    read-flag w 18 i ∷
+    fieldAt ws (bits 0 17 14) ∷
+    fieldAt ws (bits 0 13 10) ∷
+    read-flag w 9 i ∷
+    read-flag w 8 i ∷
+    fieldAt ws (bits 0 7 4) ∷
+    fieldAt ws (bits 0 3 0) ∷ []
+
+triangle-base-kept : (ws : List ℕ) → triangleBaseValues (triangleBaseOf (fieldsOf triangleBaseLines ws)) ≡ fieldsOf triangleBaseLines ws
+triangle-base-kept ws =
+    let w = getD ws 0 0 in
+    λ i.
+    read-flag w 58 i ∷
+    read-flag w 57 i ∷
+    read-flag w 56 i ∷
+    read-flag w 55 i ∷
+    fieldAt ws (bits 0 53 51) ∷
+    fieldAt ws (bits 0 50 48) ∷
+    fieldAt ws (signedBits 0 45 32) ∷
+    fieldAt ws (signedBits 0 29 16) ∷
+    fieldAt ws (signedBits 0 13 0) ∷ drop 9 (fieldsOf triangleBaseLines ws)
+
+triangle-read : (n : ℕ) (ws : List ℕ) → n / 8 ≡ 1 → valuesOf (commandIn n ws) ≡ fieldsOf (layout n) ws
+triangle-read n ws e =
+    ap (λ (ls : List Line). valuesOf (commandOf n (fieldsOf ls ws))) (layout-at n e) ∙
+    ap valuesOf (triangle-command n (fieldsOf triangleBaseLines ws) e) ∙
+    triangle-base-kept ws ∙
+    ap (λ (ls : List Line). fieldsOf ls ws) (sym (layout-at n e))
+
+no-lines : (ls : List Line) (ws : List ℕ) → length ls ≡ 0 → [] ≡ fieldsOf ls ws
+no-lines [] ws e = refl
+no-lines (l ∷ ls) ws e = absurd (omega arith)
+
+none-read : (n : ℕ) (ws : List ℕ) → isNoOperation n ≡ true → valuesOf (commandIn n ws) ≡ fieldsOf (layout n) ws
+none-read n ws e =
+    ap valuesOf (none-command n (fieldsOf (layout n) ws) e) ∙ no-lines (layout n) ws (no-operation-lines n e)
+
+-- the values of a command that was read
+pub values-read : (n : ℕ) → n < 64 → (ws : List ℕ) → valuesOf (commandIn n ws) ≡ fieldsOf (layout n) ws
+unfolding commandOf layout Each
+values-read =
+    by-number (λ (n : ℕ). (ws : List ℕ) → valuesOf (commandIn n ws) ≡ fieldsOf (layout n) ws) (λ n e ws. triangle-read n ws e) (
+      λ ws. refl,
+      (
+        λ ws. refl,
+        (
+          λ ws. refl,
+          (
+            λ ws. refl,
+            (
+              λ ws. refl,
+              (
+                λ ws. refl,
+                (
+                  λ ws. refl,
+                  (
+                    λ ws. refl,
+                    (
+                      λ ws. refl,
+                      (
+                        scissor-kept,
+                        (
+                          λ ws. refl,
+                          (
+                            other-modes-kept,
+                            (
+                              λ ws. refl,
+                              (
+                                λ ws. refl,
+                                (
+                                  λ ws. refl,
+                                  (
+                                    λ ws. refl,
+                                    (
+                                      tile-descriptor-kept,
+                                      (
+                                        λ ws. refl,
+                                        (
+                                          λ ws. refl,
+                                          (
+                                            λ ws. refl,
+                                            (
+                                              λ ws. refl,
+                                              (
+                                                λ ws. refl,
+                                                (
+                                                  λ ws. refl,
+                                                  (
+                                                    λ ws. refl,
+                                                    (
+                                                      λ ws. refl,
+                                                      (
+                                                        λ ws. refl,
+                                                        (
+                                                          λ ws. refl,
+                                                          tt,
+                                                        ),
+                                                      ),
+                                                    ),
+                                                  ),
+                                                ),
+                                              ),
+                                            ),
+                                          ),
+                                        ),
+                                      ),
+                                    ),
+                                  ),
+                                ),
+                              ),
+                            ),
+                          ),
+                        ),
+                      ),
+                    ),
+                  ),
+                ),
+              ),
+            ),
+          ),
+        ),
+      ),
+    )
+    (λ n e ws. none-read n ws e)
