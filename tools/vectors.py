@@ -346,14 +346,14 @@ LISTS = [
         ('0x08: slopes of -1.5, 1.25 and -0.25.', [
             0x0800_01E0_0140_00A0, 0x0064_8000_3FFE_8000, 0x00C8_4000_0001_4000, 0x00C8_4000_3FFF_C000]),
         ('0x09: every signed field at an end of its range or at -1.', [
-            0x09BF_3FFF_3800_2000, 0x0FFF_FFFF_3FFF_0001, 0x0800_0000_2000_0000, 0x07FF_FFFF_1FFF_FFFF] + DEPTH),
+            0x09BF_3FFF_1FFF_2000, 0x0FFF_FFFF_3FFF_0001, 0x0800_0000_2000_0000, 0x07FF_FFFF_1FFF_FFFF] + DEPTH),
     ]),
     ('textured_triangle', [
         ('0x0A: every unused bit of the base set.', [
             0xCA6A_C123_F000_C064, 0xF123_4567_E001_89AB, 0xF9AB_CDEF_C001_8000, 0xFFFF_0000_FFFF_0000] + TEXTURE),
     ]),
     ('textured_triangle_with_depth', [
-        ('0x0B: negative heights, two of the three x and two slopes.', [
+        ('0x0B: the heights, two x and two slopes negative.', [
             0x0B84_3F9C_3F38_3E70, 0x0FF6_1999_3FFD_6666, 0x0014_E666_0002_9999, 0x0F38_0001_3FF0_FFFF] + TEXTURE + DEPTH),
     ]),
     ('shaded_triangle', [
@@ -365,7 +365,7 @@ LISTS = [
             0x0D80_0050_0010_3FC0, 0x0028_0000_3FFE_0000, 0x0FE0_8000_0000_8000, 0x0FE0_8000_0003_4000] + SHADE + DEPTH),
     ]),
     ('shaded_and_textured_triangle', [
-        ('0x0E: neighbouring fields differ in every bit.', [
+        ('0x0E: alternating bits.', [
             0x0EAD_1555_2AAA_1555, 0x0AAA_5555_2AAA_5555, 0x0555_AAAA_1555_AAAA, 0x0A5A_A5A5_1A5A_A5A5] + SHADE + TEXTURE),
     ]),
     ('whole_triangle', [
@@ -597,6 +597,11 @@ def bytes_of(words, length):
     return (whole + bytes(length))[:length]
 
 
+def every_number():
+    """A list for each number, zeros after it, long enough for every command."""
+    return [([number << 56], 192) for number in range(64)]
+
+
 def vectors():
     """Each list's function, comment, words and length in bytes."""
     for name, lists in LISTS:
@@ -619,7 +624,7 @@ def printed(words, length):
 
 
 def stdout():
-    shown = [printed(words, length) for _, _, words, length in vectors()]
+    shown = [printed(words, length) for words, length in [vector[2:] for vector in vectors()] + every_number()]
     return ''.join(line + '\n' for line in shown + [f'{number} {place}' for number, place in REFUSALS])
 
 

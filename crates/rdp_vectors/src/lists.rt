@@ -55,7 +55,7 @@ fn flat_triangles() {
     // 0x09: every signed field at an end of its range or at -1.
     show_words(
         &[
-            0x09BF_3FFF_3800_2000,
+            0x09BF_3FFF_1FFF_2000,
             0x0FFF_FFFF_3FFF_0001,
             0x0800_0000_2000_0000,
             0x07FF_FFFF_1FFF_FFFF,
@@ -88,7 +88,7 @@ fn textured_triangle() {
 }
 
 fn textured_triangle_with_depth() {
-    // 0x0B: negative heights, two of the three x and two slopes.
+    // 0x0B: the heights, two x and two slopes negative.
     show_words(
         &[
             0x0B84_3F9C_3F38_3E70,
@@ -155,7 +155,7 @@ fn shaded_triangle_with_depth() {
 }
 
 fn shaded_and_textured_triangle() {
-    // 0x0E: neighbouring fields differ in every bit.
+    // 0x0E: alternating bits.
     show_words(
         &[
             0x0EAD_1555_2AAA_1555,

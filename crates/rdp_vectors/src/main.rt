@@ -1,4 +1,4 @@
-// Decodes and encodes the lists of lists.rt, and prints a line for each:
+// Decodes and encodes the lists of lists.rt, and one for each command number, and prints a line for each:
 //
 //     number fields = words same
 //
@@ -10,7 +10,17 @@ mod refusals;
 mod show;
 mod text;
 
+// A list for each command number, zeros after it, long enough for every command.
+fn show_every_number() {
+    let mut number = 0u64;
+    while number < 64 {
+        show::show_words(&[number << 56], 192);
+        number += 1;
+    }
+}
+
 fn main() {
     lists::show_lists();
+    show_every_number();
     refusals::show_refusals();
 }
