@@ -530,6 +530,8 @@ REFUSALS = [
     encoding(0x23, [], 0, LONG, no_operation=True),
     encoding(0x24, [], 0, LONG, no_operation=True),
     encoding(0x08, [], 0, LONG, no_operation=True),
+    encoding(0x26, [], 0, LONG, no_operation=True),
+    encoding(0x29, [], 0, LONG, no_operation=True),
     encoding(0x30, [], 0, LONG, no_operation=True),
     encoding(0x40, [], 0, LONG, no_operation=True),
     encoding(0xFF, [], 0, LONG, no_operation=True),
@@ -589,6 +591,10 @@ REFUSALS = [
 ]
 
 
+# The words of 15 bytes, all bits set, at places 0, 1 and 2^61: only place 0 has a whole word.
+WORDS_BEYOND = ' ' + ' '.join(f'{word:016x}' for word in ((1 << 64) - 1, 0, 0))
+
+
 # ---- The two files.
 
 def bytes_of(words, length):
@@ -620,12 +626,12 @@ def printed(words, length):
     base = words_of(number) - suffix_words(number)
     again = encoded(number, values, own[base:words_of(number)])
     assert decoded(number, again) == values and encoding(number, values, 8 * suffix_words(number), LONG) == (0, len(again))
-    return ' '.join([f'{number:02x}', *map(str, values), '=', *(f'{word:016x}' for word in again), 'same'])
+    return ' '.join([f'{number:02x}', *map(str, values), '=', *(f'{word:016x}' for word in again), 'f' * 16, 'same'])
 
 
 def stdout():
     shown = [printed(words, length) for words, length in [vector[2:] for vector in vectors()] + every_number()]
-    return ''.join(line + '\n' for line in shown + [f'{number} {place}' for number, place in REFUSALS])
+    return ''.join(line + '\n' for line in shown + [f'{number} {place}' for number, place in REFUSALS] + [WORDS_BEYOND])
 
 
 def grouped(word):

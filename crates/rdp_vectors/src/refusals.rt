@@ -16,6 +16,7 @@ pub fn show_refusals() {
     wrong_numbers();
     wrong_signed_numbers();
     wrong_triangles();
+    words_beyond_a_list();
 }
 
 // Encodes with a suffix of as many zeros into room bytes.
@@ -143,6 +144,8 @@ fn wrong_no_operations() {
     show_encoding(Command::NoOperation(0x23), 0, 184);
     show_encoding(Command::NoOperation(0x24), 0, 184);
     show_encoding(Command::NoOperation(0x08), 0, 184);
+    show_encoding(Command::NoOperation(0x26), 0, 184);
+    show_encoding(Command::NoOperation(0x29), 0, 184);
     show_encoding(Command::NoOperation(0x30), 0, 184);
     show_encoding(Command::NoOperation(0x40), 0, 184);
     show_encoding(Command::NoOperation(0xFF), 0, 184);
@@ -229,4 +232,13 @@ fn wrong_triangles() {
     show_triangle(0x0A, 0, 1, 0, 0xFFFF_FFFF_FFFF_DFFF);
     show_triangle(0x0A, 0, 1, 0, 8192);
     show_triangle(0x0A, 0, 1, 0, 0x3FFF);
+}
+
+// A place past the whole words of a list has the word 0.
+fn words_beyond_a_list() {
+    let list = [255u8; 15];
+    text::word(rdp_command::word_at(&list, 0));
+    text::word(rdp_command::word_at(&list, 1));
+    text::word(rdp_command::word_at(&list, 0x2000_0000_0000_0000));
+    text::print(b"\n");
 }

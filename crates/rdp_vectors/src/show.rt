@@ -63,7 +63,10 @@ fn show(list: &[u8]) {
             show_command(list, command);
         }
         Decoded::Refused(answer) => {
-            text::print(b"refused ");
+            text::print(b"refused");
+            // A list that is refused has no suffix, so that this prints nothing.
+            text::words(rdp_command::suffix(list));
+            text::print(b" ");
             text::answer(answer);
         }
     }
@@ -82,7 +85,8 @@ fn show_command(list: &[u8], command: Command) {
     );
 }
 
-// The fields, the words, and whether the fields give the words back. The output starts with all bits set, so that unused bits are seen to be cleared.
+// The fields, the words with the one after them, and whether the fields give the words back. The output starts with all bits set: it shows that unused
+// bits are cleared and that what follows the command is left.
 fn show_numbers(number: u8, numbers: &[u64], list: &[u8], command: Command) {
     text::numbers(numbers);
     let mut out = [255u8; 184];
@@ -93,7 +97,7 @@ fn show_numbers(number: u8, numbers: &[u64], list: &[u8], command: Command) {
         return;
     }
     text::print(b" =");
-    text::words(front(&out, 8 * (answer.place as usize)));
+    text::words(front(&out, 8 * (answer.place as usize) + 8));
     show_same(number, numbers, list, &out);
 }
 

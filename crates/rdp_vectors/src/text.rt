@@ -31,7 +31,7 @@ pub fn numbers(all: &[u64]) {
 }
 
 // A word, after a space.
-fn word(w: u64) {
+pub fn word(w: u64) {
     print(b" ");
     hex(w, 16);
 }
