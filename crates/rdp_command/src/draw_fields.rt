@@ -35,15 +35,16 @@ pub fn scissor(w: u64) -> Scissor
 pub fn rectangle(w: u64) -> Rectangle
     ensures { λ r. ⌜ r ≡ rectangleOf (fieldsOf rectangleLines (w ∷ [])) ⌝ }
 {
+    let right = ((w >> 44) % 0x1000) as u16;
+    let bottom = ((w >> 32) % 0x1000) as u16;
+    let left = ((w >> 12) % 0x1000) as u16;
+    let top = (w % 0x1000) as u16;
     Rectangle {
         lower_right: Corner {
-            x: ((w >> 44) % 0x1000) as u16,
-            y: ((w >> 32) % 0x1000) as u16,
+            x: right,
+            y: bottom,
         },
-        upper_left: Corner {
-            x: ((w >> 12) % 0x1000) as u16,
-            y: (w % 0x1000) as u16,
-        },
+        upper_left: Corner { x: left, y: top },
     }
 }
 
