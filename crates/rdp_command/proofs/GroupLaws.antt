@@ -34,7 +34,7 @@ use Rattle.rdp_command.proofs.CommandLaws.{triangle-command, low-comman
 abbrev named : List ℕ
 named = 0x24 ∷ 0x25 ∷ 0x26 ∷ 0x27 ∷ 0x28 ∷ 0x29 ∷ 0x2A ∷ 0x2B ∷ 0x2C ∷ 0x2D ∷ 0x2E ∷ 0x2F ∷ 0x30 ∷ 0x32 ∷ 0x33 ∷ 0x34 ∷ 0x35 ∷ 0x36 ∷ 0x37 ∷ 0x38 ∷ 0x39 ∷ 0x3A ∷ 0x3B ∷ 0x3C ∷ 0x3D ∷ 0x3E ∷ 0x3F ∷ []
 
-Each : (ℕ → Type 0) → List ℕ → Type 0
+unfoldable pub Each : (ℕ → Type 0) → List ℕ → Type 0
 Each P [] = Unit
 Each P (k ∷ ks) = P k × Each P ks
 
@@ -56,7 +56,7 @@ cases-of : (n : ℕ) → n < 64 → (eqb (n / 8) 1 || among n named) || isNoOper
 unfolding isNoOperation kindOf
 cases-of n h = true-of _ (below 64 (λ k. (eqb (k / 8) 1 || among k named) || isNoOperation k) tt n h)
 
-by-number :
+pub by-number :
     (P : ℕ → Type 0) → ((n : ℕ) → n / 8 ≡ 1 → P n) → Each P named → ((n : ℕ) → isNoOperation n ≡ true → P n) → (n : ℕ) → n < 64 → P n
 by-number P tri ps none n h =
     or-cases (eqb (n / 8) 1 || among n named) (isNoOperation n) (cases-of n h)
@@ -209,7 +209,7 @@ command-back (SetDepthImage g) e = refl
 command-back (SetColorImage g) e = refl
 
 -- the flags of what was read
-flag-kept-bits : (w k : ℕ) → boolByte (eqb (bitsAt (bit 0 k) w) 1) ≡ bitsAt (bit 0 k) w
+pub flag-kept-bits : (w k : ℕ) → boolByte (eqb (bitsAt (bit 0 k) w) 1) ≡ bitsAt (bit 0 k) w
 flag-kept-bits w k = let e : k - k + 1 ≡ 1 = omega arith in rw e (flag-kept (shiftRight w k))
 
 read-flag : (w : ℕ) (k : ℕ) → flag (eqb (bitsAt (bit 0 k) w) 1) ≡ unsigned (bitsAt (bit 0 k) w)

@@ -12,3 +12,6 @@ pub mod ValueLaws
 pub mod LayoutLaws
 pub mod AnswerLaws
 pub mod GroupLaws
+pub mod WordLaws
+pub mod NumberLaws
+pub mod Laws

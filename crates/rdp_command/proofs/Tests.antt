@@ -11,6 +11,10 @@ pub both : (a b : Bool) → T (a && b) → T a × T b
 both true b t = (tt, t)
 both false b t = absurd t
 
+pub both-of : (a b : Bool) → T a → T b → T (a && b)
+both-of true b t u = u
+both-of false b t u = absurd t
+
 -- the test f passes at each number below k
 abbrev pub each : (ℕ → Bool) → ℕ → Bool
 each f zero = true

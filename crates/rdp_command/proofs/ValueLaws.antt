@@ -6,7 +6,7 @@ use native.Mathlib.Nat.{mod-eq-of-lt, mod-lt, add-mul-mod-self-right, pow-suc, m
 use native.Mathlib.Numerals.{sub-one}
 use native.Mathlib.Omega.{arith}
 use borrow.Author.Tests.{lt-ltb, le-ltb, ltb-true, ltb-false}
-use lib.Dec.{ltb}
+use lib.Dec.{T, ltb}
 use lib.IntN.{ℤ, pos, negsuc}
 use lib.Pow.{pow-pos, pow-add, pow-mono}
 use lib.Signed.{mag}
@@ -71,6 +71,21 @@ module _ (w : ℕ) (p : 0 < w) (q : w ≤ 64) where
 
 -- ---- values of lines
 
+-- a value of a signed line is signed, of any other unsigned
+abbrev pub kind : Bool → Value → Bool
+kind false (unsigned n) = true
+kind false (signed z) = false
+kind true (unsigned n) = false
+kind true (signed z) = true
+
+pub kind-from : (s : Bool) (n : ℕ) → T (kind s (valueFrom s n))
+kind-from false n = tt
+kind-from true n = tt
+
+pub number-from : (s : Bool) (n : ℕ) → n < 2 ^ 64 → numberOfValue (valueFrom s n) ≡ n
+number-from false n h = refl
+number-from true n h = ofZ-toZ {w = w64} {n = n} (record { fits = h })
+
 module _ (l : Line) (q : width l ≤ 64) where
   abbrev w : ℕ
   w = width l
@@ -78,18 +93,18 @@ module _ (l : Line) (q : width l ≤ 64) where
   one : 0 < w
   one = omega arith
 
-  -- a number that fits a line is the value of its low bits
-  pub value-back : (n : ℕ) → n < 2 ^ 64 → fitsLine l (valueFrom (l .signed) n) ≡ true → valueOf (l .signed) w (n % 2 ^ w) ≡ valueFrom (l .signed) n
-  value-back n h = by (l .signed)
+  -- a value that fits a line of its kind is read back from its low bits
+  pub value-back : (v : Value) → T (kind (l .signed) v) → fitsLine l v ≡ true → valueOf (l .signed) w (numberOfValue v % 2 ^ w) ≡ v
+  value-back v = by (l .signed) v
     where
-      by : (s : Bool) → fitsLine l (valueFrom s n) ≡ true → valueOf s w (n % 2 ^ w) ≡ valueFrom s n
-      by false e = ap unsigned (mod-eq-of-lt (ltb-true n (2 ^ w) e))
-      by true e =
-          let g : mag (toZ w64 n) < 2 ^ (w - 1) = ltb-true (mag (toZ w64 n)) (2 ^ (w - 1)) e in
+      by : (s : Bool) (v : Value) → T (kind s v) → fitsLine l v ≡ true → valueOf s w (numberOfValue v % 2 ^ w) ≡ v
+      by false (unsigned n) t e = ap unsigned (mod-eq-of-lt (ltb-true n (2 ^ w) e))
+      by false (signed z) t e = absurd t
+      by true (unsigned n) t e = absurd t
+      by true (signed z) t e =
           ap signed
-          (ap (λ (x : ℕ). twosComplement (2 ^ (w - 1)) (x % 2 ^ w)) (sym (ofZ-toZ {w = w64} {n = n} (record { fits = h }))) ∙
-          ap (λ (x : ℕ). twosComplement (2 ^ (w - 1)) (ofZ w64 (toZ w64 n) % x)) (doubled w one q) ∙
-          signed-back (2 ^ (w - 1)) (2 ^ (64 - w) - 1) (multiple w one q) (toZ w64 n) g)
+          (ap (λ (x : ℕ). twosComplement (2 ^ (w - 1)) (ofZ w64 z % x)) (doubled w one q) ∙
+          signed-back (2 ^ (w - 1)) (2 ^ (64 - w) - 1) (multiple w one q) z (ltb-true (mag z) (2 ^ (w - 1)) e))
 
   -- what is read fits, and its number has the same low bits
   module _ (b : ℕ) (h : b < 2 ^ w) where

@@ -8,3 +8,4 @@ pub mod Commands
 pub mod Decode
 pub mod Encode
 pub mod Numbers
+pub mod Kept

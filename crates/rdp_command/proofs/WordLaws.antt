@@ -1,0 +1,63 @@
+-- Words read back from the bytes that were written. Assumes nothing.
+use Prim.Native.Nat.{ℕ, zero, suc, _+_, _*_, _/_, _%_, _^_, _≤_, _<_}
+use mathlib.Core.List.{List, [], _∷_, _++_, append-assoc}
+use mathlib.Core.Path.{_≡_, refl, ap, sym, _∙_}
+use native.Mathlib.Nat.{mod-eq-of-lt, not-suc-le-zero}
+use native.Mathlib.Omega.{arith}
+use borrow.Author.Tests.{lt-ltb, eqb-true, eqb-false}
+use lib.Dec.{eqb}
+use lib.ListN.{length, drop}
+use lib.Pow.{mod-pow-add, split, shr-shr, shr-lt}
+use lib.Seq.{drop-at}
+use Rattle.rdp_command.specs.Words.{halfOf, wordOf, wordAt, bytesOf}
+use Rattle.rdp_command.specs.Encode.{packedWord, packedBytes}
+use Rattle.rdp_command.proofs.Tests.{by-test}
+use Rattle.rdp_command.proofs.Bytes.{packed-long}
+
+regroup : (a b c d : ℕ) → a + (b + (c + d)) ≡ a + b + c + d
+regroup a b c d = omega arith
+
+-- four bytes of a number
+four : (x : ℕ) → x / 2 ^ 24 % 256 * 2 ^ 24 + x / 2 ^ 16 % 256 * 2 ^ 16 + x / 2 ^ 8 % 256 * 2 ^ 8 + x % 256 ≡ x % 2 ^ 32
+four x =
+    sym
+    (mod-pow-add x 8 24 ∙
+    ap (λ (r : ℕ). x / 2 ^ 24 % 256 * 2 ^ 24 + r) (mod-pow-add x 8 16 ∙ ap (λ (r : ℕ). x / 2 ^ 16 % 256 * 2 ^ 16 + r) (mod-pow-add x 8 8)) ∙
+    regroup (x / 2 ^ 24 % 256 * 2 ^ 24) (x / 2 ^ 16 % 256 * 2 ^ 16) (x / 2 ^ 8 % 256 * 2 ^ 8) (x % 256))
+
+high-half : (w : ℕ) (rest : List ℕ) → w < 2 ^ 64 → halfOf (bytesOf w ++ rest) ≡ w / 2 ^ 32
+unfolding halfOf
+high-half w rest h =
+    (λ i. sym (shr-shr w 32 24) i % 256 * 2 ^ 24 + sym (shr-shr w 32 16) i % 256 * 2 ^ 16 + sym (shr-shr w 32 8) i % 256 * 2 ^ 8 + w / 2 ^ 32 % 256) ∙
+    four (w / 2 ^ 32) ∙
+    mod-eq-of-lt (shr-lt 32 32 h)
+
+low-half : (w : ℕ) (rest : List ℕ) → halfOf (drop 4 (bytesOf w ++ rest)) ≡ w % 2 ^ 32
+unfolding halfOf
+low-half w rest = four w
+
+pub word-back : (w : ℕ) (rest : List ℕ) → w < 2 ^ 64 → wordOf (bytesOf w ++ rest) ≡ w
+word-back w rest h = (λ i. high-half w rest h i * 2 ^ 32 + low-half w rest i) ∙ split w 32
+
+pub word-whole : (bs : List ℕ) (k : ℕ) → k < length bs / 8 → wordAt bs k ≡ wordOf (drop (8 * k) bs)
+unfolding wordAt
+word-whole bs k h = rw (lt-ltb _ _ h)
+
+-- word k of the words of a command, whatever follows them
+pub packed-at :
+    (n : ℕ) (ns : List ℕ) (m k : ℕ) (more : List ℕ) → k < m → packedWord n ns k < 2 ^ 64 → wordOf (drop (8 * k) (packedBytes n ns m ++ more)) ≡ packedWord n ns k
+unfolding packedBytes
+packed-at n ns zero k more h s = absurd (not-suc-le-zero h)
+packed-at n ns (suc m) k more h s =
+    ap (λ (bs : List ℕ). wordOf (drop (8 * k) bs)) (append-assoc (packedBytes n ns m) (bytesOf (packedWord n ns m)) more) ∙
+    by-test (eqb k m)
+    (λ t.
+    let e = eqb-true k m t in
+    let long : length (packedBytes n ns m) ≡ 8 * k = omega (arith, packed-long n ns m) in
+    ap wordOf (drop-at (packedBytes n ns m) (bytesOf (packedWord n ns m) ++ more) (8 * k) long) ∙
+    ap (λ (j : ℕ). wordOf (bytesOf (packedWord n ns j) ++ more)) (sym e) ∙
+    word-back (packedWord n ns k) more s)
+    (λ f.
+    let g : k ≡ m → ⊥ = eqb-false k m f in
+    let r : k < m = omega arith in
+    packed-at n ns m k (bytesOf (packedWord n ns m) ++ more) r s)
