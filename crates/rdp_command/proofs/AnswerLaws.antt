@@ -57,19 +57,14 @@ fit-parts n ns e =
     (eqb-true _ _ (r .0), r .1)
 
 module _ (n : ℕ) (ns : List ℕ) where
-  pub accepted :
-      n < 64 → numbersFit n ns ≡ true → flagsAgree n ns ≡ true → {r : Command} → r ≡ commandOf n (valuesFrom (layout n) ns) → Whole r ≡ fromNumbers n ns
+  pub accepted : n < 64 → numbersFit n ns && flagsAgree n ns ≡ true → {r : Command} → r ≡ commandOf n (valuesFrom (layout n) ns) → Whole r ≡ fromNumbers n ns
   unfolding fromNumbers
-  accepted h f g e = rw (lt-ltb _ _ h, f, g) (ap Whole e)
+  accepted h f e = rw (lt-ltb _ _ h, f) (ap Whole e)
 
   pub too-large : 64 ≤ n → Refused (answer 15 0) ≡ fromNumbers n ns
   unfolding fromNumbers
   too-large h = rw (le-ltb _ _ h)
 
-  pub misfit : n < 64 → numbersFit n ns ≡ false → Refused (answer 15 0) ≡ fromNumbers n ns
+  pub misfit : n < 64 → numbersFit n ns && flagsAgree n ns ≡ false → Refused (answer 15 0) ≡ fromNumbers n ns
   unfolding fromNumbers
   misfit h f = rw (lt-ltb _ _ h, f)
-
-  pub contradicted : n < 64 → numbersFit n ns ≡ true → flagsAgree n ns ≡ false → Refused (answer 15 0) ≡ fromNumbers n ns
-  unfolding fromNumbers
-  contradicted h f g = rw (lt-ltb _ _ h, f, g)

@@ -6,11 +6,13 @@ use lib.Dec.{eqb, ltb}
 use lib.ListN.{length, take, drop}
 use Rattle.rdp_command.specs.Words.{wordAt, numberIn}
 use Rattle.rdp_command.specs.Kinds.{wordsOf}
-use Rattle.rdp_command.specs.Layout.{layout}
+use Rattle.rdp_command.specs.Layout.{layout, scissorLines, otherModesLines, rectangleLines, fillColorLines, colorImageLines}
 use Rattle.rdp_command.specs.Fields.{fieldsOf}
+use Rattle.rdp_command.specs.Groups.{natAt, scissorOf, otherModesOf, rectangleOf, imageOf}
 use Rattle.rdp_command.specs.Commands.{commandOf}
 use Rattle.rdp_command.specs.declared.command.Answer.{Answer}
 use Rattle.rdp_command.specs.declared.command.Command.{Command}
+use Rattle.rdp_command.specs.declared.command.DrawFields.{DrawFields}
 use Rattle.rdp_command.specs.declared.command.Decoded.{Decoded}
 use Rattle.rdp_command.specs.declared.command.Decoded.the-variants.{Whole, Refused}
 
@@ -33,6 +35,17 @@ ownWords bs n = wordAt bs 0 ∷ ownWord bs n 1 ∷ ownWord bs n 2 ∷ ownWord bs
 -- the command of a number out of its words
 abbrev pub commandIn : ℕ → List ℕ → Command
 commandIn n ws = commandOf n (fieldsOf (layout n) ws)
+
+-- the fields that the check and the drawing read of a word, as each command that they look into has them
+abbrev pub drawFieldsOf : ℕ → DrawFields
+drawFieldsOf w =
+    record {
+      «cycle_type» = otherModesOf (fieldsOf otherModesLines (w ∷ [])) .«cycle_type»;
+      scissor = scissorOf (fieldsOf scissorLines (w ∷ []));
+      rectangle = rectangleOf (fieldsOf rectangleLines (w ∷ []));
+      «fill_color» = natAt (fieldsOf fillColorLines (w ∷ [])) 0;
+      «color_image» = imageOf (fieldsOf colorImageLines (w ∷ []));
+    }
 
 -- what decoding answers: 3 at 0 where the words of the first command are not all there, else the command
 unfoldable pub decodeOf : List ℕ → Decoded

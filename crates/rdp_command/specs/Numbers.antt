@@ -11,9 +11,11 @@ use Rattle.rdp_command.specs.Words.{overwrite}
 use Rattle.rdp_command.specs.Layout.{Line, layout}
 use Rattle.rdp_command.specs.Fields.{Value, unsigned, signed, allFit}
 use Rattle.rdp_command.specs.Commands.{commandOf, numberOf, valuesOf}
+use Rattle.rdp_command.specs.Decode.{commandIn}
 use Rattle.rdp_command.specs.Encode.{numbersOf, numberFits}
 use Rattle.rdp_command.specs.declared.command.Answer.{Answer}
 use Rattle.rdp_command.specs.declared.values.Numbers.{Numbers}
+use Rattle.rdp_command.specs.declared.encoding.Packed.{Packed}
 use Rattle.rdp_command.specs.declared.command.Command.{Command}
 use Rattle.rdp_command.specs.declared.command.Decoded.{Decoded}
 use Rattle.rdp_command.specs.declared.command.Decoded.the-variants.{Whole, Refused}
@@ -49,7 +51,7 @@ flagsAgree n ns =
 -- the command of a number and its fields, or 15 at 0: a number of 64 or more, a wrong count, a field beyond its bits, flags that contradict the number
 unfoldable pub fromNumbers : ℕ → List ℕ → Decoded
 fromNumbers n ns =
-    cond ((ltb n 64 && numbersFit n ns) && flagsAgree n ns) (Whole (commandOf n (valuesFrom (layout n) ns)))
+    cond (ltb n 64 && (numbersFit n ns && flagsAgree n ns)) (Whole (commandOf n (valuesFrom (layout n) ns)))
     (Refused (record { number = 15; place = 0 }))
 
 -- a number and numbers of fields, with zeros after them
@@ -63,3 +65,8 @@ pub record Spread (c : Command) (r : Numbers) : Type 0 where
   pub sized : numberFits c ≡ true → length (layout (numberOf c)) ≡ length (numbersOf c)
   pub small : numberFits c ≡ true → numberOf c < 64
   pub few : length (numbersOf c) ≤ 37
+
+-- whether a number and numbers make a command, and its words before the suffix
+pub record PackedIs (n : ℕ) (ns : List ℕ) (r : Packed) : Type 0 where
+  pub ok : r .ok ≡ numbersFit n ns && flagsAgree n ns
+  pub words : r .ok ≡ true → commandIn n (r .w0 ∷ r .w1 ∷ r .w2 ∷ r .w3 ∷ []) ≡ commandOf n (valuesFrom (layout n) ns)

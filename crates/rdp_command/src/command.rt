@@ -238,6 +238,16 @@ pub struct Image {
     pub address: u32,
 }
 
+// What the check and the drawing read of a word, as each of the commands that they look into would have it.
+#[repr(C)]
+pub struct DrawFields {
+    pub cycle_type: u8,
+    pub scissor: Scissor,
+    pub rectangle: Rectangle,
+    pub fill_color: u32,
+    pub color_image: Image,
+}
+
 // A decoded command.
 pub enum Command {
     // A no operation keeps its number.

@@ -22,7 +22,7 @@ fn low_command(number: u8, w0: u64, w1: u64) -> Command
         0x2A => Command::SetKeyGb(read::key_gb(w0)),
         0x2B => Command::SetKeyR(read::key_r(w0)),
         0x2C => Command::SetConvert(read::convert(w0)),
-        0x2D => Command::SetScissor(draw_fields::scissor(w0)),
+        0x2D => Command::SetScissor(read::scissor(w0)),
         0x2E => Command::SetPrimitiveDepth(read::primitive_depth(w0)),
         0x2F => Command::SetOtherModes(read::other_modes(w0)),
         _ => Command::NoOperation(number),
@@ -40,8 +40,8 @@ fn high_command(number: u8, w: u64) -> Command
         0x33 => Command::LoadBlock(read::block(w)),
         0x34 => Command::LoadTile(read::tile_area(w)),
         0x35 => Command::SetTile(read::tile_descriptor(w)),
-        0x36 => Command::FillRectangle(draw_fields::rectangle(w)),
-        0x37 => Command::SetFillColor(draw_fields::fill_color(w)),
+        0x36 => Command::FillRectangle(read::rectangle(w)),
+        0x37 => Command::SetFillColor(read::fill_color(w)),
         0x38 => Command::SetFogColor(read::color(w)),
         0x39 => Command::SetBlendColor(read::color(w)),
         0x3A => Command::SetPrimitiveColor(read::primitive_color(w)),
@@ -49,7 +49,7 @@ fn high_command(number: u8, w: u64) -> Command
         0x3C => Command::SetCombineMode(read::combine_mode(w)),
         0x3D => Command::SetTextureImage(read::image(w)),
         0x3E => Command::SetDepthImage(read::depth_image(w)),
-        0x3F => Command::SetColorImage(draw_fields::color_image(w)),
+        0x3F => Command::SetColorImage(read::color_image(w)),
         _ => Command::NoOperation(number),
     }
 }

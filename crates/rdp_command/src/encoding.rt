@@ -11,7 +11,7 @@ ghost use Rattle.rdp_command.specs.Layout.{layout};
 ghost use Rattle.rdp_command.specs.Table.{Agrees};
 ghost use Rattle.rdp_command.specs.Decode.{suffixWords};
 ghost use Rattle.rdp_command.specs.Encode.{fixedBits, packedWord, packedBytes, baseWords, bytesWith, verdictOf, answerWith, outWith};
-ghost use Rattle.rdp_command.specs.Numbers.{numbersFit, flagsAgree, fromNumbers};
+ghost use Rattle.rdp_command.specs.Numbers.{numbersFit, flagsAgree, PackedIs};
 use crate::command::*;
 use crate::decoding;
 use crate::packing;
@@ -168,23 +168,37 @@ fn flags_agree(number: u8, numbers: &[u64]) -> bool
     true
 }
 
-// The command of a number and the numbers of its fields, or 15 at 0.
-pub fn command_of(number: u8, numbers: &[u64]) -> Decoded
+// The words of a command before its suffix, where ok; those that it does not have are 0.
+pub struct Packed {
+    pub ok: bool,
+    pub w0: u64,
+    pub w1: u64,
+    pub w2: u64,
+    pub w3: u64,
+}
+
+// The words of a number and the numbers of its fields, where these make a command.
+pub fn packed_words(number: u8, numbers: &[u64]) -> Packed
     requires { ⌜ number < 64 ⌝ }
-    ensures { λ r. ⌜ r ≡ fromNumbers number (now (numbers .entry)) ⌝ }
+    ensures { λ r. ⌜ PackedIs number (now (numbers .entry)) r ⌝ }
 {
     let table = table::layout_table();
     if numbers_fit(&table, number, numbers) {
         if flags_agree(number, numbers) {
-            let w0 = packed_word(&table, number, numbers, 0);
-            let w1 = packed_word(&table, number, numbers, 1);
-            let w2 = packed_word(&table, number, numbers, 2);
-            let w3 = packed_word(&table, number, numbers, 3);
-            return Decoded::Whole(decoding::command_in(number, w0, w1, w2, w3));
+            return Packed {
+                ok: true,
+                w0: packed_word(&table, number, numbers, 0),
+                w1: packed_word(&table, number, numbers, 1),
+                w2: packed_word(&table, number, numbers, 2),
+                w3: packed_word(&table, number, numbers, 3),
+            };
         }
     }
-    Decoded::Refused(Answer {
-        number: 15,
-        place: 0,
-    })
+    Packed {
+        ok: false,
+        w0: 0,
+        w1: 0,
+        w2: 0,
+        w3: 0,
+    }
 }

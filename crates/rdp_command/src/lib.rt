@@ -4,13 +4,12 @@ ghost use Prim.Native.Nat.{_+_, _%_, _^_, _/_};
 ghost use denote.Ref.{ptr};
 ghost use Rattle.rdp_command.specs.Words.{wordAt, numberIn};
 ghost use Rattle.rdp_command.specs.Kinds.{wordsOf};
-ghost use Rattle.rdp_command.specs.Decode.{decodeOf, suffixOf, suffixStart};
+ghost use Rattle.rdp_command.specs.Decode.{drawFieldsOf, decodeOf, suffixOf, suffixStart};
 ghost use Rattle.rdp_command.specs.Encode.{encodeAnswer, encodeOut};
 ghost use Rattle.rdp_command.specs.Numbers.{fieldsAnswer, fieldsOut, fromNumbers};
 
 pub mod command;
 mod decoding;
-pub mod draw_fields;
 mod encoding;
 mod packing;
 mod read;
@@ -51,6 +50,20 @@ pub fn words_of(number: u8) -> usize
         return 2;
     }
     1
+}
+
+// The fields that the check and the drawing read: those that the word has as a Set Other Modes, a Set Scissor, a Fill Rectangle, a Set Fill Color and a
+// Set Color Image. The caller takes the one that the word's number names.
+pub fn draw_fields(w: u64) -> DrawFields
+    ensures { λ r. ⌜ r ≡ drawFieldsOf w ⌝ }
+{
+    DrawFields {
+        cycle_type: read::cycle_type(w),
+        scissor: read::scissor(w),
+        rectangle: read::rectangle(w),
+        fill_color: read::fill_color(w),
+        color_image: read::color_image(w),
+    }
 }
 
 // The first command of a list, or 3 at 0 where its words are not all there. Bytes beyond its words are not read.
@@ -132,7 +145,18 @@ pub fn from_fields(number: u32, numbers: &[u64]) -> Decoded
     ensures { λ r. ⌜ r ≡ fromNumbers number (now (numbers .entry)) ⌝ }
 {
     if number < 64 {
-        return encoding::command_of(number as u8, numbers);
+        let n = number as u8;
+        let packed = encoding::packed_words(n, numbers);
+        let ok = packed.ok;
+        if ok {
+            return Decoded::Whole(decoding::command_in(
+                n,
+                packed.w0,
+                packed.w1,
+                packed.w2,
+                packed.w3,
+            ));
+        }
     }
     Decoded::Refused(Answer {
         number: 15,

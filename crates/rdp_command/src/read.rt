@@ -288,3 +288,60 @@ pub fn depth_image(w: u64) -> u32
 {
     (w % 0x1000000) as u32
 }
+
+pub fn scissor(w: u64) -> Scissor
+    ensures { λ r. ⌜ r ≡ scissorOf (fieldsOf scissorLines (w ∷ [])) ⌝ }
+{
+    Scissor {
+        upper_left: Corner {
+            x: ((w >> 44) % 0x1000) as u16,
+            y: ((w >> 32) % 0x1000) as u16,
+        },
+        field: (w >> 25) % 0x2 == 1,
+        odd: (w >> 24) % 0x2 == 1,
+        lower_right: Corner {
+            x: ((w >> 12) % 0x1000) as u16,
+            y: (w % 0x1000) as u16,
+        },
+    }
+}
+
+pub fn rectangle(w: u64) -> Rectangle
+    ensures { λ r. ⌜ r ≡ rectangleOf (fieldsOf rectangleLines (w ∷ [])) ⌝ }
+{
+    let right = ((w >> 44) % 0x1000) as u16;
+    let bottom = ((w >> 32) % 0x1000) as u16;
+    let left = ((w >> 12) % 0x1000) as u16;
+    let top = (w % 0x1000) as u16;
+    Rectangle {
+        lower_right: Corner {
+            x: right,
+            y: bottom,
+        },
+        upper_left: Corner { x: left, y: top },
+    }
+}
+
+pub fn fill_color(w: u64) -> u32
+    ensures { λ r. ⌜ r ≡ natAt (fieldsOf fillColorLines (w ∷ [])) 0 ⌝ }
+{
+    (w % 0x100000000) as u32
+}
+
+pub fn color_image(w: u64) -> Image
+    ensures { λ r. ⌜ r ≡ imageOf (fieldsOf colorImageLines (w ∷ [])) ⌝ }
+{
+    Image {
+        format: ((w >> 53) % 0x8) as u8,
+        size: ((w >> 51) % 0x4) as u8,
+        width: ((w >> 32) % 0x400) as u16,
+        address: (w % 0x4000000) as u32,
+    }
+}
+
+// The cycle type of a Set Other Modes alone.
+pub fn cycle_type(w: u64) -> u8
+    ensures { λ r. ⌜ r ≡ otherModesOf (fieldsOf otherModesLines (w ∷ [])) .«cycle_type» ⌝ }
+{
+    ((w >> 52) % 0x4) as u8
+}
