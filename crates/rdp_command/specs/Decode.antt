@@ -12,7 +12,7 @@ use Rattle.rdp_command.specs.Groups.{natAt, scissorOf, otherModesOf, rec
 use Rattle.rdp_command.specs.Commands.{commandOf}
 use Rattle.rdp_command.specs.declared.command.Answer.{Answer}
 use Rattle.rdp_command.specs.declared.command.Command.{Command}
-use Rattle.rdp_command.specs.declared.command.DrawFields.{DrawFields}
+use Rattle.rdp_command.specs.declared.command.WordFields.{WordFields}
 use Rattle.rdp_command.specs.declared.command.Decoded.{Decoded}
 use Rattle.rdp_command.specs.declared.command.Decoded.the-variants.{Whole, Refused}
 
@@ -36,10 +36,12 @@ ownWords bs n = wordAt bs 0 ∷ ownWord bs n 1 ∷ ownWord bs n 2 ∷ ownWord bs
 abbrev pub commandIn : ℕ → List ℕ → Command
 commandIn n ws = commandOf n (fieldsOf (layout n) ws)
 
--- the fields that the check and the drawing read of a word, as each command that they look into has them
-abbrev pub drawFieldsOf : ℕ → DrawFields
-drawFieldsOf w =
+-- a word, its number, and the fields that the check and the drawing read of it, as each command that they look into has them
+abbrev pub wordFields : ℕ → WordFields
+wordFields w =
     record {
+      word = w;
+      number = numberIn w;
       «cycle_type» = otherModesOf (fieldsOf otherModesLines (w ∷ [])) .«cycle_type»;
       scissor = scissorOf (fieldsOf scissorLines (w ∷ []));
       rectangle = rectangleOf (fieldsOf rectangleLines (w ∷ []));

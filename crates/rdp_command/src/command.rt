@@ -238,9 +238,11 @@ pub struct Image {
     pub address: u32,
 }
 
-// What the check and the drawing read of a word, as each of the commands that they look into would have it.
+// A word, its command number, and what the check and the drawing read of it, as each of the commands that they look into would have it.
 #[repr(C)]
-pub struct DrawFields {
+pub struct WordFields {
+    pub word: u64,
+    pub number: u8,
     pub cycle_type: u8,
     pub scissor: Scissor,
     pub rectangle: Rectangle,

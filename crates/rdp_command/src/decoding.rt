@@ -4,7 +4,6 @@ ghost use mathlib.Core.List.{List, [], _∷_};
 ghost use Prim.Native.Nat.{ℕ, _/_, _<_, _≤_};
 ghost use Rattle.rdp_command.specs.Decode.{commandIn};
 use crate::command::*;
-use crate::draw_fields;
 use crate::read;
 
 // A number below 0x30 that is no triangle's, whatever words follow.

@@ -1,10 +1,10 @@
 // Decoding and encoding of the display processor's commands.
 ghost use mathlib.Core.Path.{_≡_};
-ghost use Prim.Native.Nat.{_+_, _%_, _^_, _/_};
+ghost use Prim.Native.Nat.{_+_};
 ghost use denote.Ref.{ptr};
-ghost use Rattle.rdp_command.specs.Words.{wordAt, numberIn};
+ghost use Rattle.rdp_command.specs.Words.{wordAt};
 ghost use Rattle.rdp_command.specs.Kinds.{wordsOf};
-ghost use Rattle.rdp_command.specs.Decode.{drawFieldsOf, decodeOf, suffixOf, suffixStart};
+ghost use Rattle.rdp_command.specs.Decode.{wordFields, decodeOf, suffixOf, suffixStart};
 ghost use Rattle.rdp_command.specs.Encode.{encodeAnswer, encodeOut};
 ghost use Rattle.rdp_command.specs.Numbers.{fieldsAnswer, fieldsOut, fromNumbers};
 
@@ -19,23 +19,12 @@ mod words;
 
 use command::*;
 
-// The word at a place of a list; 0 where the list has no whole word there.
-pub fn word_at(list: &[u8], place: usize) -> u64
-    ensures { λ r. ⌜ r ≡ wordAt (now (list .entry)) place ⌝ }
+// The word at a place of a list, 0 where there is no whole word; its command number; and the fields that the check and the drawing read: those that the
+// word has as a Set Other Modes, a Set Scissor, a Fill Rectangle, a Set Fill Color and a Set Color Image. The caller takes what the number names.
+pub fn read_at(list: &[u8], place: usize) -> WordFields
+    ensures { λ r. ⌜ r ≡ wordFields (wordAt (now (list .entry)) place) ⌝ }
 {
-    if place < list.len() / 8 {
-        let at = 8 * place;
-        words::half_at(list, at) * 0x1_0000_0000 + words::half_at(list, at + 4)
-    } else {
-        0
-    }
-}
-
-// The number of the command that begins with a word.
-pub fn number_in(w: u64) -> u8
-    ensures { λ r. ⌜ r ≡ numberIn w ⌝ }
-{
-    ((w >> 56) % 64) as u8
+    read::word_fields(words::word_at(list, place))
 }
 
 // The words of a command, by its number.
@@ -52,20 +41,6 @@ pub fn words_of(number: u8) -> usize
     1
 }
 
-// The fields that the check and the drawing read: those that the word has as a Set Other Modes, a Set Scissor, a Fill Rectangle, a Set Fill Color and a
-// Set Color Image. The caller takes the one that the word's number names.
-pub fn draw_fields(w: u64) -> DrawFields
-    ensures { λ r. ⌜ r ≡ drawFieldsOf w ⌝ }
-{
-    DrawFields {
-        cycle_type: read::cycle_type(w),
-        scissor: read::scissor(w),
-        rectangle: read::rectangle(w),
-        fill_color: read::fill_color(w),
-        color_image: read::color_image(w),
-    }
-}
-
 // The first command of a list, or 3 at 0 where its words are not all there. Bytes beyond its words are not read.
 pub fn decode(list: &[u8]) -> Decoded
     ensures { λ r. ⌜ r ≡ decodeOf (now (list .entry)) ⌝ }
@@ -77,11 +52,11 @@ pub fn decode(list: &[u8]) -> Decoded
             place: 0,
         });
     }
-    let w0 = word_at(list, 0);
+    let w0 = words::word_at(list, 0);
     let w1 = words::own_word(list, n, 1);
     let w2 = words::own_word(list, n, 2);
     let w3 = words::own_word(list, n, 3);
-    Decoded::Whole(decoding::command_in(number_in(w0), w0, w1, w2, w3))
+    Decoded::Whole(decoding::command_in(words::number_in(w0), w0, w1, w2, w3))
 }
 
 // The bytes after the base of the first command, where that is a whole triangle; else none. They are the caller's own bytes, and no copy.

@@ -5,7 +5,9 @@ ghost use Prim.Native.Nat.{_*_, _<_, _≤_};
 ghost use Rattle.rdp_command.specs.Layout.{edgeLines, triangleBaseLines, textureStepLines, texturedRectangleLines, keyGbLines, keyRLines, convertLines, scissorLines, primitiveDepthLines, textureModesLines, blenderInputsLines, pixelModesLines, otherModesLines, tileAreaLines, blockLines, tileDescriptorLines, rectangleLines, colorLines, primitiveColorLines, imageLines, colorImageLines, fillColorLines, combineModeLines, depthImageLines};
 ghost use Rattle.rdp_command.specs.Fields.{twosComplement, fieldsOf};
 ghost use Rattle.rdp_command.specs.Groups.{natAt, edgeOf, triangleBaseOf, textureStepOf, texturedRectangleOf, keyGbOf, keyROf, convertOf, scissorOf, primitiveDepthOf, textureModesOf, blenderInputsOf, pixelModesOf, otherModesOf, tileAreaOf, blockOf, tileDescriptorOf, rectangleOf, colorOf, primitiveColorOf, imageOf};
+ghost use Rattle.rdp_command.specs.Decode.{wordFields};
 use crate::command::*;
+use crate::words::number_in;
 
 // A two's complement number, where half is 2 to its bits less one.
 fn signed(raw: u32, half: u32) -> i16
@@ -344,4 +346,19 @@ pub fn cycle_type(w: u64) -> u8
     ensures { λ r. ⌜ r ≡ otherModesOf (fieldsOf otherModesLines (w ∷ [])) .«cycle_type» ⌝ }
 {
     ((w >> 52) % 0x4) as u8
+}
+
+// What the check and the drawing read of a word.
+pub fn word_fields(w: u64) -> WordFields
+    ensures { λ r. ⌜ r ≡ wordFields w ⌝ }
+{
+    WordFields {
+        word: w,
+        number: number_in(w),
+        cycle_type: cycle_type(w),
+        scissor: scissor(w),
+        rectangle: rectangle(w),
+        fill_color: fill_color(w),
+        color_image: color_image(w),
+    }
 }

@@ -2,10 +2,8 @@
 ghost use mathlib.Core.Path.{_≡_};
 ghost use Prim.Native.Nat.{_<_, _*_, _+_, _≤_, _^_};
 ghost use lib.ListN.{length, drop};
-ghost use Rattle.rdp_command.specs.Words.{halfOf, bytesOf, overwrite, pasted};
+ghost use Rattle.rdp_command.specs.Words.{halfOf, wordAt, numberIn, bytesOf, overwrite, pasted};
 ghost use Rattle.rdp_command.specs.Decode.{wholeWords, ownWord};
-use crate::number_in;
-use crate::word_at;
 use crate::words_of;
 
 fn wide(x: u8) -> u64
@@ -15,7 +13,7 @@ fn wide(x: u8) -> u64
 }
 
 // The four bytes from an index on as a number.
-pub fn half_at(list: &[u8], at: usize) -> u64
+fn half_at(list: &[u8], at: usize) -> u64
     requires { ⌜ at + 4 ≤ length (now list) ⌝ }
     ensures { λ r. ⌜ (r ≡ halfOf (drop at (now (list .entry)))) × (r < 2 ^ 32) ⌝ }
 {
@@ -23,6 +21,25 @@ pub fn half_at(list: &[u8], at: usize) -> u64
         + wide(list[at + 1]) * 0x1_0000
         + wide(list[at + 2]) * 0x100
         + wide(list[at + 3])
+}
+
+// The word at a place of a list; 0 where the list has no whole word there.
+pub fn word_at(list: &[u8], place: usize) -> u64
+    ensures { λ r. ⌜ r ≡ wordAt (now (list .entry)) place ⌝ }
+{
+    if place < list.len() / 8 {
+        let at = 8 * place;
+        half_at(list, at) * 0x1_0000_0000 + half_at(list, at + 4)
+    } else {
+        0
+    }
+}
+
+// The number of the command that begins with a word.
+pub fn number_in(w: u64) -> u8
+    ensures { λ r. ⌜ r ≡ numberIn w ⌝ }
+{
+    ((w >> 56) % 64) as u8
 }
 
 // The words of the first command, or 0 where they are not all there.

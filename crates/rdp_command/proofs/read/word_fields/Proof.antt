@@ -1,6 +1,9 @@
 use borrow.Author.Needs.{needs}
-use Rattle.rdp_command.proofs.draw_fields.Statement.{statement}
-use Rattle.rdp_command.proofs.draw_fields.Tie as tie
+use Rattle.rdp_command.proofs.read.word_fields.Statement.{statement}
+use Rattle.rdp_command.proofs.read.word_fields.Tie as tie
+
+number-in-requires : tie.Need-number-in-requires
+number-in-requires c κs = search needs
 
 cycle-type-requires : tie.Need-cycle-type-requires
 cycle-type-requires c κs = search needs
@@ -20,6 +23,8 @@ color-image-requires c κs = search needs
 returns : tie.Need-returns
 returns c =
     λ i. record {
+      word = c .before .before .before .before .before .before .args .w;
+      number = c .before .before .before .before .before .number-in .ensures i;
       «cycle_type» = c .before .before .before .before .cycle-type .ensures i;
       scissor = c .before .before .before .scissor .ensures i;
       rectangle = c .before .before .rectangle .ensures i;
@@ -27,10 +32,11 @@ returns c =
       «color_image» = c .color-image .ensures i;
     }
 
-pub draw-fields-spec : {M : Type 1} → statement M
-draw-fields-spec =
+pub word-fields-spec : {M : Type 1} → statement M
+word-fields-spec =
     tie.close
     (tie.spec
+    number-in-requires
     cycle-type-requires
     scissor-requires
     rectangle-requires
