@@ -9,7 +9,7 @@ use borrow.Author.Tests.{eq-eqb}
 use lib.Dec.{T, eqb, leb, leb→le}
 use lib.ListN.{length, getD}
 use lib.Pow.{pow-pos, pow-add, pow-mono, high}
-use Rattle.rdp_command.specs.Layout.{Line, width, bits}
+use Rattle.rdp_command.specs.Layout.{Line, width}
 use Rattle.rdp_command.specs.Fields.{shiftRight, bitsAt, placed, packed}
 use Rattle.rdp_command.proofs.Tests.{both}
 

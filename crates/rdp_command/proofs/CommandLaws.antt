@@ -4,7 +4,7 @@ use mathlib.Core.List.{List}
 use mathlib.Core.Path.{_≡_, ap, sym, _∙_}
 use native.Mathlib.Omega.{arith}
 use borrow.Author.Tests.{eq-eqb, ne-eqb}
-use Rattle.rdp_command.specs.Layout.{Line, layout, triangleBaseLines}
+use Rattle.rdp_command.specs.Layout.{Line, triangleBaseLines}
 use Rattle.rdp_command.specs.Fields.{Value, fieldsOf}
 use Rattle.rdp_command.specs.Groups.{triangleBaseOf}
 use Rattle.rdp_command.specs.Commands.{commandOf}

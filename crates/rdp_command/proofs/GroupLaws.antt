@@ -1,32 +1,30 @@
 -- A command from its own number and values is the command again, and the values of what was read are what was read. Assumes nothing.
-use Prim.Native.Nat.{ℕ, _+_, _-_, _*_, _/_, _%_, _^_, _<_}
+use Prim.Native.Nat.{ℕ, _+_, _-_, _/_, _%_, _<_}
 use mathlib.Core.Bool.{Bool, true, false, not, _&&_, _||_, false≢true}
-use mathlib.Core.List.{List, [], _∷_, _++_}
+use mathlib.Core.List.{List, [], _∷_}
 use mathlib.Core.Path.{_≡_, refl, ap, sym, subst, _∙_}
 use native.Mathlib.Omega.{arith}
-use lib.Dec.{T, eqb, ltb, lit<}
+use lib.Dec.{T, eqb, ltb}
 use lib.ListN.{length, getD, drop}
 use mir.Val.{boolByte}
 use borrow.Author.Tests.{eqb-true, eqb-false, ltb-true, not-true}
 use Rattle.rdp_command.specs.Kinds.{among, kindOf, isNoOperation}
-use Rattle.rdp_command.specs.Layout.{Line, layout, bit, bits, signedBits, textureModesLines, pixelModesLines, otherModesLines, scissorLines, tileDescriptorLines, triangleBaseLines, triangleHeadLines}
-use Rattle.rdp_command.specs.Fields.{Value, unsigned, signed, flag, shiftRight, bitsAt, fieldAt, fieldsOf}
-use Rattle.rdp_command.specs.Groups.{natAt, scissorOf, scissorValues, otherModesOf, otherModesValues, textureModesOf, textureModesValues, pixelModesOf, pixelModesValues, tileDescriptorOf, tileDescriptorValues, triangleBaseOf, triangleBaseValues}
+use Rattle.rdp_command.specs.Layout.{Line, layout, bit, bits, signedBits, otherModesLines, scissorLines, tileDescriptorLines, triangleBaseLines}
+use Rattle.rdp_command.specs.Fields.{Value, unsigned, flag, shiftRight, bitsAt, fieldAt, fieldsOf}
+use Rattle.rdp_command.specs.Groups.{scissorOf, scissorValues, otherModesOf, otherModesValues, tileDescriptorOf, tileDescriptorValues, triangleBaseOf, triangleBaseValues}
 use Rattle.rdp_command.specs.Commands.{commandOf, valuesOf, numberOf}
 use Rattle.rdp_command.specs.Decode.{commandIn}
 use Rattle.rdp_command.specs.Encode.{numberFits}
 use Rattle.rdp_command.specs.declared.command.Scissor.{Scissor}
 use Rattle.rdp_command.specs.declared.command.OtherModes.{OtherModes}
-use Rattle.rdp_command.specs.declared.command.TextureModes.{TextureModes}
-use Rattle.rdp_command.specs.declared.command.PixelModes.{PixelModes}
 use Rattle.rdp_command.specs.declared.command.TileDescriptor.{TileDescriptor}
 use Rattle.rdp_command.specs.declared.command.TriangleBase.{TriangleBase}
 use Rattle.rdp_command.specs.declared.command.Command.{Command}
 use Rattle.rdp_command.specs.declared.command.Command.the-variants.{NoOperation, FillTriangle, TextureRectangle, TextureRectangleFlip, SyncLoad, SyncPipe, SyncTile, SyncFull, SetKeyGb, SetKeyR, SetConvert, SetScissor, SetPrimitiveDepth, SetOtherModes, LoadTlut, SetTileSize, LoadBlock, LoadTile, SetTile, FillRectangle, SetFillColor, SetFogColor, SetBlendColor, SetPrimitiveColor, SetEnvironmentColor, SetCombineMode, SetTextureImage, SetDepthImage, SetColorImage}
-use Rattle.rdp_command.proofs.Tests.{each, below, by-test}
+use Rattle.rdp_command.proofs.Tests.{below, by-test}
 use Rattle.rdp_command.proofs.KindLaws.{no-operation-small, no-operation-lines}
 use Rattle.rdp_command.proofs.AnswerLaws.{and-true}
-use Rattle.rdp_command.proofs.Triangles.{layout-at, triangle-eighth, triangle-layout}
+use Rattle.rdp_command.proofs.Triangles.{layout-at, triangle-eighth}
 use Rattle.rdp_command.proofs.CommandLaws.{triangle-command, low-command}
 
 -- ---- what holds of each number holds of all

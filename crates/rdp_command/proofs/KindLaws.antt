@@ -2,13 +2,12 @@
 use Prim.Native.Nat.{ℕ, _+_, _*_, _/_, _%_, _≤_, _<_}
 use mathlib.Core.Bool.{Bool, true, false, cond, not, _&&_, _||_}
 use mathlib.Core.Path.{_≡_, refl}
-use native.Mathlib.Omega.{arith}
 use lib.ListN.{length}
 use borrow.Author.Tests.{ltb-true}
-use lib.Dec.{T, eqb, ltb, leb, eqb→eq, leb→le, lit≤}
+use lib.Dec.{eqb, ltb, leb, eqb→eq, leb→le}
 use Rattle.rdp_command.specs.Kinds.{kindOf, isNone, isNoOperation, wordsOf}
 use Rattle.rdp_command.specs.Layout.{layout}
-use Rattle.rdp_command.proofs.Tests.{each, below, both, same, same-bool}
+use Rattle.rdp_command.proofs.Tests.{below, both, same, same-bool}
 
 -- the row of no operations as the code tests it
 abbrev pub rowTest : ℕ → Bool

@@ -1,23 +1,22 @@
 -- The laws of decoding and encoding that the layers above rest on. Assumes nothing.
-use Prim.Native.Nat.{ℕ, zero, suc, _+_, _-_, _*_, _/_, _%_, _^_, _≤_, _<_, min}
-use mathlib.Core.Bool.{Bool, true, false, cond, _&&_, false≢true}
-use mathlib.Core.List.{List, [], _∷_, _++_, map, append-assoc}
+use Prim.Native.Nat.{ℕ, zero, suc, _+_, _*_, _/_, _^_, _≤_, _<_}
+use mathlib.Core.Bool.{Bool, true, false, cond, _&&_}
+use mathlib.Core.List.{List, _++_, map, append-assoc}
 use mathlib.Core.Path.{_≡_, refl, ap, sym, _∙_}
 use native.Mathlib.Nat.{mod-lt}
 use native.Mathlib.Omega.{arith}
 use borrow.Author.Tests.{lt-ltb, le-ltb, le-leb, eq-eqb, eqb-true, leb-true, ltb-true, ltb-false}
-use lib.Dec.{eqb, leb, ltb, lit<}
+use lib.Dec.{eqb, ltb, lit<}
 use lib.ListN.{length, getD, take, drop, length-append, length-take, length-drop}
 use lib.Seq.{take-at, drop-at}
 use Rattle.rdp_command.specs.Words.{wordOf, wordAt, numberIn, bytesOf, overwrite}
 use Rattle.rdp_command.specs.Kinds.{wordsOf}
-use Rattle.rdp_command.specs.Layout.{Line, layout}
+use Rattle.rdp_command.specs.Layout.{layout}
 use Rattle.rdp_command.specs.Fields.{Value, fieldsOf, numberOfValue, allFit}
 use Rattle.rdp_command.specs.Commands.{commandOf, numberOf, valuesOf}
-use Rattle.rdp_command.specs.Decode.{firstNumber, wholeWords, ownWord, ownWords, commandIn, decodeOf, suffixWords, suffixStart, suffixOf}
+use Rattle.rdp_command.specs.Decode.{firstNumber, wholeWords, ownWords, commandIn, decodeOf, suffixWords, suffixStart, suffixOf}
 use Rattle.rdp_command.specs.Encode.{packedWord, packedBytes, baseWords, numbersOf, numberFits, encodable, bytesWith, encodedBytes, fixedBits, hasRoom, verdictOf, answerWith, outWith, encodeAnswer, encodeOut}
 use Rattle.rdp_command.specs.Kept.{bytesKept, wordKept}
-use Rattle.rdp_command.specs.declared.command.Answer.{Answer}
 use Rattle.rdp_command.specs.declared.command.Command.{Command}
 use Rattle.rdp_command.specs.declared.command.Decoded.the-variants.{Whole}
 use Rattle.rdp_command.proofs.Tests.{by-test}

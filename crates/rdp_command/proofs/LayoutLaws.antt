@@ -2,19 +2,18 @@
 use Prim.Native.Nat.{ℕ, zero, suc, _+_, _*_, _/_, _%_, _^_, _≤_, _<_, zero-le, suc-le-suc}
 use mathlib.Core.Bool.{Bool, true, false, cond, _&&_}
 use mathlib.Core.List.{List, [], _∷_, map}
-use mathlib.Core.Path.{_≡_, refl, ap, sym, subst, _∙_}
+use mathlib.Core.Path.{_≡_, refl, ap, sym, _∙_}
 use native.Mathlib.Nat.{not-suc-le-zero, le-of-suc-le-suc, zero-add, suc-inj}
 use native.Mathlib.Omega.{arith}
-use borrow.Author.Tests.{eq-eqb, ne-eqb}
-use lib.Dec.{T, eqb, ltb, leb, ltb→lt}
+use lib.Dec.{T, eqb, ltb, ltb→lt}
 use lib.ListN.{length, getD}
 use Rattle.rdp_command.specs.Layout.{Line, width, layout, bits}
-use Rattle.rdp_command.specs.Table.{Readable, AllReadable}
-use Rattle.rdp_command.specs.Fields.{Value, bitsAt, valueOf, fieldAt, fieldsOf, numberOfValue, fitsLine, allFit, packed}
+use Rattle.rdp_command.specs.Table.{AllReadable}
+use Rattle.rdp_command.specs.Fields.{Value, bitsAt, valueOf, fieldsOf, numberOfValue, fitsLine, allFit, packed}
 use Rattle.rdp_command.specs.Encode.{fixedBits, packedWord, baseWords}
 use Rattle.rdp_command.specs.Kinds.{kindOf, wordsOf}
 use Rattle.rdp_command.specs.Numbers.{valueFrom, valuesFrom}
-use Rattle.rdp_command.proofs.Tests.{each, below, both, both-of, by-test}
+use Rattle.rdp_command.proofs.Tests.{below, both, both-of, by-test}
 use Rattle.rdp_command.proofs.BitLaws.{falling, packed-lt, read-at}
 use Rattle.rdp_command.proofs.ValueLaws.{kind, kind-from, number-from, value-back}
 use Rattle.rdp_command.proofs.AnswerLaws.{and-true}

@@ -1,35 +1,34 @@
 -- The number of a command and its values: of one that can be encoded, and of one that was read. Assumes nothing.
-use Prim.Native.Nat.{ℕ, suc, _+_, _-_, _*_, _/_, _%_, _^_, _≤_, _<_}
-use mathlib.Core.Bool.{Bool, true, false, cond, not, _&&_, _||_}
+use Prim.Native.Nat.{ℕ, _+_, _-_, _*_, _/_, _%_, _^_, _≤_, _<_}
+use mathlib.Core.Bool.{Bool, true, cond, not, _||_}
 use mathlib.Core.List.{List, [], _∷_, map}
 use mathlib.Core.Path.{_≡_, refl, ap, sym, subst, _∙_}
 use native.Mathlib.Nat.{mod-lt, div-one}
 use native.Mathlib.Omega.{arith}
-use borrow.Author.Tests.{eq-eqb, ne-eqb, eqb-true, eqb-false}
+use borrow.Author.Tests.{eq-eqb, eqb-true}
 use lib.Dec.{T, eqb, eqb→eq, lit<}
 use lib.ListN.{length, getD, drop}
 use lib.Pow.{pow-pos, shr-shr}
 use mir.Val.{boolByte}
 use Rattle.rdp_command.specs.Words.{numberIn}
-use Rattle.rdp_command.specs.Kinds.{isNoOperation}
 use Rattle.rdp_command.specs.Layout.{Line, width, bit, layout, triangleBaseLines}
 use Rattle.rdp_command.specs.Table.{AllReadable}
-use Rattle.rdp_command.specs.Fields.{Value, shiftRight, bitsAt, valueOf, fieldAt, fieldsOf, numberOfValue, fitsLine, allFit, placed, packed}
+use Rattle.rdp_command.specs.Fields.{shiftRight, bitsAt, fieldsOf, numberOfValue, allFit, packed}
 use Rattle.rdp_command.specs.Commands.{commandOf, numberOf, valuesOf}
 use Rattle.rdp_command.specs.Groups.{triangleBaseOf}
 use Rattle.rdp_command.specs.Decode.{commandIn}
-use Rattle.rdp_command.specs.Encode.{fixedBits, packedWord, numbersOf, numberFits}
+use Rattle.rdp_command.specs.Encode.{packedWord, numbersOf, numberFits}
 use Rattle.rdp_command.specs.Kept.{bitsKept}
 use Rattle.rdp_command.specs.declared.command.TriangleBase.{TriangleBase}
 use Rattle.rdp_command.specs.declared.command.Command.{Command}
 use Rattle.rdp_command.specs.declared.command.Command.the-variants.{NoOperation, FillTriangle, TextureRectangle, TextureRectangleFlip, SyncLoad, SyncPipe, SyncTile, SyncFull, SetKeyGb, SetKeyR, SetConvert, SetScissor, SetPrimitiveDepth, SetOtherModes, LoadTlut, SetTileSize, LoadBlock, LoadTile, SetTile, FillRectangle, SetFillColor, SetFogColor, SetBlendColor, SetPrimitiveColor, SetEnvironmentColor, SetCombineMode, SetTextureImage, SetDepthImage, SetColorImage}
-use Rattle.rdp_command.proofs.Tests.{each, below, by-test}
+use Rattle.rdp_command.proofs.Tests.{below, by-test}
 use Rattle.rdp_command.proofs.Signed.{bool-le}
 use Rattle.rdp_command.proofs.KindLaws.{no-operation-small, no-operation-lines}
 use Rattle.rdp_command.proofs.Triangles.{triangle-eighth, triangle-layout, triangle-small}
 use Rattle.rdp_command.proofs.CommandLaws.{triangle-command, at-triangle}
 use Rattle.rdp_command.proofs.BitLaws.{packed-lt, bits-are}
-use Rattle.rdp_command.proofs.ValueLaws.{kind, value-fits, value-low}
+use Rattle.rdp_command.proofs.ValueLaws.{value-fits, value-low}
 use Rattle.rdp_command.proofs.LayoutLaws.{matched, first-rest}
 use Rattle.rdp_command.proofs.GroupLaws.{Each, by-number, none-command, command-back, flag-kept-bits}
 

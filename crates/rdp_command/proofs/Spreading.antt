@@ -14,7 +14,8 @@ use Rattle.rdp_command.specs.Layout.{layout}
 use Rattle.rdp_command.specs.Fields.{Value, allFit}
 use Rattle.rdp_command.specs.Commands.{numberOf}
 use Rattle.rdp_command.specs.Decode.{suffixWords}
-use Rattle.rdp_command.specs.Numbers.{numbersFit, Spread}
+use Rattle.rdp_command.specs.Numbers.{numbersFit}
+use Rattle.rdp_command.specs.Steps.{Spread}
 use Rattle.rdp_command.specs.declared.values.Numbers.{Numbers}
 use Rattle.rdp_command.specs.declared.command.Command.{Command}
 use Rattle.rdp_command.proofs.Bytes.{length-overwrite}

@@ -2,16 +2,16 @@
 use Prim.Native.Nat.{ℕ, zero, suc, _+_, _-_, _*_, _%_, _^_, _≤_, _<_}
 use mathlib.Core.Bool.{Bool, true, false}
 use mathlib.Core.Path.{_≡_, refl, ap, sym, _∙_}
-use native.Mathlib.Nat.{mod-eq-of-lt, mod-lt, add-mul-mod-self-right, pow-suc, mul-comm, suc-mul, add-comm, not-suc-le-zero}
+use native.Mathlib.Nat.{mod-eq-of-lt, add-mul-mod-self-right, pow-suc, mul-comm, suc-mul, add-comm, not-suc-le-zero}
 use native.Mathlib.Numerals.{sub-one}
 use native.Mathlib.Omega.{arith}
 use borrow.Author.Tests.{lt-ltb, le-ltb, ltb-true, ltb-false}
 use lib.Dec.{T, ltb}
 use lib.IntN.{ℤ, pos, negsuc}
-use lib.Pow.{pow-pos, pow-add, pow-mono}
+use lib.Pow.{pow-pos, pow-add}
 use lib.Signed.{mag}
 use mir.Syntax.{w64}
-use mir.Val.{toZ, ofZ}
+use mir.Val.{ofZ}
 use mir.Facts.{ofZ-toZ}
 use Rattle.rdp_command.specs.Layout.{Line, width}
 use Rattle.rdp_command.specs.Fields.{Value, unsigned, signed, twosComplement, valueOf, numberOfValue, fitsLine}

@@ -1,5 +1,5 @@
 -- Document 01, "Words and lengths" and refusal 3: the first command of a list, and the bytes that follow a triangle's base.
-use mathlib.Core.Bool.{Bool, true, false, cond}
+use mathlib.Core.Bool.{cond}
 use mathlib.Core.List.{List, [], _∷_}
 use Prim.Native.Nat.{ℕ, _-_, _*_, _/_}
 use lib.Dec.{eqb, ltb}
@@ -10,7 +10,6 @@ use Rattle.rdp_command.specs.Layout.{layout, scissorLines, otherModesLin
 use Rattle.rdp_command.specs.Fields.{fieldsOf}
 use Rattle.rdp_command.specs.Groups.{natAt, scissorOf, otherModesOf, rectangleOf, imageOf}
 use Rattle.rdp_command.specs.Commands.{commandOf}
-use Rattle.rdp_command.specs.declared.command.Answer.{Answer}
 use Rattle.rdp_command.specs.declared.command.Command.{Command}
 use Rattle.rdp_command.specs.declared.command.WordFields.{WordFields}
 use Rattle.rdp_command.specs.declared.command.Decoded.{Decoded}

@@ -1,7 +1,7 @@
 -- Document 01, refusals 15 and 14: the words of a command, written at the front of the output.
 use mathlib.Core.Bool.{Bool, true, cond, _&&_}
-use mathlib.Core.List.{List, [], _∷_, _++_, map}
-use Prim.Native.Nat.{ℕ, zero, suc, _+_, _-_, _*_, _/_, _^_, min}
+use mathlib.Core.List.{List, [], _++_, map}
+use Prim.Native.Nat.{ℕ, zero, suc, _+_, _*_, _/_, _^_, min}
 use lib.Dec.{eqb, leb}
 use lib.ListN.{length}
 use Rattle.rdp_command.specs.Words.{bytesOf, overwrite}

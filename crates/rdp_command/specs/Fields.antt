@@ -7,7 +7,7 @@ use lib.IntN.{ℤ, pos, negsuc}
 use lib.ListN.{getD}
 use lib.Signed.{mag}
 use mir.Syntax.{w64}
-use mir.Val.{toZ, ofZ, boolByte}
+use mir.Val.{ofZ, boolByte}
 use Rattle.rdp_command.specs.Layout.{Line, width}
 
 -- the value of a field

@@ -8,4 +8,5 @@ pub mod Commands
 pub mod Decode
 pub mod Encode
 pub mod Numbers
+pub mod Steps
 pub mod Kept

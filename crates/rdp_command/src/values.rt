@@ -11,7 +11,8 @@ ghost use Rattle.rdp_command.specs.Kinds.{isNoOperation};
 ghost use Rattle.rdp_command.specs.Layout.{edgeLines, textureStepLines, texturedRectangleLines};
 ghost use Rattle.rdp_command.specs.Fields.{numberOfValue};
 ghost use Rattle.rdp_command.specs.declared.command.Command.the-variants.{FillTriangle};
-ghost use Rattle.rdp_command.specs.Numbers.{valuesFrom, numbered, Spread};
+ghost use Rattle.rdp_command.specs.Numbers.{valuesFrom};
+ghost use Rattle.rdp_command.specs.Steps.{numbered, Spread};
 ghost use Rattle.rdp_command.specs.Groups.{edgeValues, triangleBaseValues, textureStepValues, texturedRectangleValues, keyGbValues, keyRValues, convertValues, scissorValues, primitiveDepthValues, otherModesValues, tileAreaValues, blockValues, tileDescriptorValues, rectangleValues, colorValues, primitiveColorValues, imageValues};
 use crate::command::*;
 

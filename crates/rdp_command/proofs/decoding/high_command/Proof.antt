@@ -1,8 +1,7 @@
 use Prim.Native.Nat.{_<_}
 use mathlib.Core.List.{_∷_}
-use mathlib.Core.Path.{_≡_, ap, refl, sym, _∙_}
+use mathlib.Core.Path.{_≡_, ap, refl, _∙_}
 use Rattle.rdp_command.specs.Layout.{layout}
-use Rattle.rdp_command.specs.Fields.{fieldsOf}
 use Rattle.rdp_command.specs.Commands.{commandOf}
 use Rattle.rdp_command.specs.declared.command.Command.the-variants.{NoOperation, LoadTlut, SetTileSize, LoadBlock, LoadTile, SetTile, FillRectangle, SetFillColor, SetFogColor, SetBlendColor, SetPrimitiveColor, SetEnvironmentColor, SetCombineMode, SetTextureImage, SetDepthImage, SetColorImage}
 use Rattle.rdp_command.proofs.CommandLaws.{at-number, under, last-none}

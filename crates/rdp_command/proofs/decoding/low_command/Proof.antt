@@ -1,9 +1,9 @@
 use mathlib.Core.List.{_∷_}
-use mathlib.Core.Path.{_≡_, ap, refl, sym, _∙_}
+use mathlib.Core.Path.{ap, refl, sym}
 use Rattle.rdp_command.specs.Layout.{layout}
 use Rattle.rdp_command.specs.Fields.{fieldsOf}
 use Rattle.rdp_command.specs.Commands.{commandOf}
-use Rattle.rdp_command.specs.declared.command.Command.the-variants.{NoOperation, TextureRectangle, TextureRectangleFlip, SetKeyGb, SetKeyR, SetConvert, SetScissor, SetPrimitiveDepth, SetOtherModes}
+use Rattle.rdp_command.specs.declared.command.Command.the-variants.{TextureRectangle, TextureRectangleFlip, SetKeyGb, SetKeyR, SetConvert, SetScissor, SetPrimitiveDepth, SetOtherModes}
 use Rattle.rdp_command.proofs.CommandLaws.{at-number, under, low-command}
 use borrow.Author.Needs.{needs}
 use Rattle.rdp_command.proofs.decoding.low_command.Statement.{statement}

@@ -2,9 +2,6 @@ use Rattle.rdp_command.proofs.Signed.{read-back}
 use borrow.Author.Needs.{needs}
 use Rattle.rdp_command.proofs.read.edge.Statement.{statement}
 use Rattle.rdp_command.proofs.read.edge.Tie as tie
-use Rattle.rdp_command.proofs.read.edge.Reads as reads
-use Rattle.rdp_command.proofs.read.edge.Lts as lts
-use Rattle.rdp_command.proofs.read.signed.Reads as signed-reads
 
 cast-signed : tie.Need-cast-signed
 cast-signed c = search needs

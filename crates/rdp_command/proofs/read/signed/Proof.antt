@@ -3,7 +3,7 @@ use native.Mathlib.Omega.{arith}
 use mathlib.Core.Path.{_≡_, ap, _∙_}
 use lib.IntN.{pos, negsuc}
 use mir.Syntax.{w16}
-use mir.Val.{SFits, toZ, ofZ}
+use mir.Val.{toZ}
 use mir.ValLaws.{toZ-pos, toZ-ofZ}
 use borrow.Author.Tests.{lt-ltb, le-ltb}
 use Rattle.rdp_command.specs.Fields.{twosComplement}
@@ -11,8 +11,6 @@ use Rattle.rdp_command.proofs.Signed.{minus-one}
 use borrow.Author.Needs.{needs}
 use Rattle.rdp_command.proofs.read.signed.Statement.{statement}
 use Rattle.rdp_command.proofs.read.signed.Tie as tie
-use Rattle.rdp_command.proofs.read.signed.Reads as reads
-use Rattle.rdp_command.proofs.read.signed.Lts as lts
 
 -- src/fields.rt:16:9
 cast-result : tie.Need-cast-result

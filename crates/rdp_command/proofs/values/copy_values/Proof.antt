@@ -1,6 +1,6 @@
 use Prim.Native.Nat.{ℕ, _≤_, _-_, zero-le}
 use mathlib.Core.List.{List}
-use mathlib.Core.Path.{_≡_, refl, ap, sym, _∙_}
+use mathlib.Core.Path.{_≡_, refl, ap, _∙_}
 use native.Mathlib.Omega.{arith}
 use lib.ListN.{length, set, getD}
 use denote.Ref.{now}
@@ -8,8 +8,6 @@ use borrow.Author.Needs.{needs}
 use Rattle.rdp_command.proofs.Bytes.{copied, copied-more, copied-all, length-copied}
 use Rattle.rdp_command.proofs.values.copy_values.Statement.{statement}
 use Rattle.rdp_command.proofs.values.copy_values.Tie as tie
-use Rattle.rdp_command.proofs.values.copy_values.Reads as reads
-use Rattle.rdp_command.proofs.values.copy_values.Lts as lts
 
 abbrev Inv-loop : tie.InvT-loop
 Inv-loop out₀ src i₀ out i = (i ≤ length src) × (out ≡ copied out₀ src i)

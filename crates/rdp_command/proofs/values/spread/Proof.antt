@@ -2,7 +2,7 @@ use mathlib.Core.Bool.{Bool}
 use mathlib.Core.List.{[]}
 use mathlib.Core.Path.{refl, ap, _∙_}
 use lib.Dec.{lit<, lit≤}
-use Rattle.rdp_command.specs.Numbers.{numbered}
+use Rattle.rdp_command.specs.Steps.{numbered}
 use Rattle.rdp_command.proofs.KindLaws.{no-operation-lines, no-operation-small}
 use borrow.Author.Needs.{needs}
 use Rattle.rdp_command.specs.Layout.{layout}

@@ -8,7 +8,8 @@ use mir.Val.{boolByte}
 use Rattle.rdp_command.specs.Layout.{Line}
 use Rattle.rdp_command.specs.Fields.{unsigned, signed, flag}
 use Rattle.rdp_command.specs.Encode.{numbersOf}
-use Rattle.rdp_command.specs.Numbers.{valuesFrom, numbered}
+use Rattle.rdp_command.specs.Numbers.{valuesFrom}
+use Rattle.rdp_command.specs.Steps.{numbered}
 use Rattle.rdp_command.specs.declared.command.TriangleBase.{TriangleBase}
 use Rattle.rdp_command.specs.declared.command.Command.the-variants.{FillTriangle}
 use Rattle.rdp_command.proofs.Signed.{given}

@@ -1,6 +1,5 @@
 use native.Mathlib.Omega.{arith}
 use denote.Ref.{now}
-use Rattle.rdp_command.specs.Words.{bytesOf}
 use Rattle.rdp_command.proofs.Bytes.{part-back}
 use borrow.Author.Needs.{needs}
 use Rattle.rdp_command.proofs.words.copy.Statement.{statement}

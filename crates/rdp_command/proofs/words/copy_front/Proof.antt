@@ -1,6 +1,6 @@
 use Prim.Native.Nat.{ℕ, _≤_, _-_, zero-le}
 use mathlib.Core.List.{List}
-use mathlib.Core.Path.{_≡_, refl, ap, sym, _∙_}
+use mathlib.Core.Path.{_≡_, refl, ap, _∙_}
 use native.Mathlib.Omega.{arith}
 use lib.ListN.{length, set, getD}
 use denote.Ref.{now}
