@@ -161,7 +161,7 @@ word-of n ns (suc (suc zero)) s = refl
 word-of n ns (suc (suc (suc zero))) s = refl
 word-of n ns (suc (suc (suc (suc i)))) s = absurd (omega arith)
 
-numbers-from :
+pub numbers-from :
     (ls : List Line) (ns : List ℕ) → length ls ≡ length ns → ((k : ℕ) → getD ns k 0 < 2 ^ 64) →
     T (matched ls (valuesFrom ls ns)) × (map numberOfValue (valuesFrom ls ns) ≡ ns)
 numbers-from [] [] e g = (tt, refl)

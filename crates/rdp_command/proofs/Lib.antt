@@ -15,3 +15,4 @@ pub mod GroupLaws
 pub mod WordLaws
 pub mod NumberLaws
 pub mod Laws
+pub mod FieldLaws

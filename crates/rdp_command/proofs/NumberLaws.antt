@@ -73,10 +73,10 @@ standing (SetColorImage g) e = (tt, lit< tt)
 
 -- ---- the number in the first word
 
-plain-number : (n r : ℕ) → n < 64 → r < 2 ^ 56 → (n * 2 ^ 56 + r) / 2 ^ 56 % 64 ≡ n
+pub plain-number : (n r : ℕ) → n < 64 → r < 2 ^ 56 → (n * 2 ^ 56 + r) / 2 ^ 56 % 64 ≡ n
 plain-number n r h s = omega arith
 
-flags-number :
+pub flags-number :
     (s t z r : ℕ) → s ≤ 1 → t ≤ 1 → z ≤ 1 → r < 2 ^ 56 →
     (8 * 2 ^ 56 + (s % 2 * 2 ^ 58 + (t % 2 * 2 ^ 57 + (z % 2 * 2 ^ 56 + r)))) / 2 ^ 56 % 64 ≡ 8 + s * 4 + t * 2 + z
 flags-number s t z r hs ht hz hr =
@@ -115,7 +115,7 @@ number-packed c e =
 abbrev flagsTest : ℕ → Bool
 flagsTest n = not (eqb (n / 8) 1) || eqb (8 + n / 4 % 2 * 4 + n / 2 % 2 * 2 + n % 2) n
 
-by-flags : (n : ℕ) → n < 64 → n / 8 ≡ 1 → 8 + n / 4 % 2 * 4 + n / 2 % 2 * 2 + n % 2 ≡ n
+pub by-flags : (n : ℕ) → n < 64 → n / 8 ≡ 1 → 8 + n / 4 % 2 * 4 + n / 2 % 2 * 2 + n % 2 ≡ n
 by-flags n h e = let t = below 64 flagsTest tt n h in eqb→eq _ _ (rw (eq-eqb (n / 8) 1 e) at t)
 
 third-bit : (x : ℕ) → x / 4 % 2 ≡ x % 64 / 4 % 2
