@@ -1,20 +1,20 @@
 -- The laws of decoding and encoding that the layers above rest on. Assumes nothing.
 use Prim.Native.Nat.{ℕ, zero, suc, _+_, _*_, _/_, _^_, _≤_, _<_}
 use mathlib.Core.Bool.{Bool, true, false, cond, _&&_}
-use mathlib.Core.List.{List, _++_, map, append-assoc}
+use mathlib.Core.List.{List, [], _∷_, _++_, map, append-assoc}
 use mathlib.Core.Path.{_≡_, refl, ap, sym, _∙_}
 use native.Mathlib.Nat.{mod-lt}
 use native.Mathlib.Omega.{arith}
 use borrow.Author.Tests.{lt-ltb, le-ltb, le-leb, eq-eqb, eqb-true, leb-true, ltb-true, ltb-false}
 use lib.Dec.{eqb, ltb, lit<}
 use lib.ListN.{length, getD, take, drop, length-append, length-take, length-drop}
-use lib.Seq.{take-at, drop-at}
+use lib.Seq.{take-at, drop-at, take-append-le, drop-append-le}
 use Rattle.rdp_command.specs.Words.{wordOf, wordAt, numberIn, bytesOf, overwrite}
 use Rattle.rdp_command.specs.Kinds.{wordsOf}
 use Rattle.rdp_command.specs.Layout.{layout}
 use Rattle.rdp_command.specs.Fields.{Value, fieldsOf, numberOfValue, allFit}
 use Rattle.rdp_command.specs.Commands.{commandOf, numberOf, valuesOf}
-use Rattle.rdp_command.specs.Decode.{firstNumber, wholeWords, ownWords, commandIn, decodeOf, suffixWords, suffixStart, suffixOf}
+use Rattle.rdp_command.specs.Decode.{firstNumber, wholeWords, ownWord, ownWords, commandIn, decodeOf, suffixWords, suffixStart, suffixOf}
 use Rattle.rdp_command.specs.Encode.{packedWord, packedBytes, baseWords, numbersOf, numberFits, encodable, bytesWith, encodedBytes, fixedBits, hasRoom, verdictOf, answerWith, outWith, encodeAnswer, encodeOut}
 use Rattle.rdp_command.specs.Kept.{bytesKept, wordKept}
 use Rattle.rdp_command.specs.declared.command.Command.{Command}
@@ -24,7 +24,7 @@ use Rattle.rdp_command.proofs.KindLaws.{words-pos}
 use Rattle.rdp_command.proofs.TableLaws.{layout-readable}
 use Rattle.rdp_command.proofs.AnswerLaws.{answer, whole, nonzero-words, and-true}
 use Rattle.rdp_command.proofs.Bytes.{empty, packed-long, length-overwrite}
-use Rattle.rdp_command.proofs.WordLaws.{word-whole, packed-at}
+use Rattle.rdp_command.proofs.WordLaws.{word-whole, word-front, packed-at}
 use Rattle.rdp_command.proofs.LayoutLaws.{word-lt, words-back}
 use Rattle.rdp_command.proofs.GroupLaws.{command-back, values-read}
 use Rattle.rdp_command.proofs.NumberLaws.{standing, number-packed, number-read, number-fits-read, fits-read, packed-read}
@@ -186,6 +186,49 @@ module _ (bs : List ℕ) (there : wholeWords bs ≡ 0 → ⊥) where
   list-long =
       by-test (ltb (length bs / 8) (wordsOf number)) (λ t. absurd (there (rw t)))
       (λ f. ltb-false (length bs / 8) (wordsOf number) f)
+
+  -- bytes after a list that holds its first command change neither the command nor its suffix
+  module _ (more : List ℕ) where
+    later-word : (k : ℕ) → k < wordsOf number → wordAt (bs ++ more) k ≡ wordAt bs k
+    later-word k h = word-front bs more k (omega (arith, list-long))
+
+    later-number : firstNumber (bs ++ more) ≡ number
+    later-number = ap numberIn (later-word 0 (words-pos number number-small))
+
+    later-count : wholeWords (bs ++ more) ≡ wholeWords bs
+    later-count = whole-of (bs ++ more) number later-number (omega (arith, list-long, length-append bs more)) ∙ sym counted-words
+
+    later-own : (k : ℕ) → ownWord (bs ++ more) (wholeWords bs) k ≡ ownWord bs (wholeWords bs) k
+    later-own k =
+        by-test (ltb k (wholeWords bs))
+        (λ t. let h : k < wholeWords bs = ltb-true k (wholeWords bs) t in rw t (later-word k (omega (arith, counted-words))))
+        (λ f. rw f)
+
+    later-words : ownWords (bs ++ more) (wholeWords bs) ≡ words
+    later-words = λ i. later-word 0 (words-pos number number-small) i ∷ later-own 1 i ∷ later-own 2 i ∷ later-own 3 i ∷ []
+
+    pub decode-later : decodeOf (bs ++ more) ≡ decodeOf bs
+    decode-later =
+        sym (whole (bs ++ more) (λ z. there (sym later-count ∙ z))
+        (ap (commandIn number) (sym later-words) ∙ (λ i. commandIn (sym later-number i) (ownWords (bs ++ more) (sym later-count i))))) ∙
+        whole bs there refl
+
+    pub suffix-later : suffixOf (bs ++ more) ≡ suffixOf bs
+    unfolding suffixOf suffixStart
+    suffix-later =
+        ap (λ (k : ℕ). take (8 * suffixWords k) (drop (cond (ltb 4 k) 32 0) (bs ++ more))) (later-count ∙ counted-words) ∙
+        by-test (ltb 4 (wordsOf number))
+        (λ t.
+        let h : 4 < wordsOf number = ltb-true 4 (wordsOf number) t in
+        let l = list-long in
+        rw t
+        (ap (take (8 * suffixWords (wordsOf number))) (drop-append-le 32 bs more (omega arith)) ∙
+        take-append-le (8 * suffixWords (wordsOf number)) (drop 32 bs) more (omega (arith, length-drop 32 bs))))
+        (λ f.
+        let h : wordsOf number ≤ 4 = ltb-false 4 (wordsOf number) f in
+        let z : 8 * suffixWords (wordsOf number) ≡ 0 = omega arith in
+        rw (f, z)) ∙
+        ap (λ (k : ℕ). take (8 * suffixWords k) (drop (cond (ltb 4 k) 32 0) bs)) (sym counted-words)
 
   values : valuesOf command ≡ fieldsOf (layout number) words
   values = values-read number number-small words

@@ -1,14 +1,14 @@
 -- Words read back from the bytes that were written. Assumes nothing.
-use Prim.Native.Nat.{ℕ, zero, suc, _+_, _*_, _/_, _%_, _^_, _<_}
-use mathlib.Core.List.{List, _++_, append-assoc}
-use mathlib.Core.Path.{_≡_, ap, sym, _∙_}
+use Prim.Native.Nat.{ℕ, zero, suc, _+_, _*_, _/_, _%_, _^_, _≤_, _<_}
+use mathlib.Core.List.{List, [], _∷_, _++_, append-assoc}
+use mathlib.Core.Path.{_≡_, refl, ap, sym, _∙_}
 use native.Mathlib.Nat.{mod-eq-of-lt, not-suc-le-zero}
 use native.Mathlib.Omega.{arith}
 use borrow.Author.Tests.{lt-ltb, eqb-true, eqb-false}
 use lib.Dec.{eqb}
-use lib.ListN.{length, drop}
+use lib.ListN.{length, drop, length-append, length-drop}
 use lib.Pow.{mod-pow-add, split, shr-shr, shr-lt}
-use lib.Seq.{drop-at}
+use lib.Seq.{drop-at, drop-append-le}
 use Rattle.rdp_command.specs.Words.{halfOf, wordOf, wordAt, bytesOf}
 use Rattle.rdp_command.specs.Encode.{packedWord, packedBytes}
 use Rattle.rdp_command.proofs.Tests.{by-test}
@@ -42,6 +42,25 @@ word-back w rest h = (λ i. high-half w rest h i * 2 ^ 32 + low-half w rest i) �
 pub word-whole : (bs : List ℕ) (k : ℕ) → k < length bs / 8 → wordAt bs k ≡ wordOf (drop (8 * k) bs)
 unfolding wordAt
 word-whole bs k h = rw (lt-ltb _ _ h)
+
+half-front : (bs more : List ℕ) → 4 ≤ length bs → halfOf (bs ++ more) ≡ halfOf bs
+unfolding halfOf
+half-front [] more h = absurd (omega arith)
+half-front (a ∷ []) more h = absurd (omega arith)
+half-front (a ∷ b ∷ []) more h = absurd (omega arith)
+half-front (a ∷ b ∷ c ∷ []) more h = absurd (omega arith)
+half-front (a ∷ b ∷ c ∷ d ∷ bs) more h = refl
+
+-- a whole word of a list, whatever follows the list
+pub word-front : (bs more : List ℕ) (k : ℕ) → k < length bs / 8 → wordAt (bs ++ more) k ≡ wordAt bs k
+word-front bs more k h =
+    let rest = drop (8 * k) bs in
+    let long : 8 ≤ length rest = omega (arith, length-drop (8 * k) bs) in
+    let low : 4 ≤ length (drop 4 rest) = omega (arith, length-drop 4 rest) in
+    word-whole (bs ++ more) k (omega (arith, length-append bs more)) ∙
+    ap wordOf (drop-append-le (8 * k) bs more (omega arith)) ∙
+    (λ i. half-front rest more (omega arith) i * 2 ^ 32 + (ap halfOf (drop-append-le 4 rest more (omega arith)) ∙ half-front (drop 4 rest) more low) i) ∙
+    sym (word-whole bs k h)
 
 -- word k of the words of a command, whatever follows them
 pub packed-at :
