@@ -93,7 +93,7 @@ module _ (n : ℕ) (h : n < 64) where
     abbrev line : Line
     line = getD (layout n) k (bits 0 0 0)
 
-    pub word-in : line .word < baseWords n
+    word-in : line .word < baseWords n
     word-in = in-words (baseWords n) (layout n) (parts .1 .1 .1 .1 .0) k (bits 0 0 0) s
 
     at-word : (i : ℕ) → i < 4 → line .word ≡ i → bitsAt line (packedWord n ns i) ≡ getD ns k 0 % 2 ^ width line
@@ -104,7 +104,7 @@ module _ (n : ℕ) (h : n < 64) where
     at-word (suc (suc (suc zero))) r e = read-at (bits 0 0 0) 3 64 0 (layout n) ns (parts .1 .1 .1 .0) long k s e
     at-word (suc (suc (suc (suc i)))) r e = absurd (omega arith)
 
-    pub bits-of-word : bitsAt line (packedWord n ns (line .word)) ≡ getD ns k 0 % 2 ^ width line
+    bits-of-word : bitsAt line (packedWord n ns (line .word)) ≡ getD ns k 0 % 2 ^ width line
     bits-of-word = at-word (line .word) (omega (arith, word-in)) refl
 
 -- ---- the fields of the words are the values
