@@ -1,8 +1,8 @@
 #!/usr/bin/env python3
-"""The test lists of crates/rdp_vectors, and what the program must print.
+"""What the program crates/rdp_vectors must print for the lists of its lists.rt.
 
-    tools/vectors.py            writes crates/rdp_vectors/src/lists.rt and crates/rdp_vectors/stdout
-    tools/vectors.py --check    says whether both files are as it would write them
+    tools/vectors.py            writes crates/rdp_vectors/stdout
+    tools/vectors.py --check    says whether that file is as it would write it
 
 The bit lines below are typed from the bit lists of document 000 (N64brew, RDP commands); signs, widths of addresses and refusals
 follow document 01. Nothing here is taken from crates/rdp_command, so that the program's output and this file are independent.
@@ -319,176 +319,6 @@ def from_fields(number, values):
     return 0, len(values)
 
 
-# ---- The lists: a comment, the words, and the length in bytes where it is not that of the words.
-
-# Coefficients that follow a triangle's base. All bits are kept, those too that document 000 leaves unused.
-SHADE = [
-    0x00FF_0080_0040_00FF, 0xFFFE_0001_8000_7FFF, 0x8000_1234_FFFF_0001, 0x4000_C000_0FED_CBA9,
-    0x0003_FFFC_0010_FFF0, 0x0102_0304_0506_0708, 0x89AB_CDEF_0123_4567, 0xF0E1_D2C3_B4A5_9687,
-]
-TEXTURE = [
-    0xFFC0_0040_7FFF_FFFF, 0x0020_FFE0_8001_A5A5, 0x1111_2222_3333_4444, 0xFEDC_BA98_7654_3210,
-    0x0800_F800_0001_5A5A, 0xDEAD_BEEF_CAFE_F00D, 0x7000_0007_0700_0070, 0x5555_AAAA_9999_6666,
-]
-DEPTH = [0x7FFF_8000_FFFE_4000, 0x8001_2345_0000_FFFF]
-
-LISTS = [
-    ('no_operations', [
-        ('0x00: G_SPNOOP of document 003.', [0x0000_0000_0000_0000]),
-        ('0x07: its example of G_QUAD; no operation to the RDP, its other bits unused.', [0x0700_0204_0000_0406]),
-        ('0x10, all other bits set.', [0xD0FF_FFFF_FFFF_FFFF]),
-        ('0x1E: its example of G_DL.', [0xDE00_0000_0700_0A50]),
-        ('0x20: G_NOOP.', [0xE000_0000_0000_0000]),
-        ('0x23: G_SetOtherMode_H, two-cycle mode.', [0xE300_0A01_0010_0000]),
-        ('0x31: G_RDPHALF_2, the steps of a texture rectangle.', [0xF100_0000_0400_0400]),
-    ]),
-    ('flat_triangles', [
-        ('0x08: slopes of -1.5, 1.25 and -0.25.', [
-            0x0800_01E0_0140_00A0, 0x0064_8000_3FFE_8000, 0x00C8_4000_0001_4000, 0x00C8_4000_3FFF_C000]),
-        ('0x09: every signed field at an end of its range or at -1.', [
-            0x09BF_3FFF_1FFF_2000, 0x0FFF_FFFF_3FFF_0001, 0x0800_0000_2000_0000, 0x07FF_FFFF_1FFF_FFFF] + DEPTH),
-    ]),
-    ('textured_triangle', [
-        ('0x0A: every unused bit of the base set.', [
-            0xCA6A_C123_F000_C064, 0xF123_4567_E001_89AB, 0xF9AB_CDEF_C001_8000, 0xFFFF_0000_FFFF_0000] + TEXTURE),
-    ]),
-    ('textured_triangle_with_depth', [
-        ('0x0B: the heights, two x and two slopes negative.', [
-            0x0B84_3F9C_3F38_3E70, 0x0FF6_1999_3FFD_6666, 0x0014_E666_0002_9999, 0x0F38_0001_3FF0_FFFF] + TEXTURE + DEPTH),
-    ]),
-    ('shaded_triangle', [
-        ('0x0C: yl 8191, ym 0, yh -8192.', [
-            0xCC39_1FFF_0000_2000, 0x07FF_0000_1FFF_0000, 0x0800_8000_2000_8000, 0x0000_0001_0000_0001] + SHADE),
-    ]),
-    ('shaded_triangle_with_depth', [
-        ('0x0D: a triangle across the upper left corner of the screen.', [
-            0x0D80_0050_0010_3FC0, 0x0028_0000_3FFE_0000, 0x0FE0_8000_0000_8000, 0x0FE0_8000_0003_4000] + SHADE + DEPTH),
-    ]),
-    ('shaded_and_textured_triangle', [
-        ('0x0E: alternating bits.', [
-            0x0EAD_1555_2AAA_1555, 0x0AAA_5555_2AAA_5555, 0x0555_AAAA_1555_AAAA, 0x0A5A_A5A5_1A5A_A5A5] + SHADE + TEXTURE),
-    ]),
-    ('whole_triangle', [
-        ('0x0F, with a Sync Full after it that is not read.', [
-            0xCF92_0123_3456_2789, 0x0BCD_EF01_2345_6789, 0x0987_6543_3210_FEDC, 0x0765_4321_1ABC_DEF0] + SHADE + TEXTURE + DEPTH
-            + [0xE900_0000_0000_0000]),
-    ]),
-    ('texture_rectangles', [
-        ('G_TEXRECT over a screen of 320 by 240, one texel a pixel.', [0xE450_03C0_0000_0000, 0x0000_0000_0400_0400]),
-        ('0x24: every unused bit set; s, t, dsdx and dtdy negative.', [0xE4AB_CDEF_FD12_3456, 0xFFE0_FFFF_FC00_8000]),
-        ('0x24, with 7 bytes after it that are not read.', [
-            0x24FF_F001_0300_2FFE, 0x8000_7FFF_FFFF_0001, 0xE900_0000_0000_0000], 23),
-        ('G_TEXRECTFLIP.', [0xE50A_00C0_0105_0060, 0x0010_FFF0_0400_FC00]),
-    ]),
-    ('syncs', [
-        ('G_RDPLOADSYNC.', [0xE600_0000_0000_0000]),
-        ('G_RDPPIPESYNC.', [0xE700_0000_0000_0000]),
-        ('G_RDPTILESYNC.', [0xE800_0000_0000_0000]),
-        ('G_RDPFULLSYNC.', [0xE900_0000_0000_0000]),
-        ('0x26 to 0x29, bits 55:0 set, bits 63:62 in each of their four ways.', [0xE6FF_FFFF_FFFF_FFFF]),
-        ('', [0x67FF_FFFF_FFFF_FFFF]),
-        ('', [0xA8FF_FFFF_FFFF_FFFF]),
-        ('', [0x29FF_FFFF_FFFF_FFFF]),
-    ]),
-    ('keys_and_convert', [
-        ('G_SETKEYGB.', [0xEA1C_02D0_80FF_4020]),
-        ('0x2A.', [0x2AFE_DCBA_9876_5432]),
-        ('G_SETKEYR.', [0xEB00_0000_01C0_80FF]),
-        ('0x2B, every unused bit set.', [0xEBFF_FFFF_FABC_1234]),
-        ('G_SETCONVERT: 175, -43, -89, 222, 114, 42 in 9 bits. Document 01 reads them as unsigned.', [0xEC15_FD5D_3B78_E42A]),
-        ('0x2C, all bits set.', [0xECFF_FFFF_FFFF_FFFF]),
-    ]),
-    ('scissor_and_depth', [
-        ('G_SETSCISSOR, 320 by 240.', [0xED00_0000_0050_03C0]),
-        ('G_SETSCISSOR, odd lines.', [0xED02_8034_034D_837C]),
-        ('0x2D, even lines, every unused bit set.', [0xEDFF_F800_FE80_07FF]),
-        ('The scissor of document 01, 8 by 4.', [0x2D00_0000_0002_0010]),
-        ('G_SETPRIMDEPTH. Document 01 reads both as unsigned.', [0xEE00_0000_8000_FFFF]),
-        ('0x2E, every unused bit set.', [0xEEFF_FFFF_1234_5678]),
-    ]),
-    ('other_modes', [
-        ('G_RDPSetOtherMode, two-cycle mode, perspective and bilinear filter.', [0xEF18_2C0F_C811_2078]),
-        ('0x2F, all bits set.', [0xEFFF_FFFF_FFFF_FFFF]),
-        ('The modes of document 01: FILL.', [0x2F30_0000_0000_0000]),
-        ('Six words that tell each bit from every other: the bits whose place has bit 0 set, then bit 1, up to bit 5.',
-         [0x2FAA_AAAA_AAAA_AAAA]),
-        ('', [0x2FCC_CCCC_CCCC_CCCC]),
-        ('', [0x2FF0_F0F0_F0F0_F0F0]),
-        ('', [0x2F00_FF00_FF00_FF00]),
-        ('', [0x2FFF_0000_FFFF_0000]),
-        ('', [0x2FFF_FFFF_0000_0000]),
-    ]),
-    ('loads', [
-        ('G_LOADTLUT, 256 colours.', [0xF000_0000_073F_C000]),
-        ('0x30, every unused bit set.', [0xF012_3456_FD78_9ABC]),
-        ('G_LOADBLOCK, the four examples of document 003.', [0xF300_0000_077F_F100]),
-        ('', [0xF300_0000_077F_F080]),
-        ('', [0xF300_0000_073F_F100]),
-        ('', [0xF300_0000_07FF_F100]),
-        ('0x33, every unused bit set.', [0xF3AB_CDEF_FA98_7654]),
-        ('G_LOADTILE.', [0xF401_0020_0507_C0FC]),
-        ('0x34, every unused bit set.', [0xF4FF_E001_FE80_1FFF]),
-    ]),
-    ('tile_sizes', [
-        ('G_SETTILESIZE, the three examples of document 003.', [0xF200_0000_0007_C07C]),
-        ('', [0xF200_0000_000F_C07C]),
-        ('', [0xF200_0000_0007_C0FC]),
-        ('0x32, every unused bit set.', [0xF265_4321_FBFE_DCBA]),
-    ]),
-    ('tiles', [
-        ('G_SETTILE, the seven examples of document 003.', [0xF510_0000_0700_0000]),
-        ('', [0xF570_0000_0700_0000]),
-        ('', [0xF510_1000_0701_4050]),
-        ('', [0xF510_2000_0701_4060]),
-        ('', [0xF570_1000_0001_4050]),
-        ('', [0xF500_0100_0100_0000]),
-        ('', [0xF540_0800_0009_8060]),
-        ('0x35, every unused bit set.', [0xF5B6_AB55_FEA5_9A5C]),
-        ('0x35, all bits set.', [0xF5FF_FFFF_FFFF_FFFF]),
-    ]),
-    ('fills', [
-        ('G_FILLRECT, 320 by 240.', [0xF64F_C3BC_0000_0000]),
-        ('R of document 01: pixels (1,1) to (2,2).', [0x3600_8008_0000_4004]),
-        ('0x36, every unused bit set.', [0xF612_3456_FF78_9ABC]),
-        ('G_SETFILLCOLOR.', [0xF700_0000_0001_0001]),
-        ('C of document 01.', [0x3700_0000_F801_003F]),
-        ('0x37, every unused bit set, with 3 bytes after it that are not read.', [0xF7FF_FFFF_89AB_CDEF, 0xFFFF_FF00_0000_0000], 11),
-    ]),
-    ('colors', [
-        ('G_SETFOGCOLOR, the example of document 003.', [0xF800_0000_00FF_00FF]),
-        ('0x38, every unused bit set.', [0xF8FF_FFFF_1234_5678]),
-        ('G_SETBLENDCOLOR.', [0xF900_0000_00FF_00FF]),
-        ('0x39, every unused bit set.', [0xF9FF_FFFF_89AB_CDEF]),
-        ('G_SETPRIMCOLOR.', [0xFA00_8040_1234_5678]),
-        ('0x3A, every unused bit set.', [0xFAFF_0180_FEDC_BA98]),
-        ('G_SETENVCOLOR, the example of document 003.', [0xFB00_0000_FF00_008C]),
-        ('0x3B, every unused bit set.', [0xFBFF_FFFF_1357_9BDF]),
-        ('G_SETCOMBINE, the two examples of document 003.', [0xFC12_7FFF_FFFF_F838]),
-        ('', [0xFC12_1824_FF33_FFFF]),
-        ('0x3C, all bits set.', [0xFCFF_FFFF_FFFF_FFFF]),
-    ]),
-    ('images', [
-        ('G_SETTIMG, the example of document 003. Its segment is in unused bits.', [0xFD10_0000_0400_0090]),
-        ('0x3D, every unused bit set.', [0xFDBF_FE34_FF56_789A]),
-        ('G_SETZIMG.', [0xFE00_0000_0E02_5800]),
-        ('0x3E, every unused bit set.', [0xFEFF_FFFF_FF12_3456]),
-        ('G_SETCIMG, 16 bits, 320 wide.', [0xFF10_013F_003D_A800]),
-        ('The colour image of document 01.', [0x3F10_0007_0000_0000]),
-        ('0x3F, every unused bit set. Its address has two bits more than the others.', [0xFF4F_FDCB_FEDC_BA98]),
-    ]),
-    ('refused_lists', [
-        ('No bytes.', [], 0),
-        ('7 bytes.', [0xE700_0000_0000_0000], 7),
-        ('Triangles that are cut: 0x08 a byte short, 0x0F a word and a byte short.', [
-            0x0800_01E0_0140_00A0, 0x0064_8000_3FFE_8000, 0x00C8_4000_0001_4000, 0x00C8_4000_3FFF_C000], 31),
-        ('', [0x0F00_01E0_0140_00A0], 168),
-        ('', [0x0F00_01E0_0140_00A0], 175),
-        ('Texture rectangles that are cut.', [0xE450_03C0_0000_0000], 8),
-        ('', [0xE550_03C0_0000_0000, 0x0000_0000_0400_0400], 15),
-    ]),
-]
-
-
 # ---- What is refused elsewhere, in the order of src/refusals.rt: each entry is an answer, number and place.
 
 def triangle(flags=(0, 0, 0), **changed):
@@ -595,7 +425,7 @@ REFUSALS = [
 WORDS_BEYOND = ' ' + ' '.join(f'{word:016x}' for word in ((1 << 64) - 1, 0, 0))
 
 
-# ---- The two files.
+# ---- The lists of lists.rt, and what is printed for them.
 
 def bytes_of(words, length):
     """The first bytes of words, most significant byte first, with zeros after them."""
@@ -609,10 +439,11 @@ def every_number():
 
 
 def vectors():
-    """Each list's function, comment, words and length in bytes."""
-    for name, lists in LISTS:
-        for comment, words, *length in lists:
-            yield name, comment, words, length[0] if length else 8 * len(words)
+    """Each list of lists.rt: the comment above it, its words, and its length in bytes."""
+    text = (CRATE / 'src' / 'lists.rt').read_text()
+    calls = re.findall(r'(?:// (.*)\n\s*)?show_words\(\s*&\[([^\]]*)\],\s*(\d+),?\s*\);', text)
+    assert len(calls) == text.count('show_words(')
+    return [(comment, [int(word, 16) for word in re.findall(r'0x\w+', words)], int(length)) for comment, words, length in calls]
 
 
 def printed(words, length):
@@ -630,32 +461,8 @@ def printed(words, length):
 
 
 def stdout():
-    shown = [printed(words, length) for words, length in [vector[2:] for vector in vectors()] + every_number()]
+    shown = [printed(words, length) for words, length in [vector[1:] for vector in vectors()] + every_number()]
     return ''.join(line + '\n' for line in shown + [f'{number} {place}' for number, place in REFUSALS] + [WORDS_BEYOND])
-
-
-def grouped(word):
-    return '0x' + re.sub(r'(.{4})(?!$)', r'\1_', f'{word:016X}')
-
-
-def call(words, length):
-    """A call that shows a list, laid out as rt fmt does."""
-    numbers = [grouped(word) for word in words]
-    if len(numbers) <= 2:
-        return f'    show_words(&[{", ".join(numbers)}], {length});\n'
-    return '    show_words(\n        &[\n' + ''.join(f'            {n},\n' for n in numbers) + f'        ],\n        {length},\n    );\n'
-
-
-def source():
-    text = '// The lists, as words and a length in bytes. Written by tools/vectors.py.\nuse crate::show::show_words;\n\npub fn show_lists() {\n'
-    text += ''.join(f'    {name}();\n' for name, _ in LISTS) + '}\n'
-    current = None
-    for name, comment, words, length in vectors():
-        if name != current:
-            text += ('}\n' if current else '') + f'\nfn {name}() {{\n'
-            current = name
-        text += (f'    // {comment}\n' if comment else '') + call(words, length)
-    return text + '}\n'
 
 
 def unused(number):
@@ -670,7 +477,7 @@ def unused(number):
 def check_lists():
     """Every command has a list, a no operation of each row's ends too, and a list has the bits that its comment says."""
     seen = set()
-    for _, comment, words, length in vectors():
+    for comment, words, length in vectors():
         if length >= 8:
             number = words[0] >> 56 & 63
             seen.add(number)
@@ -681,14 +488,13 @@ def check_lists():
 
 def main():
     check_lists()
-    files = {CRATE / 'src' / 'lists.rt': source(), CRATE / 'stdout': stdout()}
+    path, text = CRATE / 'stdout', stdout()
     if sys.argv[1:] == ['--check']:
-        stale = [path for path, text in files.items() if not path.exists() or path.read_text() != text]
-        for path in stale:
-            print(f'{path} is not what tools/vectors.py writes')
-        return 1 if stale else 0
-    for path, text in files.items():
-        path.write_text(text)
+        if path.read_text() == text:
+            return 0
+        print(f'{path} is not what tools/vectors.py writes')
+        return 1
+    path.write_text(text)
     return 0
 
 

@@ -1,4 +1,4 @@
-// The lists, as words and a length in bytes. Written by tools/vectors.py.
+// The lists, as words and a length in bytes. tools/vectors.py reads them here, with the comment above each.
 use crate::show::show_words;
 
 pub fn show_lists() {

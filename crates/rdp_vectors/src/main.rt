@@ -5,7 +5,7 @@
 // The number in hexadecimal, the fields in decimal in the order of the wiki's bit lines, signed ones with their sign, the words that encoding the
 // command gives back, the word after them in the output, which is left as it was, and 'same' where the command that is made of the printed numbers is
 // encoded to the same bytes. A list that is refused has the line 'refused', number and place. Then come the answers of refusals.rt, number and place.
-// tools/vectors.py writes lists.rt and the file stdout.
+// tools/vectors.py works out the file stdout.
 mod lists;
 mod refusals;
 mod show;
