@@ -1,0 +1,57 @@
+-- The fields that the check and the drawing read of a command's first word are those that decoding gives. Assumes nothing.
+use mathlib.Core.List.{List}
+use mathlib.Core.Path.{_≡_, refl, sym, _∙_, ap}
+use Prim.Native.Nat.{ℕ}
+use Rattle.rdp_command.specs.Words.{wordAt}
+use Rattle.rdp_command.specs.Layout.{layout, otherModesLines}
+use Rattle.rdp_command.specs.Fields.{fieldsOf}
+use Rattle.rdp_command.specs.Groups.{otherModesOf}
+use Rattle.rdp_command.specs.Commands.{commandOf, numberOf}
+use Rattle.rdp_command.specs.Decode.{firstNumber, wholeWords, ownWords, commandIn, decodeOf, wordFields}
+use Rattle.rdp_command.specs.declared.command.Command.{Command}
+use Rattle.rdp_command.specs.declared.command.Command.the-variants.{SetOtherModes, SetScissor, SetColorImage, SetFillColor, FillRectangle}
+use Rattle.rdp_command.specs.declared.command.Decoded.the-variants.{Whole}
+use Rattle.rdp_command.specs.declared.command.OtherModes.{OtherModes}
+use Rattle.rdp_command.proofs.AnswerLaws.{whole}
+use Rattle.rdp_command.proofs.Laws.{number-decoded}
+
+module _ (bs : List ℕ) (there : wholeWords bs ≡ 0 → ⊥) where
+  abbrev words : List ℕ
+  words = ownWords bs (wholeWords bs)
+
+  -- decoding gives a command of the number in the first word
+  abbrev pub decoded : Command
+  decoded = commandIn (firstNumber bs) words
+
+  pub decodes : decodeOf bs ≡ Whole decoded
+  decodes = sym (whole bs there refl)
+
+  pub decoded-number : numberOf decoded ≡ firstNumber bs
+  decoded-number = number-decoded bs there
+
+  -- the other modes, whose cycle type is the one that is read
+  abbrev pub otherModes : OtherModes
+  otherModes = otherModesOf (fieldsOf otherModesLines words)
+
+  pub reads-other-modes : firstNumber bs ≡ 0x2F → decoded ≡ SetOtherModes otherModes
+  unfolding commandOf layout
+  reads-other-modes e = ap (λ (n : ℕ). commandIn n words) e
+
+  pub reads-cycle : otherModes .«cycle_type» ≡ wordFields (wordAt bs 0) .«cycle_type»
+  reads-cycle = refl
+
+  pub reads-scissor : firstNumber bs ≡ 0x2D → decoded ≡ SetScissor (wordFields (wordAt bs 0) .scissor)
+  unfolding commandOf layout
+  reads-scissor e = ap (λ (n : ℕ). commandIn n words) e
+
+  pub reads-rectangle : firstNumber bs ≡ 0x36 → decoded ≡ FillRectangle (wordFields (wordAt bs 0) .rectangle)
+  unfolding commandOf layout
+  reads-rectangle e = ap (λ (n : ℕ). commandIn n words) e
+
+  pub reads-fill-color : firstNumber bs ≡ 0x37 → decoded ≡ SetFillColor (wordFields (wordAt bs 0) .«fill_color»)
+  unfolding commandOf layout
+  reads-fill-color e = ap (λ (n : ℕ). commandIn n words) e
+
+  pub reads-color-image : firstNumber bs ≡ 0x3F → decoded ≡ SetColorImage (wordFields (wordAt bs 0) .«color_image»)
+  unfolding commandOf layout
+  reads-color-image e = ap (λ (n : ℕ). commandIn n words) e

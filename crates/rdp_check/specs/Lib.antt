@@ -1,0 +1,5 @@
+pub mod Hazards
+pub mod Commands
+pub mod Registers
+pub mod Check
+pub mod View

@@ -1,0 +1,47 @@
+// The check of a command list: hazards, refusals and registers.
+ghost use mathlib.Core.Path.{_≡_};
+ghost use Prim.Native.Nat.{_%_};
+ghost use Rattle.rdp_check.specs.Hazards.{transitionOf};
+ghost use Rattle.rdp_check.specs.Check.{checkOf};
+
+mod hazards;
+pub mod registers;
+mod table;
+mod walk;
+
+// The number of the first refusal, 0 where the list is accepted; its place in words; and the hazards there.
+#[repr(C)]
+pub struct Checked {
+    pub number: u32,
+    pub place: u32,
+    pub hazards: u8,
+}
+
+// The hazards after a command, whether a sync is missing, and the sync that the command requires: 0 none, 1 Load, 2 Tile, 3 Pipe.
+#[repr(C)]
+pub struct Transition {
+    pub next: u8,
+    pub missing: bool,
+    pub required: u8,
+}
+
+// One step of the hazards (1 P, 2 T, 4 D, 8 G, summed) by the table. Of the hazards the low four bits count, of the command number the low six.
+pub fn step(hazards: u8, number: u8) -> Transition
+    ensures { λ r. ⌜ r ≡ transitionOf hazards (number % 64) ⌝ }
+{
+    let table = table::step_table();
+    let e = hazards::entry(&table, hazards, number % 64);
+    Transition {
+        next: e % 16,
+        missing: 16 <= e,
+        required: e / 32,
+    }
+}
+
+// The first refusal of a list, with the hazards there: 1 and 2 of the list, then 3 to 9 of its commands in order; 0 at the number of words where none
+// holds.
+pub fn check(list: &[u8]) -> Checked
+    ensures { λ r. ⌜ r ≡ checkOf (now (list .entry)) ⌝ }
+{
+    walk::check_within(list, 4096, true)
+}
