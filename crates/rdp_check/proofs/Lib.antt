@@ -5,3 +5,5 @@ pub mod ReadLaws
 pub mod ListLaws
 pub mod ViewLaws
 pub mod WalkLaws
+pub mod RegisterLaws
+pub mod ReplayLaws

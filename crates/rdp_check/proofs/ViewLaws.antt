@@ -14,7 +14,7 @@ use Rattle.rdp_command.specs.declared.command.Command.{Command}
 use Rattle.rdp_command.specs.declared.command.Command.the-variants.{NoOperation, FillTriangle, TextureRectangle, TextureRectangleFlip, SyncLoad, SyncPipe, SyncTile, SyncFull, SetKeyGb, SetKeyR, SetConvert, SetScissor, SetPrimitiveDepth, SetOtherModes, LoadTlut, SetTileSize, LoadBlock, LoadTile, SetTile, FillRectangle, SetFillColor, SetFogColor, SetBlendColor, SetPrimitiveColor, SetEnvironmentColor, SetCombineMode, SetTextureImage, SetDepthImage, SetColorImage}
 use Rattle.rdp_command.proofs.Tests.{below, both, by-test, same, same-bool}
 use Rattle.rdp_check.specs.Hazards.{nextOf, requiredOf, entryOf}
-use Rattle.rdp_check.specs.Registers.{registersAfter, afterDecoded, withTile, withSize}
+use Rattle.rdp_check.specs.Registers.{registersAfter, afterDecoded}
 use Rattle.rdp_check.specs.Check.{State, afterCommand, draws, refusalOf, refusalAt}
 use Rattle.rdp_check.specs.View.{headOf, viewOf, viewAfter, viewRefusal, quiet, AdvancedIs}
 use Rattle.rdp_check.specs.declared.registers.Registers.{Registers}
@@ -123,7 +123,7 @@ seen r =
 
 -- a command that sets none of them
 others : (r : Registers) (c : Command) → (numberOf c ≡ 0x2F → ⊥) → (numberOf c ≡ 0x3F → ⊥) → (numberOf c ≡ 0x2D → ⊥) → seen (registersAfter r c) ≡ seen r
-unfolding registersAfter withTile withSize
+unfolding registersAfter
 others r (NoOperation n) m i s = refl
 others r (FillTriangle g) m i s = refl
 others r (TextureRectangle g) m i s = refl

@@ -153,46 +153,49 @@ noDescriptor =
 abbrev pub noTile : Tile
 noTile = record { set = false; descriptor = noDescriptor; sized = false; «upper_left» = noCorner; «lower_right» = noCorner }
 
+abbrev pub noColors : Colors
+noColors =
+    colorsOf (record { set = false; color = 0 }) noColorRegister noColorRegister
+    (record { set = false; color = record { «min_level» = 0; «prim_lod_frac» = 0; color = noColor } })
+    noColorRegister
+
+abbrev pub noCombiner : Combiner
+noCombiner =
+    combinerOf (record { set = false; mode = 0 })
+    (record { set = false; key = record { «width_g» = 0; «width_b» = 0; «center_g» = 0; «scale_g» = 0; «center_b» = 0; «scale_b» = 0 } })
+    (record { set = false; key = record { «width_r» = 0; «center_r» = 0; «scale_r» = 0 } })
+    (record { set = false; convert = record { k0 = 0; k1 = 0; k2 = 0; k3 = 0; k4 = 0; k5 = 0 } })
+
+abbrev pub noModes : Modes
+noModes =
+    modesOf (record { set = false; modes = noOtherModes }) (record { set = false; depth = record { z = 0; dz = 0 } })
+    (record {
+      set = false;
+      scissor = record { «upper_left» = record { x = 0; y = 0 }; «field» = false; odd = false; «lower_right» = record { x = 0; y = 0 } };
+    })
+
+abbrev pub noImages : Images
+noImages = imagesOf noImage noImage (record { set = false; address = 0 })
+
 unfoldable pub noRegisters : Registers
-noRegisters =
-    record {
-      colors =
-          colorsOf (record { set = false; color = 0 }) noColorRegister noColorRegister
-          (record { set = false; color = record { «min_level» = 0; «prim_lod_frac» = 0; color = noColor } })
-          noColorRegister;
-      combiner =
-          combinerOf (record { set = false; mode = 0 })
-          (record { set = false; key = record { «width_g» = 0; «width_b» = 0; «center_g» = 0; «scale_g» = 0; «center_b» = 0; «scale_b» = 0 } })
-          (record { set = false; key = record { «width_r» = 0; «center_r» = 0; «scale_r» = 0 } })
-          (record { set = false; convert = record { k0 = 0; k1 = 0; k2 = 0; k3 = 0; k4 = 0; k5 = 0 } });
-      modes =
-          modesOf (record { set = false; modes = noOtherModes }) (record { set = false; depth = record { z = 0; dz = 0 } })
-          (record {
-            set = false;
-            scissor = record { «upper_left» = record { x = 0; y = 0 }; «field» = false; odd = false; «lower_right» = record { x = 0; y = 0 } };
-          });
-      images = imagesOf noImage noImage (record { set = false; address = 0 });
-      tiles = replicate 8 noTile;
-    }
+noRegisters = record { colors = noColors; combiner = noCombiner; modes = noModes; images = noImages; tiles = replicate 8 noTile }
 
 -- ---- after a command
 
 -- a tile by its number, of which the low three bits count
-abbrev pub tileOf : Registers → ℕ → Tile
-tileOf r i = getD (r .tiles) (i % 8) noTile
+abbrev pub tileOf : List Tile → ℕ → Tile
+tileOf ts i = getD ts (i % 8) noTile
 
--- a tile's descriptor set, and its size
-unfoldable pub withTile : Registers → TileDescriptor → Registers
-withTile r d =
-    let t = tileOf r (d .index) in
-    withTiles r
-    (set (r .tiles) (d .index % 8) (record { set = true; descriptor = d; sized = t .sized; «upper_left» = t .«upper_left»; «lower_right» = t .«lower_right» }))
+-- the tiles with one descriptor set, and with the size of one set
+unfoldable pub describedTiles : List Tile → TileDescriptor → List Tile
+describedTiles ts d =
+    let t = tileOf ts (d .index) in
+    set ts (d .index % 8) (record { set = true; descriptor = d; sized = t .sized; «upper_left» = t .«upper_left»; «lower_right» = t .«lower_right» })
 
-unfoldable pub withSize : Registers → ℕ → TexelCorner → TexelCorner → Registers
-withSize r i first last =
-    let t = tileOf r i in
-    withTiles r
-    (set (r .tiles) (i % 8) (record { set = t .set; descriptor = t .descriptor; sized = true; «upper_left» = first; «lower_right» = last }))
+unfoldable pub sizedTiles : List Tile → ℕ → TexelCorner → TexelCorner → List Tile
+sizedTiles ts i first last =
+    let t = tileOf ts i in
+    set ts (i % 8) (record { set = t .set; descriptor = t .descriptor; sized = true; «upper_left» = first; «lower_right» = last })
 
 -- the registers after a command: each Set command its own register; the loads their tile's size, as document 000 says of each; of a Load Block the
 -- last value is dxt
@@ -211,11 +214,11 @@ registersAfter r (SetConvert g) = withCombiner r (combinerOf (r .combiner .combi
 registersAfter r (SetScissor g) = withModes r (modesOf (r .modes .other) (r .modes .depth) (record { set = true; scissor = g }))
 registersAfter r (SetPrimitiveDepth g) = withModes r (modesOf (r .modes .other) (record { set = true; depth = g }) (r .modes .scissor))
 registersAfter r (SetOtherModes g) = withModes r (modesOf (record { set = true; modes = g }) (r .modes .depth) (r .modes .scissor))
-registersAfter r (LoadTlut g) = withSize r (g .tile) (g .«upper_left») (g .«lower_right»)
-registersAfter r (SetTileSize g) = withSize r (g .tile) (g .«upper_left») (g .«lower_right»)
-registersAfter r (LoadBlock g) = withSize r (g .tile) (g .«upper_left») (record { s = g .«lower_right_s»; t = g .dxt })
-registersAfter r (LoadTile g) = withSize r (g .tile) (g .«upper_left») (g .«lower_right»)
-registersAfter r (SetTile g) = withTile r g
+registersAfter r (LoadTlut g) = withTiles r (sizedTiles (r .tiles) (g .tile) (g .«upper_left») (g .«lower_right»))
+registersAfter r (SetTileSize g) = withTiles r (sizedTiles (r .tiles) (g .tile) (g .«upper_left») (g .«lower_right»))
+registersAfter r (LoadBlock g) = withTiles r (sizedTiles (r .tiles) (g .tile) (g .«upper_left») (record { s = g .«lower_right_s»; t = g .dxt }))
+registersAfter r (LoadTile g) = withTiles r (sizedTiles (r .tiles) (g .tile) (g .«upper_left») (g .«lower_right»))
+registersAfter r (SetTile g) = withTiles r (describedTiles (r .tiles) g)
 registersAfter r (FillRectangle g) = r
 registersAfter r (SetFillColor n) = withColors r (colorsOf (record { set = true; color = n }) (r .colors .fog) (r .colors .blend) (r .colors .primitive) (r .colors .environment))
 registersAfter r (SetFogColor g) = withColors r (colorsOf (r .colors .fill) (record { set = true; color = g }) (r .colors .blend) (r .colors .primitive) (r .colors .environment))
@@ -231,3 +234,19 @@ registersAfter r (SetColorImage g) = withImages r (imagesOf (record { set = true
 abbrev pub afterDecoded : Registers → Decoded → Registers
 afterDecoded r (Whole c) = registersAfter r c
 afterDecoded r (Refused a) = r
+
+-- each group after a command; what other groups hold does not matter
+abbrev pub colorsAfter : Colors → Command → Colors
+colorsAfter g c = registersAfter (withColors noRegisters g) c .colors
+
+abbrev pub combinerAfter : Combiner → Command → Combiner
+combinerAfter g c = registersAfter (withCombiner noRegisters g) c .combiner
+
+abbrev pub modesAfter : Modes → Command → Modes
+modesAfter g c = registersAfter (withModes noRegisters g) c .modes
+
+abbrev pub imagesAfter : Images → Command → Images
+imagesAfter g c = registersAfter (withImages noRegisters g) c .images
+
+abbrev pub tilesAfter : List Tile → Command → List Tile
+tilesAfter ts c = registersAfter (withTiles noRegisters ts) c .tiles

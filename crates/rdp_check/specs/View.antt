@@ -1,13 +1,15 @@
 -- What the check's loop carries and reads, as a view of the state and of a command. No public contract cites this.
-use Prim.Native.Nat.{ℕ}
+use Prim.Native.Nat.{ℕ, _+_}
 use mathlib.Core.Bool.{Bool, true, false, cond, not, _&&_, _||_}
-use mathlib.Core.List.{[], _∷_}
+use mathlib.Core.List.{List, [], _∷_}
 use mathlib.Core.Path.{_≡_}
-use lib.Dec.{eqb}
+use lib.Dec.{eqb, ltb}
 use Rattle.rdp_command.specs.Kinds.{among, wordsOf}
-use Rattle.rdp_command.specs.Decode.{wordFields}
+use Rattle.rdp_command.specs.Decode.{firstNumber, decodeOf, wordFields}
 use Rattle.rdp_check.specs.Hazards.{nextOf, requiredOf}
 use Rattle.rdp_check.specs.Check.{State, draws, refusalOf}
+use Rattle.rdp_check.specs.Registers.{afterDecoded}
+use Rattle.rdp_check.specs.declared.registers.Registers.{Registers}
 use Rattle.rdp_check.specs.declared.walk.Head.{Head}
 use Rattle.rdp_check.specs.declared.walk.View.{View}
 use Rattle.rdp_check.specs.declared.walk.Advanced.{Advanced}
@@ -57,3 +59,13 @@ pub record AdvancedIs (strict : Bool) (v : View) (h : Head) (r : Advanced) : Typ
   pub refusal : r .refusal ≡ viewRefusal strict v (h .number)
   pub words : r .words ≡ wordsOf (h .number)
   pub view : r .view ≡ viewAfter v h
+
+-- the registers after the commands, from a place on, that begin before a place
+unfoldable pub registersUpTo : ℕ → ℕ → Registers → List (List ℕ) → Registers
+registersUpTo end at r [] = r
+registersUpTo end at r (c ∷ cs) =
+    cond (ltb at end) (registersUpTo end (at + wordsOf (firstNumber c)) (afterDecoded r (decodeOf c)) cs) r
+
+-- where the commands end whose registers an outcome has: at its place, but for 1 and 2 before the first
+abbrev pub endOf : ℕ → ℕ → ℕ
+endOf number place = cond (eqb number 1 || eqb number 2) 0 place

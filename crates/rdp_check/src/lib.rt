@@ -2,12 +2,15 @@
 ghost use mathlib.Core.Path.{_≡_};
 ghost use Prim.Native.Nat.{_%_};
 ghost use Rattle.rdp_check.specs.Hazards.{transitionOf};
-ghost use Rattle.rdp_check.specs.Check.{checkOf};
+ghost use Rattle.rdp_check.specs.Check.{checkOf, listStateOf};
+ghost use Rattle.rdp_check.specs.View.{endOf};
 
 mod hazards;
 pub mod registers;
 mod table;
 mod walk;
+
+use registers::Registers;
 
 // The number of the first refusal, 0 where the list is accepted; its place in words; and the hazards there.
 #[repr(C)]
@@ -15,6 +18,15 @@ pub struct Checked {
     pub number: u32,
     pub place: u32,
     pub hazards: u8,
+}
+
+// The same with the registers there.
+#[repr(C)]
+pub struct ListState {
+    pub number: u32,
+    pub place: u32,
+    pub hazards: u8,
+    pub registers: Registers,
 }
 
 // The hazards after a command, whether a sync is missing, and the sync that the command requires: 0 none, 1 Load, 2 Tile, 3 Pipe.
@@ -44,4 +56,29 @@ pub fn check(list: &[u8]) -> Checked
     ensures { λ r. ⌜ r ≡ checkOf (now (list .entry)) ⌝ }
 {
     walk::check_within(list, 4096, true)
+}
+
+// Where the commands end whose registers an answer of the check has: at its place, but for 1 and 2 before the first.
+fn end_of(number: u32, place: u32) -> usize
+    ensures { λ r. ⌜ r ≡ endOf number place ⌝ }
+{
+    if (number == 1) | (number == 2) {
+        return 0;
+    }
+    place as usize
+}
+
+// The check's answer with the registers after the last command; at a refusal, those before the refused command; at 1 or 2, the starting ones.
+pub fn registers_after(list: &[u8]) -> ListState
+    ensures { λ r. ⌜ r ≡ listStateOf (now (list .entry)) ⌝ }
+{
+    let checked = check(list);
+    let end = end_of(checked.number, checked.place);
+    let registers = registers::replay(list, end);
+    ListState {
+        number: checked.number,
+        place: checked.place,
+        hazards: checked.hazards,
+        registers,
+    }
 }

@@ -3,7 +3,8 @@ ghost use mathlib.Core.Bool.{cond};
 ghost use mathlib.Core.Path.{_≡_};
 ghost use Prim.Native.Nat.{_*_, _<_, _≤_};
 ghost use lib.ListN.{length};
-ghost use Rattle.rdp_command.specs.Words.{wordAt};
+ghost use Rattle.rdp_command.specs.Words.{wordAt, numberIn};
+ghost use Rattle.rdp_command.specs.Kinds.{wordsOf};
 ghost use Rattle.rdp_check.specs.Hazards.{Agrees, nextOf};
 ghost use Rattle.rdp_check.specs.Check.{draws, refusalOf, judgeList, outcomeWithin, checked};
 ghost use Rattle.rdp_check.specs.View.{headOf, viewAfter, quiet, AdvancedIs};
@@ -45,6 +46,14 @@ fn head_at(list: &[u8], place: usize) -> Head
         cycle: fields.cycle_type,
         size: fields.color_image.size,
     }
+}
+
+// The words of the command at a place, by its number.
+pub fn words_at(list: &[u8], place: usize) -> usize
+    ensures { λ r. ⌜ r ≡ wordsOf (numberIn (wordAt (now (list .entry)) place)) ⌝ }
+{
+    let head = head_at(list, place);
+    rdp_command::words_of(head.number)
 }
 
 // Most commands: one bit of a constant says so, and leads the walk past the tests that the others need.
