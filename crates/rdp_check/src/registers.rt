@@ -140,29 +140,29 @@ fn colors_after(g: Colors, c: Command) -> Colors
         Command::SetFillColor(color) => {
             let register = FillColorRegister { set: true, color };
             q.fill = register;
-            q
+            return q;
         }
         Command::SetFogColor(color) => {
             let register = ColorRegister { set: true, color };
             q.fog = register;
-            q
+            return q;
         }
         Command::SetBlendColor(color) => {
             let register = ColorRegister { set: true, color };
             q.blend = register;
-            q
+            return q;
         }
         Command::SetPrimitiveColor(color) => {
             let register = PrimitiveColorRegister { set: true, color };
             q.primitive = register;
-            q
+            return q;
         }
         Command::SetEnvironmentColor(color) => {
             let register = ColorRegister { set: true, color };
             q.environment = register;
-            q
+            return q;
         }
-        _ => q,
+        _ => return q,
     }
 }
 
@@ -174,24 +174,24 @@ fn combiner_after(g: Combiner, c: Command) -> Combiner
         Command::SetCombineMode(mode) => {
             let register = CombineRegister { set: true, mode };
             q.combine = register;
-            q
+            return q;
         }
         Command::SetKeyGb(key) => {
             let register = KeyGbRegister { set: true, key };
             q.key_gb = register;
-            q
+            return q;
         }
         Command::SetKeyR(key) => {
             let register = KeyRRegister { set: true, key };
             q.key_r = register;
-            q
+            return q;
         }
         Command::SetConvert(convert) => {
             let register = ConvertRegister { set: true, convert };
             q.convert = register;
-            q
+            return q;
         }
-        _ => q,
+        _ => return q,
     }
 }
 
@@ -203,19 +203,19 @@ fn modes_after(g: Modes, c: Command) -> Modes
         Command::SetOtherModes(modes) => {
             let register = OtherModesRegister { set: true, modes };
             q.other = register;
-            q
+            return q;
         }
         Command::SetPrimitiveDepth(depth) => {
             let register = PrimitiveDepthRegister { set: true, depth };
             q.depth = register;
-            q
+            return q;
         }
         Command::SetScissor(scissor) => {
             let register = ScissorRegister { set: true, scissor };
             q.scissor = register;
-            q
+            return q;
         }
-        _ => q,
+        _ => return q,
     }
 }
 
@@ -227,19 +227,19 @@ fn images_after(g: Images, c: Command) -> Images
         Command::SetColorImage(image) => {
             let register = ImageRegister { set: true, image };
             q.color = register;
-            q
+            return q;
         }
         Command::SetTextureImage(image) => {
             let register = ImageRegister { set: true, image };
             q.texture = register;
-            q
+            return q;
         }
         Command::SetDepthImage(address) => {
             let register = DepthImageRegister { set: true, address };
             q.depth = register;
-            q
+            return q;
         }
-        _ => q,
+        _ => return q,
     }
 }
 
@@ -275,18 +275,18 @@ fn tiles_after(g: [Tile; 8], c: Command) -> [Tile; 8]
     ensures { λ r. ⌜ r ≡ tilesAfter g c ⌝ }
 {
     match c {
-        Command::SetTile(d) => described(g, d),
-        Command::SetTileSize(a) => sized(g, a.tile, a.upper_left, a.lower_right),
-        Command::LoadTlut(a) => sized(g, a.tile, a.upper_left, a.lower_right),
-        Command::LoadTile(a) => sized(g, a.tile, a.upper_left, a.lower_right),
+        Command::SetTile(d) => return described(g, d),
+        Command::SetTileSize(a) => return sized(g, a.tile, a.upper_left, a.lower_right),
+        Command::LoadTlut(a) => return sized(g, a.tile, a.upper_left, a.lower_right),
+        Command::LoadTile(a) => return sized(g, a.tile, a.upper_left, a.lower_right),
         Command::LoadBlock(b) => {
             let last = TexelCorner {
                 s: b.lower_right_s,
                 t: b.dxt,
             };
-            sized(g, b.tile, b.upper_left, last)
+            return sized(g, b.tile, b.upper_left, last);
         }
-        _ => g,
+        _ => return g,
     }
 }
 
@@ -532,8 +532,8 @@ fn apply_at(r: Registers, list: &[u8], at: usize) -> Registers
     let from = 8 * at;
     let decoded = rdp_command::decode(&list[from..]);
     match decoded {
-        Decoded::Whole(c) => apply(r, c),
-        Decoded::Refused(_) => r,
+        Decoded::Whole(c) => return apply(r, c),
+        Decoded::Refused(_) => return r,
     }
 }
 

@@ -54,4 +54,4 @@ returns-2 c =
 pub apply-at-spec : {M : Type 1} → statement M
 apply-at-spec =
     tie.close
-    (tie.spec mul-from sub-decode part-decode-start part-decode-end decode-requires enum-known-decoded apply-requires enum-told returns returns-2)
+    (tie.spec mul-from sub-decode part-decode-start part-decode-end decode-requires enum-known-decoded apply-requires returns enum-told returns-2)

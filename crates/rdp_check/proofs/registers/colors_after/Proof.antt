@@ -46,17 +46,4 @@ returns-6 : tie.Need-returns-6
 returns-6 c = unchanged colors (withColors noRegisters _) _ (c .match .keys6)
 
 pub colors-after-spec : {M : Type 1} → statement M
-colors-after-spec =
-    tie.close
-    (tie.spec
-    enum-known-c
-    enum-known-c-2
-    enum-known-c-3
-    enum-known-c-4
-    enum-known-c-5
-    returns
-    returns-2
-    returns-3
-    returns-4
-    returns-5
-    returns-6)
+colors-after-spec = tie.close (tie.spec enum-known-c returns enum-known-c-2 returns-2 enum-known-c-3 returns-3 enum-known-c-4 returns-4 enum-known-c-5 returns-5 returns-6)

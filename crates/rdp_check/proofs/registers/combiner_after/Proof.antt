@@ -39,15 +39,4 @@ returns-5 : tie.Need-returns-5
 returns-5 c = unchanged combiner (withCombiner noRegisters _) _ (c .match .keys5)
 
 pub combiner-after-spec : {M : Type 1} → statement M
-combiner-after-spec =
-    tie.close
-    (tie.spec
-    enum-known-c
-    enum-known-c-2
-    enum-known-c-3
-    enum-known-c-4
-    returns
-    returns-2
-    returns-3
-    returns-4
-    returns-5)
+combiner-after-spec = tie.close (tie.spec enum-known-c returns enum-known-c-2 returns-2 enum-known-c-3 returns-3 enum-known-c-4 returns-4 returns-5)

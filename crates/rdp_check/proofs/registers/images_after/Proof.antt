@@ -32,13 +32,4 @@ returns-4 : tie.Need-returns-4
 returns-4 c = unchanged images (withImages noRegisters _) _ (c .match .keys4)
 
 pub images-after-spec : {M : Type 1} → statement M
-images-after-spec =
-    tie.close
-    (tie.spec
-    enum-known-c
-    enum-known-c-2
-    enum-known-c-3
-    returns
-    returns-2
-    returns-3
-    returns-4)
+images-after-spec = tie.close (tie.spec enum-known-c returns enum-known-c-2 returns-2 enum-known-c-3 returns-3 returns-4)

@@ -61,4 +61,4 @@ returns-6 : tie.Need-returns-6
 returns-6 c = unchanged tiles (withTiles noRegisters _) _ (c .match .keys6)
 
 pub tiles-after-spec : {M : Type 1} → statement M
-tiles-after-spec = tie.close (tie.spec enum-known-c described-requires enum-known-c-2 sized-requires enum-known-c-3 sized-requires-2 enum-known-c-4 sized-requires-3 enum-known-c-5 sized-requires-4 returns returns-2 returns-3 returns-4 returns-5 returns-6)
+tiles-after-spec = tie.close (tie.spec enum-known-c described-requires returns enum-known-c-2 sized-requires returns-2 enum-known-c-3 sized-requires-2 returns-3 enum-known-c-4 sized-requires-3 returns-4 enum-known-c-5 sized-requires-4 returns-5 returns-6)
