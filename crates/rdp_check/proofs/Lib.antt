@@ -3,7 +3,9 @@ pub mod HazardLaws
 pub mod PlaceLaws
 pub mod ReadLaws
 pub mod ListLaws
+pub mod JoinLaws
 pub mod ViewLaws
 pub mod WalkLaws
 pub mod RegisterLaws
 pub mod ReplayLaws
+pub mod FirstLaws

@@ -1,7 +1,7 @@
 -- Document 01, "Words and lengths": a list of bytes as commands, each the bytes of its words.
 use Prim.Native.Nat.{ℕ, zero, suc, pred, _+_, _*_}
 use mathlib.Core.Bool.{cond}
-use mathlib.Core.List.{List, [], _∷_}
+use mathlib.Core.List.{List, [], _∷_, _++_}
 use lib.Dec.{eqb}
 use lib.ListN.{take}
 use Rattle.rdp_command.specs.Kinds.{wordsOf}
@@ -32,3 +32,8 @@ restOf = restFrom 0
 abbrev pub wordsIn : List (List ℕ) → ℕ
 wordsIn [] = 0
 wordsIn (c ∷ cs) = wordsOf (firstNumber c) + wordsIn cs
+
+-- the bytes of commands, one after the other
+abbrev pub joined : List (List ℕ) → List ℕ
+joined [] = []
+joined (c ∷ cs) = c ++ joined cs
