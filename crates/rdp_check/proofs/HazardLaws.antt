@@ -38,7 +38,7 @@ required-low : (m n : ℕ) → requiredOf (m % 16) n ≡ requiredOf m n
 unfolding requiredOf
 required-low m n = ap (requiredBy (kindOf n)) (low-bits m)
 
-entry-low : (m n : ℕ) → entryOf (m % 16) n ≡ entryOf m n
+pub entry-low : (m n : ℕ) → entryOf (m % 16) n ≡ entryOf m n
 unfolding entryOf
 entry-low m n = λ i. next-low m n i + cond (eqb (required-low m n i) 0) 0 16 + 32 * required-low m n i
 
@@ -92,19 +92,16 @@ entry-parts m n e h q =
 
 -- the entry of the rule at a place of the table
 abbrev pub placed : ℕ → ℕ
-placed k = entryOf (k / 64) (k % 64)
+placed k = entryOf (k % 16) (k / 16)
 
 abbrev pub stepped : ℕ → ℕ → Bool
 stepped k x = eqb x (placed k)
 
-place : (m n : ℕ) → n < 64 → placed (m * 64 + n) ≡ entryOf m n
+place : (m n : ℕ) → m < 16 → placed (n * 16 + m) ≡ entryOf m n
 place m n h =
-    let em : (m * 64 + n) / 64 ≡ m = omega arith in
-    let en : (m * 64 + n) % 64 ≡ n = omega arith in
+    let em : (n * 16 + m) % 16 ≡ m = omega arith in
+    let en : (n * 16 + m) / 16 ≡ n = omega arith in
     ap₂ entryOf em en
 
 pub agrees : (xs : List ℕ) → length xs ≡ 1024 → T (every stepped 0 xs) → Agrees xs
-agrees xs len t m n hm hn = eqb→eq _ _ (at stepped xs t (m * 64 + n) (omega arith)) ∙ place m n hn
-
-pub entry-at : (xs : List ℕ) → Agrees xs → (m n : ℕ) → n < 64 → getD xs (m % 16 * 64 + n) 0 ≡ entryOf m n
-entry-at xs a m n h = a (m % 16) n (mod-lt m (lit< tt)) h ∙ entry-low m n
+agrees xs len t m n hm hn = eqb→eq _ _ (at stepped xs t (n * 16 + m) (omega arith)) ∙ place m n hm

@@ -1,8 +1,8 @@
 -- What the walk carries is a view of the state, before and after each command. Assumes nothing.
-use mathlib.Core.Bool.{Bool, true, false, cond, not, _&&_, _||_}
+use mathlib.Core.Bool.{Bool, true, false, cond, not, _&&_, _||_, true≢false}
 use mathlib.Core.List.{List, [], _∷_}
 use mathlib.Core.Path.{_≡_, refl, sym, _∙_, ap}
-use Prim.Native.Nat.{ℕ, _+_, _/_, _%_, _^_, _≤_, _<_}
+use Prim.Native.Nat.{ℕ, zero, suc, _/_, _%_, _^_, _≤_, _<_}
 use native.Mathlib.Omega.{arith}
 use borrow.Author.Tests.{eq-eqb, ne-eqb, eqb-true, eqb-false}
 use lib.Dec.{T, eqb, eqb→eq}
@@ -16,59 +16,103 @@ use Rattle.rdp_command.proofs.Tests.{below, both, by-test, same, same-bool}
 use Rattle.rdp_check.specs.Hazards.{nextOf, requiredOf, entryOf}
 use Rattle.rdp_check.specs.Registers.{registersAfter, afterDecoded}
 use Rattle.rdp_check.specs.Check.{State, afterCommand, draws, refusalOf, refusalAt}
-use Rattle.rdp_check.specs.View.{headOf, viewOf, viewAfter, viewRefusal, quiet, AdvancedIs}
+use Rattle.rdp_check.specs.View.{headOf, code, drawRefusal, view, viewOf, Sound, viewAfter, orElse, refusalWith, viewRefusal, sets, quiet, stepOn, AdvancedIs}
 use Rattle.rdp_check.specs.declared.registers.Registers.{Registers}
 use Rattle.rdp_check.specs.declared.walk.Head.{Head}
 use Rattle.rdp_check.specs.declared.walk.View.{View}
+use Rattle.rdp_check.specs.declared.walk.Advanced.{Advanced}
 use Rattle.rdp_check.proofs.HazardLaws.{EntryParts, entry-parts, required-most}
 use Rattle.rdp_check.proofs.ReadLaws.{decoded, decodes, decoded-number, reads-other-modes, reads-scissor, reads-color-image}
 
--- ---- quiet commands
+-- ---- the kinds of steps
 
 false-of : (b : Bool) → T (not b) → b ≡ false
 false-of true t = absurd t
 false-of false t = refl
 
 pub quiet-by : (n : ℕ) → n < 64 → eqb (0x8040_A230_0000_FF00 / 2 ^ n % 2) 0 ≡ quiet n
-unfolding quiet draws kindOf
+unfolding quiet sets draws kindOf
 quiet-by n h = same-bool _ _ (below 64 (λ k. same (eqb (0x8040_A230_0000_FF00 / 2 ^ k % 2) 0) (quiet k)) tt n h)
 
-pub draw-by : (n : ℕ) → n < 64 → (eqb (n / 8) 1 || eqb (n / 2) 0x12) || eqb n 0x36 ≡ draws n
-unfolding draws kindOf
-draw-by n h = same-bool _ _ (below 64 (λ k. same ((eqb (k / 8) 1 || eqb (k / 2) 0x12) || eqb k 0x36) (draws k)) tt n h)
+pub sets-by : (n : ℕ) → n < 64 → eqb (0x8000_A200_0000_0000 / 2 ^ n % 2) 1 ≡ sets n
+unfolding sets
+sets-by n h = same-bool _ _ (below 64 (λ k. same (eqb (0x8000_A200_0000_0000 / 2 ^ k % 2) 1) (sets k)) tt n h)
 
-abbrev quietTest : ℕ → Bool
-quietTest n = not (quiet n) || (not (draws n) && (eqb (wordsOf n) 1 && (not (eqb n 0x29) && (not (eqb n 0x2D) && (not (eqb n 0x2F) && not (eqb n 0x3F))))))
+-- a number is quiet, or sets something and is no draw of more words, or is a draw and sets nothing
+abbrev stepTest : ℕ → Bool
+stepTest n =
+    (not (quiet n) || (not (draws n) && (not (sets n) && eqb (wordsOf n) 1))) &&
+    ((not (sets n) || (not (draws n) && eqb (wordsOf n) 1)) && (quiet n || (sets n || draws n)))
 
-record Quiet (n : ℕ) : Type 0 where
-  drawless : draws n ≡ false
-  single : wordsOf n ≡ 1
-  full : eqb n 0x29 ≡ false
-  scissor : eqb n 0x2D ≡ false
-  modes : eqb n 0x2F ≡ false
-  image : eqb n 0x3F ≡ false
+step-test : (n : ℕ) → n < 64 → T (stepTest n)
+unfolding quiet sets draws kindOf wordsOf
+step-test n h = below 64 stepTest tt n h
 
-quiet-is : (n : ℕ) → n < 64 → quiet n ≡ true → Quiet n
-unfolding quiet draws kindOf wordsOf
+-- a command that is no draw, sets nothing and has one word
+pub record Quiet (n : ℕ) : Type 0 where
+  pub drawless : draws n ≡ false
+  pub keeps : sets n ≡ false
+  pub single : wordsOf n ≡ 1
+
+pub quiet-is : (n : ℕ) → n < 64 → quiet n ≡ true → Quiet n
 quiet-is n h q =
-    let t0 = rw q at (below 64 quietTest tt n h) in
+    let t0 = rw q at (both (not (quiet n) || (not (draws n) && (not (sets n) && eqb (wordsOf n) 1))) _ (step-test n h) .0) in
     let t1 = both (not (draws n)) _ t0 in
-    let t2 = both (eqb (wordsOf n) 1) _ (t1 .1) in
-    let t3 = both (not (eqb n 0x29)) _ (t2 .1) in
-    let t4 = both (not (eqb n 0x2D)) _ (t3 .1) in
-    let t5 = both (not (eqb n 0x2F)) _ (t4 .1) in
-    record {
-      drawless = false-of (draws n) (t1 .0);
-      single = eqb→eq _ _ (t2 .0);
-      full = false-of _ (t3 .0);
-      scissor = false-of _ (t4 .0);
-      modes = false-of _ (t5 .0);
-      image = false-of _ (t5 .1);
-    }
+    let t2 = both (not (sets n)) _ (t1 .1) in
+    record { drawless = false-of _ (t1 .0); keeps = false-of _ (t2 .0); single = eqb→eq _ _ (t2 .1) }
+
+pub setter-is : (n : ℕ) → n < 64 → sets n ≡ true → (draws n ≡ false) × (wordsOf n ≡ 1)
+setter-is n h q =
+    let t = both (not (quiet n) || (not (draws n) && (not (sets n) && eqb (wordsOf n) 1))) _ (step-test n h) .1 in
+    let t0 = rw q at (both (not (sets n) || (not (draws n) && eqb (wordsOf n) 1)) _ t .0) in
+    let t1 = both (not (draws n)) _ t0 in
+    (false-of _ (t1 .0), eqb→eq _ _ (t1 .1))
+
+true-of : (b : Bool) → T b → b ≡ true
+true-of true t = refl
+true-of false t = absurd t
+
+pub draw-is : (n : ℕ) → n < 64 → quiet n ≡ false → sets n ≡ false → draws n ≡ true
+draw-is n h q s =
+    let t = both (not (quiet n) || (not (draws n) && (not (sets n) && eqb (wordsOf n) 1))) _ (step-test n h) .1 in
+    let u = both (not (sets n) || (not (draws n) && eqb (wordsOf n) 1)) _ t .1 in
+    true-of (draws n) (rw (q, s) at u)
+
+-- which of the four a setter is
+or-false : (a b : Bool) → a || b ≡ false → (a ≡ false) × (b ≡ false)
+or-false true b e = absurd (true≢false e)
+or-false false b e = (refl, e)
+
+pub record SetsNone (n : ℕ) : Type 0 where
+  pub full : eqb n 0x29 ≡ false
+  pub scissor : eqb n 0x2D ≡ false
+  pub modes : eqb n 0x2F ≡ false
+  pub image : eqb n 0x3F ≡ false
+
+pub sets-none : (n : ℕ) → sets n ≡ false → SetsNone n
+unfolding sets
+sets-none n e =
+    let a = or-false (eqb n 0x29) _ e in
+    let b = or-false (eqb n 0x2D) _ (a .1) in
+    let c = or-false (eqb n 0x2F) _ (b .1) in
+    let d = or-false (eqb n 0x3F) _ (c .1) in
+    record { full = a .0; scissor = b .0; modes = c .0; image = d .0 }
+
+pub last-setter : (n : ℕ) → sets n ≡ true → (n ≡ 0x29 → ⊥) → (n ≡ 0x2F → ⊥) → (n ≡ 0x3F → ⊥) → n ≡ 0x2D
+unfolding sets
+last-setter n e f m i = eqb-true n 0x2D (or-left (eqb n 0x2D) (rw (ne-eqb _ _ f, ne-eqb _ _ m, ne-eqb _ _ i) at e))
+  where
+    or-left : (a : Bool) → a || false ≡ true → a ≡ true
+    or-left true e = refl
+    or-left false e = e
 
 -- ---- one step of the walk
 
-module _ (strict : Bool) (v : View) (h : Head) (small : h .number < 64) (e : ℕ) (is-e : e ≡ entryOf (v .hazards) (h .number)) (q : ℕ) (is-q : q ≡ cond strict (e / 32) 0) where
+pub or-else : (f g : ℕ) → (f ≡ 0 → ⊥) → f ≡ orElse f g
+or-else zero g h = absurd (h refl)
+or-else (suc f) g h = refl
+
+module _ (strict : Bool) (v : View) (h : Head) (sound : Sound v) (small : h .number < 64) (e : ℕ) (is-e : e ≡ entryOf (v .hazards) (h .number)) (q : ℕ) (is-q : q ≡ cond strict (e / 32) 0) where
   parts : EntryParts (v .hazards) (h .number) e
   parts = entry-parts (v .hazards) (h .number) e small is-e
 
@@ -85,36 +129,63 @@ module _ (strict : Bool) (v : View) (h : Head) (small : h .number < 64) (e : ℕ
   pub next-is : e % 16 ≡ nextOf (v .hazards) (h .number)
   next-is = parts .next
 
-  module _ (r : ℕ) where
-    pub quiet-step :
-        quiet (h .number) ≡ true → r ≡ refusalOf (v .ended) false true false q →
-        AdvancedIs strict v h
-        (record {
-          refusal = r;
-          words = 1;
-          view = record { hazards = e % 16; ended = v .ended; modes = v .modes; image = v .image; scissor = v .scissor; cycle = v .cycle; size = v .size };
-        })
-    unfolding viewRefusal viewAfter refusalOf
-    quiet-step t is-r =
-        let k = quiet-is (h .number) small t in
-        record {
-          refusal = is-r ∙ rw (required-is, k .drawless);
-          words = sym (k .single);
-          view = rw (k .full, k .modes, k .image, k .scissor, next-is);
-        }
+  refusal-is : (d : Bool) → draws (h .number) ≡ d → refusalWith (v .ended) (cond d (v .draw) 0) q ≡ viewRefusal strict v (h .number)
+  refusal-is d e = rw (required-is, e)
 
-    pub loud-step :
-        (d : Bool) → d ≡ draws (h .number) →
-        r ≡ refusalOf (v .ended) d ((v .modes && v .image) && v .scissor) (eqb (v .cycle) 3 && eqb (v .size) 0) q →
-        (n : ℕ) → n ≡ wordsOf (h .number) → (w : View) → w ≡ viewAfter v h → AdvancedIs strict v h (record { refusal = r; words = n; view = w })
-    unfolding viewRefusal
-    loud-step d is-d is-r n is-n w is-w = record { refusal = is-r ∙ rw (required-is, is-d); words = is-n; view = is-w }
+  -- a step that changes the hazards alone
+  on-is : sets (h .number) ≡ false → (r n : ℕ) → r ≡ viewRefusal strict v (h .number) → n ≡ wordsOf (h .number) → AdvancedIs strict v h (stepOn v (e % 16) r n)
+  unfolding viewAfter
+  on-is s r n is-r is-n =
+      let k = sets-none (h .number) s in
+      record { refusal = is-r; words = is-n; after = rw (k .full, k .modes, k .image, k .scissor, next-is, sound .drawn) }
+
+  module _ {a : Advanced} where
+    pub quiet-step : (r : ℕ) → r ≡ refusalWith (v .ended) 0 q → quiet (h .number) ≡ true → a ≡ stepOn v (e % 16) r 1 → AdvancedIs strict v h a
+    quiet-step r is-r t is-a =
+        let k = quiet-is (h .number) small t in
+        rw is-a (on-is (k .keeps) r 1 (is-r ∙ refusal-is false (k .drawless)) (sym (k .single)))
+
+    pub draw-step :
+        (r : ℕ) → r ≡ refusalWith (v .ended) (v .draw) q → quiet (h .number) ≡ false → sets (h .number) ≡ false → (n : ℕ) → n ≡ wordsOf (h .number) →
+        a ≡ stepOn v (e % 16) r n → AdvancedIs strict v h a
+    draw-step r is-r f s n is-n is-a = rw is-a (on-is s r n (is-r ∙ refusal-is true (draw-is (h .number) small f s)) is-n)
+
+  pub setter-step :
+      (r : ℕ) → r ≡ refusalWith (v .ended) 0 q → sets (h .number) ≡ true → (w : View) → w ≡ viewAfter v h →
+      AdvancedIs strict v h (record { refusal = r; words = 1; view = w })
+  setter-step r is-r s w is-w =
+      let k = setter-is (h .number) small s in
+      record { refusal = is-r ∙ refusal-is false (k .0); words = sym (k .1); after = is-w }
 
 -- ---- the view of the state
 
+-- modes, image and scissor set (m, i, s), FILL mode (f) and an image of 4 bits (b)
+refused : (ended draw m f i b s : Bool) (q : ℕ) → refusalWith ended (cond draw (drawRefusal (code m f) (code i b) s) 0) q ≡ refusalOf ended draw ((m && i) && s) (f && b) q
+unfolding refusalWith refusalOf
+refused true draw m f i b s q = refl
+refused false false m f i b s q = refl
+refused false true false f i b s q = refl
+refused false true true false false b s q = refl
+refused false true true true false b s q = refl
+refused false true true false true false false q = refl
+refused false true true false true false true q = refl
+refused false true true false true true false q = refl
+refused false true true false true true true q = refl
+refused false true true true true false false q = refl
+refused false true true true true false true q = refl
+refused false true true true true true false q = refl
+refused false true true true true true true q = refl
+
 pub refusal-seen : (strict : Bool) (s : State) (c : List ℕ) → viewRefusal strict (viewOf s) (firstNumber c) ≡ refusalAt strict s c
-unfolding viewRefusal viewOf
-refusal-seen strict s c = refl
+unfolding viewOf
+refusal-seen strict s c =
+    let r = s .registers in
+    refused (s .ended) (draws (firstNumber c)) (r .modes .other .set) (eqb (r .modes .other .modes .«cycle_type») 3) (r .images .color .set)
+    (eqb (r .images .color .image .size) 0) (r .modes .scissor .set) _
+
+pub seen-sound : (s : State) → s .hazards < 16 → Sound (viewOf s)
+unfolding viewOf
+seen-sound s h = record { low = h; drawn = refl }
 
 -- what is seen of the registers
 abbrev seen : Registers → Bool × Bool × Bool × ℕ × ℕ
@@ -163,16 +234,7 @@ module _ (s : State) (c : List ℕ) (there : wholeWords c ≡ 0 → ⊥) where
 
   -- the view with what is seen of the registers
   abbrev viewWith : Bool × Bool × Bool × ℕ × ℕ → View
-  viewWith p =
-      record {
-        hazards = nextOf (s .hazards) n;
-        ended = eqb n 0x29 || s .ended;
-        modes = p .0;
-        image = p .1;
-        scissor = p .2;
-        cycle = p .3;
-        size = p .4;
-      }
+  viewWith p = view (nextOf (s .hazards) n) (eqb n 0x29 || s .ended) (code (p .0) (eqb (p .3) 3)) (code (p .1) (eqb (p .4) 0)) (p .2)
 
   abbrev Result : Type 0
   Result = viewWith (seen (registersAfter (s .registers) (decoded c there))) ≡ viewAfter (viewOf s) (headOf (wordAt c 0))

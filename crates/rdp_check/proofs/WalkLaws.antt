@@ -12,12 +12,13 @@ use Rattle.rdp_command.specs.Decode.{firstNumber}
 use Rattle.rdp_check.specs.Commands.{commandsFrom, restFrom, commandsOf, restOf}
 use Rattle.rdp_check.specs.Registers.{noRegisters}
 use Rattle.rdp_check.specs.Check.{State, start, afterCommand, refusalAt, Outcome, outcome, settle, judge, judgeList, checked}
-use Rattle.rdp_check.specs.View.{headOf, viewOf, viewAfter, viewRefusal}
+use Rattle.rdp_check.specs.View.{headOf, viewOf, Sound, viewAfter, viewRefusal}
 use Rattle.rdp_check.specs.declared.Checked.{Checked}
 use Rattle.rdp_check.specs.declared.walk.View.{View}
+use Rattle.rdp_check.proofs.HazardLaws.{next-small}
 use Rattle.rdp_check.proofs.PlaceLaws.{some-words}
 use Rattle.rdp_check.proofs.ListLaws.{commandAt, commands-at, rest-at, command-word, command-number, command-there, commands-past, rest-past}
-use Rattle.rdp_check.proofs.ViewLaws.{refusal-seen, view-after}
+use Rattle.rdp_check.proofs.ViewLaws.{refusal-seen, seen-sound, view-after}
 
 -- the judgement of bytes from a place on
 abbrev pub judged : Bool → State → ℕ → List ℕ → Outcome
@@ -31,6 +32,7 @@ judged-none strict s at = refl
 pub record Walked (strict : Bool) (list : List ℕ) (words : ℕ) (v : View) (at : ℕ) : Type 0 where
   pub state : State
   pub view : v ≡ viewOf state
+  pub low : state .hazards < 16
   pub whole : length list ≡ 8 * words
   pub few : words ≤ 4096
   pub within : at ≤ words
@@ -45,13 +47,21 @@ unfolding viewOf
 shown number place v s e = ap (answer number place) e
 
 pub first : (strict : Bool) (list : List ℕ) (words : ℕ) → length list ≡ 8 * words → words ≤ 4096 → Walked strict list words (viewOf start) 0
-first strict list words whole few = record { state = start; view = refl; whole = whole; few = few; within = omega arith; same = refl }
+first strict list words whole few = record { state = start; view = refl; low = omega arith; whole = whole; few = few; within = omega arith; same = refl }
+
+-- the hazards after a command are below 16
+after-low : (s : State) (c : List ℕ) → afterCommand s c .hazards < 16
+unfolding afterCommand
+after-low s c = next-small (s .hazards) (firstNumber c)
 
 settled : (g at : ℕ) (s : State) (next : Outcome) → (g ≡ 0 → ⊥) → outcome g at s ≡ settle g at s next
 settled zero at s next ne = absurd (ne refl)
 settled (suc g) at s next ne = refl
 
 module _ {strict : Bool} {list : List ℕ} {words : ℕ} {v : View} {at : ℕ} (w : Walked strict list words v at) where
+  pub sound : Sound v
+  sound = rw (w .view) (seen-sound (w .state) (w .low))
+
   pub ended : words ≤ at → answer 0 words v ≡ checked (judgeList strict list)
   ended h =
       let e : at ≡ words = omega arith in
@@ -111,6 +121,7 @@ module _ {strict : Bool} {list : List ℕ} {words : ℕ} {v : View} {at : ℕ} (
                 is-u ∙
                 (λ i. viewAfter (w .view i) (headOf (sym (command-word list at n is inside) i))) ∙
                 sym (view-after s c (command-there list at n is inside));
+            low = after-low s c;
             whole = w .whole;
             few = w .few;
             within = omega arith;

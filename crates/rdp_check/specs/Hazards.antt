@@ -74,6 +74,6 @@ transitionOf m n = record { next = nextOf m n; missing = not (eqb (requiredOf m 
 unfoldable pub entryOf : ℕ → ℕ → ℕ
 entryOf m n = nextOf m n + cond (eqb (requiredOf m n) 0) 0 16 + 32 * requiredOf m n
 
--- a table of sixteen hazard states by sixty-four command numbers agrees with the rule
+-- a table of sixteen hazard states by sixty-four command numbers, those of one number together, agrees with the rule
 abbrev pub Agrees : List ℕ → Type 0
-Agrees table = (m n : ℕ) → m < 16 → n < 64 → getD table (m * 64 + n) 0 ≡ entryOf m n
+Agrees table = (m n : ℕ) → m < 16 → n < 64 → getD table (n * 16 + m) 0 ≡ entryOf m n

@@ -1,5 +1,5 @@
 -- What the check's loop carries and reads, as a view of the state and of a command. No public contract cites this.
-use Prim.Native.Nat.{ℕ, _+_}
+use Prim.Native.Nat.{ℕ, zero, suc, _+_, _<_}
 use mathlib.Core.Bool.{Bool, true, false, cond, not, _&&_, _||_}
 use mathlib.Core.List.{List, [], _∷_}
 use mathlib.Core.Path.{_≡_}
@@ -7,7 +7,7 @@ use lib.Dec.{eqb, ltb}
 use Rattle.rdp_command.specs.Kinds.{among, wordsOf}
 use Rattle.rdp_command.specs.Decode.{firstNumber, decodeOf, wordFields}
 use Rattle.rdp_check.specs.Hazards.{nextOf, requiredOf}
-use Rattle.rdp_check.specs.Check.{State, draws, refusalOf}
+use Rattle.rdp_check.specs.Check.{State, draws, missing}
 use Rattle.rdp_check.specs.Registers.{afterDecoded}
 use Rattle.rdp_check.specs.declared.registers.Registers.{Registers}
 use Rattle.rdp_check.specs.declared.walk.Head.{Head}
@@ -18,47 +18,83 @@ use Rattle.rdp_check.specs.declared.walk.Advanced.{Advanced}
 abbrev pub headOf : ℕ → Head
 headOf w = record { number = wordFields w .number; cycle = wordFields w .«cycle_type»; size = wordFields w .«color_image» .size }
 
--- what is carried of the state
+-- a register that a draw needs: 0 not set, 2 set to what the other must not meet, 1 set to anything else
+abbrev pub code : Bool → Bool → ℕ
+code false special = 0
+code true false = 1
+code true true = 2
+
+-- the refusal of a draw, or 0, by the codes of modes (2 is FILL) and colour image (2 is 4 bits), and whether the scissor is set
+abbrev pub drawRefusal : ℕ → ℕ → Bool → ℕ
+drawRefusal modes image scissor =
+    cond (not ((not (eqb modes 0) && not (eqb image 0)) && scissor)) 5 (cond (eqb modes 2 && eqb image 2) 6 0)
+
+-- what is carried: the hazards, whether a Sync Full has come, these three, and the refusal of a draw, which they give
+abbrev pub view : ℕ → Bool → ℕ → ℕ → Bool → View
+view hazards ended modes image scissor =
+    record { hazards = hazards; ended = ended; draw = drawRefusal modes image scissor; modes = modes; image = image; scissor = scissor }
+
+-- it is carried of the state
 unfoldable pub viewOf : State → View
 viewOf s =
-    record {
-      hazards = s .hazards;
-      ended = s .ended;
-      modes = s .registers .modes .other .set;
-      image = s .registers .images .color .set;
-      scissor = s .registers .modes .scissor .set;
-      cycle = s .registers .modes .other .modes .«cycle_type»;
-      size = s .registers .images .color .image .size;
-    }
+    let r = s .registers in
+    view (s .hazards) (s .ended) (code (r .modes .other .set) (eqb (r .modes .other .modes .«cycle_type») 3))
+    (code (r .images .color .set) (eqb (r .images .color .image .size) 0)) (r .modes .scissor .set)
+
+-- the hazards are below 16, and the refusal of a draw is the one that the other fields give
+pub record Sound (v : View) : Type 0 where
+  pub low : v .hazards < 16
+  pub drawn : v .draw ≡ drawRefusal (v .modes) (v .image) (v .scissor)
 
 -- the view after a command
 unfoldable pub viewAfter : View → Head → View
 viewAfter v h =
-    record {
-      hazards = nextOf (v .hazards) (h .number);
-      ended = eqb (h .number) 0x29 || v .ended;
-      modes = eqb (h .number) 0x2F || v .modes;
-      image = eqb (h .number) 0x3F || v .image;
-      scissor = eqb (h .number) 0x2D || v .scissor;
-      cycle = cond (eqb (h .number) 0x2F) (h .cycle) (v .cycle);
-      size = cond (eqb (h .number) 0x3F) (h .size) (v .size);
-    }
+    let n = h .number in
+    view (nextOf (v .hazards) n) (eqb n 0x29 || v .ended) (cond (eqb n 0x2F) (code true (eqb (h .cycle) 3)) (v .modes))
+    (cond (eqb n 0x3F) (code true (eqb (h .size) 0)) (v .image)) (eqb n 0x2D || v .scissor)
 
--- the refusal of a command, by the view
-unfoldable pub viewRefusal : Bool → View → ℕ → ℕ
-viewRefusal strict v n =
-    refusalOf (v .ended) (draws n) ((v .modes && v .image) && v .scissor) (eqb (v .cycle) 3 && eqb (v .size) 0)
-    (cond strict (requiredOf (v .hazards) n) 0)
+-- of two refusals the first, where 0 is none
+abbrev pub orElse : ℕ → ℕ → ℕ
+orElse zero g = g
+orElse (suc f) g = suc f
 
--- a command of one word that changes nothing but the hazards, and that only 4 and 7 to 9 can refuse: no draw, Sync Full or setter of what is carried
+-- the refusal of a command: 4, then the refusal of a draw where it is one, then a missing sync
+unfoldable pub refusalWith : Bool → ℕ → ℕ → ℕ
+refusalWith ended draw required = cond ended 4 (orElse draw (missing required))
+
+abbrev pub viewRefusal : Bool → View → ℕ → ℕ
+viewRefusal strict v n = refusalWith (v .ended) (cond (draws n) (v .draw) 0) (cond strict (requiredOf (v .hazards) n) 0)
+
+-- a command that changes nothing but the hazards: no Sync Full or setter of what is carried
+unfoldable pub sets : ℕ → Bool
+sets n = among n (0x29 ∷ 0x2D ∷ 0x2F ∷ 0x3F ∷ [])
+
+-- a command of one word that is no draw either
 unfoldable pub quiet : ℕ → Bool
-quiet n = not (draws n || among n (0x29 ∷ 0x2D ∷ 0x2F ∷ 0x3F ∷ []))
+quiet n = not (draws n || sets n)
+
+-- a step that changes the hazards alone
+abbrev pub stepOn : View → ℕ → ℕ → ℕ → Advanced
+stepOn v next refusal words =
+    record {
+      refusal = refusal;
+      words = words;
+      view =
+          record {
+            hazards = next;
+            ended = v .ended;
+            draw = v .draw;
+            modes = v .modes;
+            image = v .image;
+            scissor = v .scissor;
+          };
+    }
 
 -- what one step of the walk gives
 pub record AdvancedIs (strict : Bool) (v : View) (h : Head) (r : Advanced) : Type 0 where
   pub refusal : r .refusal ≡ viewRefusal strict v (h .number)
   pub words : r .words ≡ wordsOf (h .number)
-  pub view : r .view ≡ viewAfter v h
+  pub after : r .view ≡ viewAfter v h
 
 -- the registers after the commands, from a place on, that begin before a place
 unfoldable pub registersUpTo : ℕ → ℕ → Registers → List (List ℕ) → Registers

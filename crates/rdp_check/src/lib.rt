@@ -42,7 +42,7 @@ pub fn step(hazards: u8, number: u8) -> Transition
     ensures { λ r. ⌜ r ≡ transitionOf hazards (number % 64) ⌝ }
 {
     let table = table::step_table();
-    let e = hazards::entry(&table, hazards, number % 64);
+    let e = hazards::entry(&table, hazards % 16, number % 64);
     Transition {
         next: e % 16,
         missing: 16 <= e,

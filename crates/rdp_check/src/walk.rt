@@ -1,13 +1,13 @@
 // The walk over a list's commands that finds the first refusal.
-ghost use mathlib.Core.Bool.{cond};
+ghost use mathlib.Core.Bool.{cond, true};
 ghost use mathlib.Core.Path.{_≡_};
 ghost use Prim.Native.Nat.{_*_, _<_, _≤_};
 ghost use lib.ListN.{length};
 ghost use Rattle.rdp_command.specs.Words.{wordAt, numberIn};
 ghost use Rattle.rdp_command.specs.Kinds.{wordsOf};
 ghost use Rattle.rdp_check.specs.Hazards.{Agrees, nextOf};
-ghost use Rattle.rdp_check.specs.Check.{draws, refusalOf, judgeList, outcomeWithin, checked};
-ghost use Rattle.rdp_check.specs.View.{headOf, viewAfter, quiet, AdvancedIs};
+ghost use Rattle.rdp_check.specs.Check.{judgeList, outcomeWithin, checked};
+ghost use Rattle.rdp_check.specs.View.{headOf, code, view, Sound, viewAfter, refusalWith, sets, quiet, stepOn, AdvancedIs};
 use crate::Checked;
 use crate::hazards;
 use crate::table;
@@ -19,15 +19,15 @@ pub struct Head {
     pub size: u8,
 }
 
-// What the walk carries from command to command.
+// What the walk carries from command to command: the hazards; whether a Sync Full has come; the refusal of a draw, or 0; and what gives it: modes (0 not
+// set, 1 set, 2 set to FILL), colour image (0 not set, 1 set, 2 set to 4 bits) and scissor. It is six bytes, so that the compiler keeps the fields apart.
 pub struct View {
     pub hazards: u8,
     pub ended: bool,
-    pub modes: bool,
-    pub image: bool,
+    pub draw: u8,
+    pub modes: u8,
+    pub image: u8,
     pub scissor: bool,
-    pub cycle: u8,
-    pub size: u8,
 }
 
 // The refusal of a command or 0, its words, and the view after it.
@@ -64,26 +64,23 @@ fn is_quiet(number: u8) -> bool
     (0x8040_A230_0000_FF00u64 >> number) % 2 == 0
 }
 
-fn is_draw(number: u8) -> bool
+fn is_setter(number: u8) -> bool
     requires { ⌜ number < 64 ⌝ }
-    ensures { λ r. ⌜ r ≡ draws number ⌝ }
+    ensures { λ r. ⌜ r ≡ sets number ⌝ }
 {
-    (number / 8 == 1) | (number / 2 == 0x12) | (number == 0x36)
+    (0x8000_A200_0000_0000u64 >> number) % 2 == 1
 }
 
-// The first of refusals 4 to 9 that holds at a command, or 0.
-fn refusal(ended: bool, draw: bool, ready: bool, four_bit_fill: bool, required: u8) -> u32
+// The first refusal of a command, or 0: 4, then its refusal as a draw, then a missing sync.
+fn refusal(ended: bool, draw: u8, required: u8) -> u32
     requires { ⌜ required ≤ 3 ⌝ }
-    ensures { λ r. ⌜ r ≡ refusalOf ended draw ready «four_bit_fill» required ⌝ }
+    ensures { λ r. ⌜ r ≡ refusalWith ended draw required ⌝ }
 {
     if ended {
         return 4;
     }
-    if draw & !ready {
-        return 5;
-    }
-    if draw & four_bit_fill {
-        return 6;
+    if draw != 0 {
+        return draw as u32;
     }
     if required == 0 {
         return 0;
@@ -91,9 +88,36 @@ fn refusal(ended: bool, draw: bool, ready: bool, four_bit_fill: bool, required: 
     6 + required as u32
 }
 
-// The view after a command, whose next hazards are given.
+// The code of a register that is set.
+fn set_code(special: bool) -> u8
+    ensures { λ r. ⌜ r ≡ code true special ⌝ }
+{
+    if special {
+        return 2;
+    }
+    1
+}
+
+// The view with the refusal of a draw that its other fields give.
+fn with_draw(v: View) -> View
+    ensures { λ r. ⌜ r ≡ view (v .hazards) (v .ended) (v .modes) (v .image) (v .scissor) ⌝ }
+{
+    let mut r = v;
+    if !(((v.modes != 0) & (v.image != 0)) & v.scissor) {
+        r.draw = 5;
+        return r;
+    }
+    if (v.modes == 2) & (v.image == 2) {
+        r.draw = 6;
+        return r;
+    }
+    r.draw = 0;
+    r
+}
+
+// The view after a command that sets what is carried, whose next hazards are given.
 fn after(v: View, next: u8, h: Head) -> View
-    requires { ⌜ next ≡ nextOf (v .hazards) (h .number) ⌝ }
+    requires { ⌜ Sound v × ((next ≡ nextOf (v .hazards) (h .number)) × (sets (h .number) ≡ true)) ⌝ }
     ensures { λ r. ⌜ r ≡ viewAfter v h ⌝ }
 {
     let mut r = v;
@@ -104,19 +128,15 @@ fn after(v: View, next: u8, h: Head) -> View
         return r;
     }
     if number == 0x2F {
-        r.modes = true;
-        r.cycle = h.cycle;
-        return r;
+        r.modes = set_code(h.cycle == 3);
+        return with_draw(r);
     }
     if number == 0x3F {
-        r.image = true;
-        r.size = h.size;
-        return r;
+        r.image = set_code(h.size == 0);
+        return with_draw(r);
     }
-    if number == 0x2D {
-        r.scissor = true;
-    }
-    r
+    r.scissor = true;
+    with_draw(r)
 }
 
 // The sync that counts as required: none where the walk is not strict.
@@ -129,32 +149,44 @@ fn required_if(strict: bool, required: u8) -> u8
     0
 }
 
+// A step that changes the hazards alone.
+fn step_on(v: View, next: u8, refusal: u32, words: usize) -> Advanced
+    ensures { λ r. ⌜ r ≡ stepOn v next refusal words ⌝ }
+{
+    let mut view = v;
+    view.hazards = next;
+    Advanced {
+        refusal,
+        words,
+        view,
+    }
+}
+
+// A Fill Rectangle stands apart from the longer draws, so that its one word is known where the branch is predicted.
 fn advance(table: &[u8; 1024], v: View, strict: bool, h: Head) -> Advanced
-    requires { ⌜ Agrees (now table) × (h .number < 64) ⌝ }
+    requires { ⌜ Agrees (now table) × (Sound v × (h .number < 64)) ⌝ }
     ensures { λ r. ⌜ AdvancedIs strict v h r ⌝ }
 {
     let number = h.number;
     let e = hazards::entry(table, v.hazards, number);
     let required = required_if(strict, e / 32);
     if is_quiet(number) {
-        let mut view = v;
-        view.hazards = e % 16;
-        let refusal = refusal(v.ended, false, true, false, required);
+        return step_on(v, e % 16, refusal(v.ended, 0, required), 1);
+    }
+    if is_setter(number) {
+        let found = refusal(v.ended, 0, required);
+        let view = after(v, e % 16, h);
         return Advanced {
-            refusal,
+            refusal: found,
             words: 1,
             view,
         };
     }
-    let ready = (v.modes & v.image) & v.scissor;
-    let fill = (v.cycle == 3) & (v.size == 0);
-    let refusal = refusal(v.ended, is_draw(number), ready, fill, required);
-    let view = after(v, e % 16, h);
-    Advanced {
-        refusal,
-        words: rdp_command::words_of(number),
-        view,
+    let found = refusal(v.ended, v.draw, required);
+    if number == 0x36 {
+        return step_on(v, e % 16, found, 1);
     }
+    step_on(v, e % 16, found, rdp_command::words_of(number))
 }
 
 // The commands of a list of whole words, in order: the first refusal, or 0 at the number of words.
@@ -165,11 +197,10 @@ fn walk(table: &[u8; 1024], list: &[u8], words: usize, strict: bool) -> Checked
     let mut view = View {
         hazards: 0,
         ended: false,
-        modes: false,
-        image: false,
+        draw: 5,
+        modes: 0,
+        image: 0,
         scissor: false,
-        cycle: 0,
-        size: 0,
     };
     let mut at: usize = 0;
     while at < words {

@@ -1,8 +1,9 @@
 -- `rdp_check::step` meets its contract: the parts of the table's entry are those of the rule. Assumes nothing.
+use mathlib.Core.Path.{_∙_}
 use Prim.Native.Nat.{_%_}
 use native.Mathlib.Omega.{arith}
 use borrow.Author.Needs.{needs}
-use Rattle.rdp_check.proofs.HazardLaws.{entry-parts}
+use Rattle.rdp_check.proofs.HazardLaws.{entry-low, entry-parts}
 use Rattle.rdp_check.proofs.step.Statement.{statement}
 use Rattle.rdp_check.proofs.step.Tie as tie
 
@@ -15,7 +16,7 @@ entry-requires c κs = search needs
 returns : tie.Need-returns
 returns c =
     let a = c .before .before .before .args in
-    let p = entry-parts (a .hazards) (a .number % 64) _ (omega arith) (c .entry .ensures) in
+    let p = entry-parts (a .hazards) (a .number % 64) _ (omega arith) (c .entry .ensures ∙ entry-low (a .hazards) (a .number % 64)) in
     λ i. record { next = p .next i; missing = p .missing i; required = p .required i }
 
 pub step-spec : {M : Type 1} → statement M

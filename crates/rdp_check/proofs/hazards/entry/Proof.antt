@@ -1,11 +1,7 @@
 -- `rdp_check::hazards::entry` meets its contract: the table agrees with the rule. Assumes nothing.
 use borrow.Author.Needs.{needs}
-use Rattle.rdp_check.proofs.HazardLaws.{entry-at}
 use Rattle.rdp_check.proofs.hazards.entry.Statement.{statement}
 use Rattle.rdp_check.proofs.hazards.entry.Tie as tie
-
-cast-at : tie.Need-cast-at
-cast-at c = search needs
 
 mul-at : tie.Need-mul-at
 mul-at c = search needs
@@ -17,9 +13,7 @@ element-copy-out-result : tie.Need-element-copy-out-result
 element-copy-out-result c = search needs
 
 returns : tie.Need-returns
-returns c =
-    let a = c .before .args in
-    entry-at (a .table .now) (c .before .pre .0) (a .hazards) (a .number) (c .before .pre .1)
+returns c = let p = c .before .pre in p .0 _ _ (p .1 .0) (p .1 .1)
 
 pub entry-spec : {M : Type 1} → statement M
-entry-spec = tie.close (tie.spec cast-at mul-at add-at element-copy-out-result returns)
+entry-spec = tie.close (tie.spec mul-at add-at element-copy-out-result returns)

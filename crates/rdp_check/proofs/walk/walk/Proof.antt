@@ -7,7 +7,7 @@ use borrow.Author.Needs.{needs}
 use Rattle.rdp_check.specs.Registers.{noRegisters}
 use Rattle.rdp_check.specs.View.{viewOf, viewAfter}
 use Rattle.rdp_check.proofs.PlaceLaws.{number-small}
-use Rattle.rdp_check.proofs.WalkLaws.{Walked, first, ended, past, refused, falls, again}
+use Rattle.rdp_check.proofs.WalkLaws.{Walked, first, sound, ended, past, refused, falls, again}
 use Rattle.rdp_check.proofs.walk.walk.Statement.{statement}
 use Rattle.rdp_check.proofs.walk.walk.Tie as tie
 
@@ -25,7 +25,8 @@ head-at-requires : tie.Need-head-at-requires Inv-loop μ-loop
 head-at-requires c κs = search needs
 
 advance-requires : tie.Need-advance-requires Inv-loop μ-loop
-advance-requires c κs = (c .before .before .before .before .pre .0, rw (c .head-at .ensures) (number-small _))
+advance-requires c κs =
+    (c .before .before .before .before .pre .0, (sound (c .before .before .loop .inv), rw (c .head-at .ensures) (number-small _)))
 
 sub-if1 : tie.Need-sub-if1 Inv-loop μ-loop
 sub-if1 c = search needs
@@ -64,7 +65,7 @@ loop-again c =
     let h = c .before .before .before .before .head-at .ensures in
     let a = c .before .before .before .advance .ensures in
     again (t .before .loop .inv) (t .loop-test .taken) _ (ap (λ x. x .number) h) _ (a .words) (c .before .before .if1 .left) _
-    (a .refusal) (c .before .if2 .left) _ (a .view ∙ ap (viewAfter _) h)
+    (a .refusal) (c .before .if2 .left) _ (a .after ∙ ap (viewAfter _) h)
 
 cast-t15 : tie.Need-cast-t15 Inv-loop μ-loop
 cast-t15 c = let w = c .before .loop .inv in omega (arith, w .few)
