@@ -129,7 +129,7 @@ module _ (strict : Bool) (v : View) (h : Head) (sound : Sound v) (small : h .num
   pub next-is : e % 16 ≡ nextOf (v .hazards) (h .number)
   next-is = parts .next
 
-  refusal-is : (d : Bool) → draws (h .number) ≡ d → refusalWith (v .ended) (cond d (v .draw) 0) q ≡ viewRefusal strict v (h .number)
+  refusal-is : (d : Bool) → draws (h .number) ≡ d → refusalWith (v .rest .ended) (cond d (v .rest .draw) 0) q ≡ viewRefusal strict v (h .number)
   refusal-is d e = rw (required-is, e)
 
   -- a step that changes the hazards alone
@@ -139,19 +139,24 @@ module _ (strict : Bool) (v : View) (h : Head) (sound : Sound v) (small : h .num
       let k = sets-none (h .number) s in
       record { refusal = is-r; words = is-n; after = rw (k .full, k .modes, k .image, k .scissor, next-is, sound .drawn) }
 
+  pub quiet-after : quiet (h .number) ≡ true → _≡_ {A = View} (record { hazards = e % 16; rest = v .rest }) (viewAfter v h)
+  quiet-after t =
+      let k = quiet-is (h .number) small t in
+      on-is (k .keeps) _ _ refl refl .after
+
   module _ {a : Advanced} where
-    pub quiet-step : (r : ℕ) → r ≡ refusalWith (v .ended) 0 q → quiet (h .number) ≡ true → a ≡ stepOn v (e % 16) r 1 → AdvancedIs strict v h a
+    pub quiet-step : (r : ℕ) → r ≡ refusalWith (v .rest .ended) 0 q → quiet (h .number) ≡ true → a ≡ stepOn v (e % 16) r 1 → AdvancedIs strict v h a
     quiet-step r is-r t is-a =
         let k = quiet-is (h .number) small t in
         rw is-a (on-is (k .keeps) r 1 (is-r ∙ refusal-is false (k .drawless)) (sym (k .single)))
 
     pub draw-step :
-        (r : ℕ) → r ≡ refusalWith (v .ended) (v .draw) q → quiet (h .number) ≡ false → sets (h .number) ≡ false → (n : ℕ) → n ≡ wordsOf (h .number) →
+        (r : ℕ) → r ≡ refusalWith (v .rest .ended) (v .rest .draw) q → quiet (h .number) ≡ false → sets (h .number) ≡ false → (n : ℕ) → n ≡ wordsOf (h .number) →
         a ≡ stepOn v (e % 16) r n → AdvancedIs strict v h a
     draw-step r is-r f s n is-n is-a = rw is-a (on-is s r n (is-r ∙ refusal-is true (draw-is (h .number) small f s)) is-n)
 
   pub setter-step :
-      (r : ℕ) → r ≡ refusalWith (v .ended) 0 q → sets (h .number) ≡ true → (w : View) → w ≡ viewAfter v h →
+      (r : ℕ) → r ≡ refusalWith (v .rest .ended) 0 q → sets (h .number) ≡ true → (w : View) → w ≡ viewAfter v h →
       AdvancedIs strict v h (record { refusal = r; words = 1; view = w })
   setter-step r is-r s w is-w =
       let k = setter-is (h .number) small s in

@@ -1,24 +1,30 @@
 -- The judgement of a list's commands, as the loop of the walk meets it. Assumes nothing.
 use mathlib.Core.Path.{_≡_, refl, sym, _∙_, ap, subst}
-use mathlib.Core.Bool.{Bool}
+use mathlib.Core.Bool.{Bool, true, false, cond, not, _&&_, false≢true}
 use mathlib.Core.List.{List, [], _∷_}
-use Prim.Native.Nat.{ℕ, zero, suc, _+_, _*_, _-_, _/_, _≤_, _<_}
+use Prim.Native.Nat.{ℕ, zero, suc, _+_, _*_, _-_, _/_, _%_, _≤_, _<_}
+use native.Mathlib.Nat.{mod-eq-of-lt}
 use native.Mathlib.Omega.{arith}
+use borrow.Author.Tests.{ltb-true}
+use lib.Dec.{ltb}
 use lib.ListN.{length, getD, drop, drop-of-length-le}
 use lib.Seq.{drop-cons}
 use Rattle.rdp_command.specs.Words.{wordAt, numberIn}
 use Rattle.rdp_command.specs.Kinds.{wordsOf}
 use Rattle.rdp_command.specs.Decode.{firstNumber}
+use Rattle.rdp_check.specs.Hazards.{requiredOf, entryOf}
 use Rattle.rdp_check.specs.Commands.{commandsFrom, restFrom, commandsOf, restOf}
 use Rattle.rdp_check.specs.Registers.{noRegisters}
 use Rattle.rdp_check.specs.Check.{State, start, afterCommand, refusalAt, Outcome, outcome, settle, judge, judgeList, checked}
-use Rattle.rdp_check.specs.View.{headOf, viewOf, Sound, viewAfter, viewRefusal}
+use Rattle.rdp_check.specs.View.{headOf, viewOf, Sound, viewAfter, refusalWith, viewRefusal, quiet}
 use Rattle.rdp_check.specs.declared.Checked.{Checked}
+use Rattle.rdp_check.specs.declared.walk.Head.{Head}
+use Rattle.rdp_check.specs.declared.walk.Rest.{Rest}
 use Rattle.rdp_check.specs.declared.walk.View.{View}
-use Rattle.rdp_check.proofs.HazardLaws.{next-small}
-use Rattle.rdp_check.proofs.PlaceLaws.{some-words}
+use Rattle.rdp_check.proofs.HazardLaws.{next-small, entry-parts}
+use Rattle.rdp_check.proofs.PlaceLaws.{number-small, some-words}
 use Rattle.rdp_check.proofs.ListLaws.{commandAt, commands-at, rest-at, command-word, command-number, command-there, commands-past, rest-past}
-use Rattle.rdp_check.proofs.ViewLaws.{refusal-seen, seen-sound, view-after}
+use Rattle.rdp_check.proofs.ViewLaws.{quiet-is, quiet-after, refusal-seen, seen-sound, view-after}
 
 -- the judgement of bytes from a place on
 abbrev pub judged : Bool → State → ℕ → List ℕ → Outcome
@@ -46,8 +52,14 @@ pub shown : (number place : ℕ) (v : View) (s : State) → v ≡ viewOf s → a
 unfolding viewOf
 shown number place v s e = ap (answer number place) e
 
-pub first : (strict : Bool) (list : List ℕ) (words : ℕ) → length list ≡ 8 * words → words ≤ 4096 → Walked strict list words (viewOf start) 0
-first strict list words whole few = record { state = start; view = refl; low = omega arith; whole = whole; few = few; within = omega arith; same = refl }
+pub first :
+    (strict : Bool) (list : List ℕ) (words : ℕ) (r : Rest) → r ≡ viewOf start .rest → length list ≡ 8 * words → words ≤ 4096 →
+    Walked strict list words (record { hazards = 0; rest = r }) 0
+unfolding viewOf
+first strict list words r e whole few = record { state = start; view = λ i. record { hazards = 0; rest = e i }; low = omega arith; whole = whole; few = few; within = omega arith; same = refl }
+
+div-of-lt : (e : ℕ) → e < 32 → e / 32 ≡ 0
+div-of-lt e h = omega arith
 
 -- the hazards after a command are below 16
 after-low : (s : State) (c : List ℕ) → afterCommand s c .hazards < 16
@@ -127,3 +139,35 @@ module _ {strict : Bool} {list : List ℕ} {words : ℕ} {v : View} {at : ℕ} (
             within = omega arith;
             same = ap (λ (x : ℕ). settle x at s onward) (sym zero-is) ∙ sym step ∙ w .same;
           }
+
+  -- a turn at a quiet command that misses no sync, whose entry in the table is e
+  quick-test : (a b d : Bool) → (a && b) && not d ≡ true → (a ≡ true) × ((b ≡ true) × (d ≡ false))
+  quick-test true true false e = (refl, (refl, refl))
+  quick-test true true true e = absurd (false≢true e)
+  quick-test true false d e = absurd (false≢true e)
+  quick-test false b d e = absurd (false≢true e)
+
+  no-required : (b : Bool) → _≡_ {A = ℕ} (cond b 0 0) 0
+  no-required true = refl
+  no-required false = refl
+
+  module _ (more : at < words) (e : ℕ) (is-e : e ≡ entryOf (v .hazards) (numberIn (wordAt list at))) where
+    abbrev h : Head
+    h = headOf (wordAt list at)
+
+    small : h .number < 64
+    small = number-small (wordAt list at)
+
+    pub quick : (a : Bool) → a ≡ quiet (h .number) → (a && ltb e 16) && not (v .rest .ended) ≡ true → Walked strict list words (record { hazards = e; rest = v .rest }) (at + 1)
+    unfolding refusalWith
+    quick a is-a t =
+        let k = quick-test a (ltb e 16) (v .rest .ended) t in
+        let low : e < 16 = ltb-true e 16 (k .1 .0) in
+        let p = entry-parts (v .hazards) (h .number) e small is-e in
+        let none : requiredOf (v .hazards) (h .number) ≡ 0 = sym (p .required) ∙ div-of-lt e (omega arith) in
+        let silent = quiet-is (h .number) small (sym is-a ∙ k .0) in
+        let still : 0 ≡ viewRefusal strict v (h .number) = rw (k .1 .1, silent .drawless, none, no-required strict) in
+        let stays : e % 16 ≡ e = mod-eq-of-lt low in
+        let on = quiet-after strict v h sound small e is-e (cond strict (e / 32) 0) refl (sym is-a ∙ k .0) in
+        again more (h .number) refl 1 (sym (silent .single)) (omega arith) 0 still refl (record { hazards = e; rest = v .rest })
+        ((λ i. record { hazards = sym stays i; rest = v .rest }) ∙ on)

@@ -32,7 +32,10 @@ drawRefusal modes image scissor =
 -- what is carried: the hazards, whether a Sync Full has come, these three, and the refusal of a draw, which they give
 abbrev pub view : ℕ → Bool → ℕ → ℕ → Bool → View
 view hazards ended modes image scissor =
-    record { hazards = hazards; ended = ended; draw = drawRefusal modes image scissor; modes = modes; image = image; scissor = scissor }
+    record {
+      hazards = hazards;
+      rest = record { ended = ended; draw = drawRefusal modes image scissor; modes = modes; image = image; scissor = scissor };
+    }
 
 -- it is carried of the state
 unfoldable pub viewOf : State → View
@@ -44,14 +47,14 @@ viewOf s =
 -- the hazards are below 16, and the refusal of a draw is the one that the other fields give
 pub record Sound (v : View) : Type 0 where
   pub low : v .hazards < 16
-  pub drawn : v .draw ≡ drawRefusal (v .modes) (v .image) (v .scissor)
+  pub drawn : v .rest .draw ≡ drawRefusal (v .rest .modes) (v .rest .image) (v .rest .scissor)
 
 -- the view after a command
 unfoldable pub viewAfter : View → Head → View
 viewAfter v h =
     let n = h .number in
-    view (nextOf (v .hazards) n) (eqb n 0x29 || v .ended) (cond (eqb n 0x2F) (code true (eqb (h .cycle) 3)) (v .modes))
-    (cond (eqb n 0x3F) (code true (eqb (h .size) 0)) (v .image)) (eqb n 0x2D || v .scissor)
+    view (nextOf (v .hazards) n) (eqb n 0x29 || v .rest .ended) (cond (eqb n 0x2F) (code true (eqb (h .cycle) 3)) (v .rest .modes))
+    (cond (eqb n 0x3F) (code true (eqb (h .size) 0)) (v .rest .image)) (eqb n 0x2D || v .rest .scissor)
 
 -- of two refusals the first, where 0 is none
 abbrev pub orElse : ℕ → ℕ → ℕ
@@ -63,7 +66,7 @@ unfoldable pub refusalWith : Bool → ℕ → ℕ → ℕ
 refusalWith ended draw required = cond ended 4 (orElse draw (missing required))
 
 abbrev pub viewRefusal : Bool → View → ℕ → ℕ
-viewRefusal strict v n = refusalWith (v .ended) (cond (draws n) (v .draw) 0) (cond strict (requiredOf (v .hazards) n) 0)
+viewRefusal strict v n = refusalWith (v .rest .ended) (cond (draws n) (v .rest .draw) 0) (cond strict (requiredOf (v .hazards) n) 0)
 
 -- a command that changes nothing but the hazards: no Sync Full or setter of what is carried
 unfoldable pub sets : ℕ → Bool
@@ -79,15 +82,7 @@ stepOn v next refusal words =
     record {
       refusal = refusal;
       words = words;
-      view =
-          record {
-            hazards = next;
-            ended = v .ended;
-            draw = v .draw;
-            modes = v .modes;
-            image = v .image;
-            scissor = v .scissor;
-          };
+      view = record { hazards = next; rest = v .rest };
     }
 
 -- what one step of the walk gives

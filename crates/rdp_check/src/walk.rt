@@ -5,9 +5,9 @@ ghost use Prim.Native.Nat.{_*_, _<_, _≤_};
 ghost use lib.ListN.{length};
 ghost use Rattle.rdp_command.specs.Words.{wordAt, numberIn};
 ghost use Rattle.rdp_command.specs.Kinds.{wordsOf};
-ghost use Rattle.rdp_check.specs.Hazards.{Agrees, nextOf};
-ghost use Rattle.rdp_check.specs.Check.{judgeList, outcomeWithin, checked};
-ghost use Rattle.rdp_check.specs.View.{headOf, code, view, Sound, viewAfter, refusalWith, sets, quiet, stepOn, AdvancedIs};
+ghost use Rattle.rdp_check.specs.Hazards.{Agrees, nextOf, entryOf};
+ghost use Rattle.rdp_check.specs.Check.{start, judgeList, outcomeWithin, checked};
+ghost use Rattle.rdp_check.specs.View.{headOf, code, view, viewOf, Sound, viewAfter, refusalWith, sets, quiet, stepOn, AdvancedIs};
 use crate::Checked;
 use crate::hazards;
 use crate::table;
@@ -19,15 +19,20 @@ pub struct Head {
     pub size: u8,
 }
 
-// What the walk carries from command to command: the hazards; whether a Sync Full has come; the refusal of a draw, or 0; and what gives it: modes (0 not
-// set, 1 set, 2 set to FILL), colour image (0 not set, 1 set, 2 set to 4 bits) and scissor. It is six bytes, so that the compiler keeps the fields apart.
-pub struct View {
-    pub hazards: u8,
+// What few commands change of what the walk carries: whether a Sync Full has come; the refusal of a draw, or 0; and what gives it: modes (0 not set, 1
+// set, 2 set to FILL), colour image (0 not set, 1 set, 2 set to 4 bits) and scissor.
+pub struct Rest {
     pub ended: bool,
     pub draw: u8,
     pub modes: u8,
     pub image: u8,
     pub scissor: bool,
+}
+
+// What the walk carries from command to command.
+pub struct View {
+    pub hazards: u8,
+    pub rest: Rest,
 }
 
 // The refusal of a command or 0, its words, and the view after it.
@@ -88,6 +93,19 @@ fn refusal(ended: bool, draw: u8, required: u8) -> u32
     6 + required as u32
 }
 
+// The rest before the first command: nothing is set.
+fn no_rest() -> Rest
+    ensures { λ r. ⌜ r ≡ viewOf start .rest ⌝ }
+{
+    Rest {
+        ended: false,
+        draw: 5,
+        modes: 0,
+        image: 0,
+        scissor: false,
+    }
+}
+
 // The code of a register that is set.
 fn set_code(special: bool) -> u8
     ensures { λ r. ⌜ r ≡ code true special ⌝ }
@@ -98,21 +116,21 @@ fn set_code(special: bool) -> u8
     1
 }
 
-// The view with the refusal of a draw that its other fields give.
-fn with_draw(v: View) -> View
-    ensures { λ r. ⌜ r ≡ view (v .hazards) (v .ended) (v .modes) (v .image) (v .scissor) ⌝ }
+// The hazards, and the rest with the refusal of a draw that its other fields give.
+fn with_draw(hazards: u8, rest: Rest) -> View
+    ensures { λ r. ⌜ r ≡ view hazards (rest .ended) (rest .modes) (rest .image) (rest .scissor) ⌝ }
 {
-    let mut r = v;
-    if !(((v.modes != 0) & (v.image != 0)) & v.scissor) {
-        r.draw = 5;
-        return r;
+    let mut q = rest;
+    if !(((rest.modes != 0) & (rest.image != 0)) & rest.scissor) {
+        q.draw = 5;
+        return View { hazards, rest: q };
     }
-    if (v.modes == 2) & (v.image == 2) {
-        r.draw = 6;
-        return r;
+    if (rest.modes == 2) & (rest.image == 2) {
+        q.draw = 6;
+        return View { hazards, rest: q };
     }
-    r.draw = 0;
-    r
+    q.draw = 0;
+    View { hazards, rest: q }
 }
 
 // The view after a command that sets what is carried, whose next hazards are given.
@@ -120,23 +138,25 @@ fn after(v: View, next: u8, h: Head) -> View
     requires { ⌜ Sound v × ((next ≡ nextOf (v .hazards) (h .number)) × (sets (h .number) ≡ true)) ⌝ }
     ensures { λ r. ⌜ r ≡ viewAfter v h ⌝ }
 {
-    let mut r = v;
-    r.hazards = next;
+    let mut rest = v.rest;
     let number = h.number;
     if number == 0x29 {
-        r.ended = true;
-        return r;
+        rest.ended = true;
+        return View {
+            hazards: next,
+            rest,
+        };
     }
     if number == 0x2F {
-        r.modes = set_code(h.cycle == 3);
-        return with_draw(r);
+        rest.modes = set_code(h.cycle == 3);
+        return with_draw(next, rest);
     }
     if number == 0x3F {
-        r.image = set_code(h.size == 0);
-        return with_draw(r);
+        rest.image = set_code(h.size == 0);
+        return with_draw(next, rest);
     }
-    r.scissor = true;
-    with_draw(r)
+    rest.scissor = true;
+    with_draw(next, rest)
 }
 
 // The sync that counts as required: none where the walk is not strict.
@@ -162,19 +182,19 @@ fn step_on(v: View, next: u8, refusal: u32, words: usize) -> Advanced
     }
 }
 
-// A Fill Rectangle stands apart from the longer draws, so that its one word is known where the branch is predicted.
-fn advance(table: &[u8; 1024], v: View, strict: bool, h: Head) -> Advanced
-    requires { ⌜ Agrees (now table) × (Sound v × (h .number < 64)) ⌝ }
+// One command, whose entry in the table is given.
+fn advance(e: u8, v: View, strict: bool, h: Head) -> Advanced
+    requires { ⌜ Sound v × ((h .number < 64) × (e ≡ entryOf (v .hazards) (h .number))) ⌝ }
     ensures { λ r. ⌜ AdvancedIs strict v h r ⌝ }
 {
     let number = h.number;
-    let e = hazards::entry(table, v.hazards, number);
+    let rest = v.rest;
     let required = required_if(strict, e / 32);
     if is_quiet(number) {
-        return step_on(v, e % 16, refusal(v.ended, 0, required), 1);
+        return step_on(v, e % 16, refusal(rest.ended, 0, required), 1);
     }
     if is_setter(number) {
-        let found = refusal(v.ended, 0, required);
+        let found = refusal(rest.ended, 0, required);
         let view = after(v, e % 16, h);
         return Advanced {
             refusal: found,
@@ -182,36 +202,34 @@ fn advance(table: &[u8; 1024], v: View, strict: bool, h: Head) -> Advanced
             view,
         };
     }
-    let found = refusal(v.ended, v.draw, required);
-    if number == 0x36 {
-        return step_on(v, e % 16, found, 1);
-    }
+    let found = refusal(rest.ended, rest.draw, required);
     step_on(v, e % 16, found, rdp_command::words_of(number))
 }
 
-// The commands of a list of whole words, in order: the first refusal, or 0 at the number of words.
+// The commands of a list of whole words, in order: the first refusal, or 0 at the number of words. Most commands are quiet and miss no sync: the way that
+// they take touches nothing but the hazards.
 fn walk(table: &[u8; 1024], list: &[u8], words: usize, strict: bool) -> Checked
     requires { ⌜ Agrees (now table) × ((length (now list) ≡ 8 * words) × (words ≤ 4096)) ⌝ }
     ensures { λ r. ⌜ r ≡ checked (judgeList strict (now (list .entry))) ⌝ }
 {
-    let mut view = View {
-        hazards: 0,
-        ended: false,
-        draw: 5,
-        modes: 0,
-        image: 0,
-        scissor: false,
-    };
+    let mut hazards: u8 = 0;
+    let mut rest = no_rest();
     let mut at: usize = 0;
     while at < words {
         let head = head_at(list, at);
-        let advanced = advance(table, view, strict, head);
+        let e = hazards::entry(table, hazards, head.number);
+        if (is_quiet(head.number) & (e < 16)) & !rest.ended {
+            hazards = e;
+            at += 1;
+            continue;
+        }
+        let advanced = advance(e, View { hazards, rest }, strict, head);
         let count = advanced.words;
         if words - at < count {
             return Checked {
                 number: 3,
                 place: at as u32,
-                hazards: view.hazards,
+                hazards,
             };
         }
         let refusal = advanced.refusal;
@@ -219,16 +237,18 @@ fn walk(table: &[u8; 1024], list: &[u8], words: usize, strict: bool) -> Checked
             return Checked {
                 number: refusal,
                 place: at as u32,
-                hazards: view.hazards,
+                hazards,
             };
         }
-        view = advanced.view;
+        let view = advanced.view;
+        hazards = view.hazards;
+        rest = view.rest;
         at += count;
     }
     Checked {
         number: 0,
         place: words as u32,
-        hazards: view.hazards,
+        hazards,
     }
 }
 
