@@ -12,19 +12,19 @@ fn low_command(number: u8, w0: u64, w1: u64) -> Command
     ensures { λ r. ⌜ ((ws : List ℕ) → r ≡ commandIn number (w0 ∷ w1 ∷ ws)) ⌝ }
 {
     match number {
-        0x24 => Command::TextureRectangle(read::textured_rectangle(w0, w1)),
-        0x25 => Command::TextureRectangleFlip(read::textured_rectangle(w0, w1)),
-        0x26 => Command::SyncLoad,
-        0x27 => Command::SyncPipe,
-        0x28 => Command::SyncTile,
-        0x29 => Command::SyncFull,
-        0x2A => Command::SetKeyGb(read::key_gb(w0)),
-        0x2B => Command::SetKeyR(read::key_r(w0)),
-        0x2C => Command::SetConvert(read::convert(w0)),
-        0x2D => Command::SetScissor(read::scissor(w0)),
-        0x2E => Command::SetPrimitiveDepth(read::primitive_depth(w0)),
-        0x2F => Command::SetOtherModes(read::other_modes(w0)),
-        _ => Command::NoOperation(number),
+        0x24 => return Command::TextureRectangle(read::textured_rectangle(w0, w1)),
+        0x25 => return Command::TextureRectangleFlip(read::textured_rectangle(w0, w1)),
+        0x26 => return Command::SyncLoad,
+        0x27 => return Command::SyncPipe,
+        0x28 => return Command::SyncTile,
+        0x29 => return Command::SyncFull,
+        0x2A => return Command::SetKeyGb(read::key_gb(w0)),
+        0x2B => return Command::SetKeyR(read::key_r(w0)),
+        0x2C => return Command::SetConvert(read::convert(w0)),
+        0x2D => return Command::SetScissor(read::scissor(w0)),
+        0x2E => return Command::SetPrimitiveDepth(read::primitive_depth(w0)),
+        0x2F => return Command::SetOtherModes(read::other_modes(w0)),
+        _ => return Command::NoOperation(number),
     }
 }
 
@@ -34,22 +34,22 @@ fn high_command(number: u8, w: u64) -> Command
     ensures { λ r. ⌜ ((ws : List ℕ) → r ≡ commandIn number (w ∷ ws)) ⌝ }
 {
     match number {
-        0x30 => Command::LoadTlut(read::tile_area(w)),
-        0x32 => Command::SetTileSize(read::tile_area(w)),
-        0x33 => Command::LoadBlock(read::block(w)),
-        0x34 => Command::LoadTile(read::tile_area(w)),
-        0x35 => Command::SetTile(read::tile_descriptor(w)),
-        0x36 => Command::FillRectangle(read::rectangle(w)),
-        0x37 => Command::SetFillColor(read::fill_color(w)),
-        0x38 => Command::SetFogColor(read::color(w)),
-        0x39 => Command::SetBlendColor(read::color(w)),
-        0x3A => Command::SetPrimitiveColor(read::primitive_color(w)),
-        0x3B => Command::SetEnvironmentColor(read::color(w)),
-        0x3C => Command::SetCombineMode(read::combine_mode(w)),
-        0x3D => Command::SetTextureImage(read::image(w)),
-        0x3E => Command::SetDepthImage(read::depth_image(w)),
-        0x3F => Command::SetColorImage(read::color_image(w)),
-        _ => Command::NoOperation(number),
+        0x30 => return Command::LoadTlut(read::tile_area(w)),
+        0x32 => return Command::SetTileSize(read::tile_area(w)),
+        0x33 => return Command::LoadBlock(read::block(w)),
+        0x34 => return Command::LoadTile(read::tile_area(w)),
+        0x35 => return Command::SetTile(read::tile_descriptor(w)),
+        0x36 => return Command::FillRectangle(read::rectangle(w)),
+        0x37 => return Command::SetFillColor(read::fill_color(w)),
+        0x38 => return Command::SetFogColor(read::color(w)),
+        0x39 => return Command::SetBlendColor(read::color(w)),
+        0x3A => return Command::SetPrimitiveColor(read::primitive_color(w)),
+        0x3B => return Command::SetEnvironmentColor(read::color(w)),
+        0x3C => return Command::SetCombineMode(read::combine_mode(w)),
+        0x3D => return Command::SetTextureImage(read::image(w)),
+        0x3E => return Command::SetDepthImage(read::depth_image(w)),
+        0x3F => return Command::SetColorImage(read::color_image(w)),
+        _ => return Command::NoOperation(number),
     }
 }
 

@@ -126,33 +126,33 @@ high-command-spec =
     tie.close
     (tie.spec
     tile-area-requires
-    tile-area-requires-2
-    block-requires
-    tile-area-requires-3
-    tile-descriptor-requires
-    rectangle-requires
-    fill-color-requires
-    color-requires
-    color-requires-2
-    primitive-color-requires
-    color-requires-3
-    combine-mode-requires
-    image-requires
-    depth-image-requires
-    color-image-requires
     returns
+    tile-area-requires-2
     returns-2
+    block-requires
     returns-3
+    tile-area-requires-3
     returns-4
+    tile-descriptor-requires
     returns-5
+    rectangle-requires
     returns-6
+    fill-color-requires
     returns-7
+    color-requires
     returns-8
+    color-requires-2
     returns-9
+    primitive-color-requires
     returns-10
+    color-requires-3
     returns-11
+    combine-mode-requires
     returns-12
+    image-requires
     returns-13
+    depth-image-requires
     returns-14
+    color-image-requires
     returns-15
     returns-16)

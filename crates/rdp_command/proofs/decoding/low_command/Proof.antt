@@ -89,23 +89,23 @@ low-command-spec =
     tie.close
     (tie.spec
     textured-rectangle-requires
-    textured-rectangle-requires-2
-    key-gb-requires
-    key-r-requires
-    convert-requires
-    scissor-requires
-    primitive-depth-requires
-    other-modes-requires
     returns
+    textured-rectangle-requires-2
     returns-2
     returns-3
     returns-4
     returns-5
     returns-6
+    key-gb-requires
     returns-7
+    key-r-requires
     returns-8
+    convert-requires
     returns-9
+    scissor-requires
     returns-10
+    primitive-depth-requires
     returns-11
+    other-modes-requires
     returns-12
     returns-13)
