@@ -1,10 +1,39 @@
 // The command of a number out of its words.
+ghost use mathlib.Core.Bool.{true};
 ghost use mathlib.Core.Path.{_≡_};
 ghost use mathlib.Core.List.{List, [], _∷_};
 ghost use Prim.Native.Nat.{ℕ, _/_, _<_, _≤_};
-ghost use Rattle.rdp_command.specs.Decode.{commandIn};
+ghost use Rattle.rdp_command.specs.Decode.{commandIn, decodeOf};
+ghost use Rattle.rdp_command.specs.Steps.{decodedFrom, Gives};
 use crate::command::*;
 use crate::read;
+use crate::words;
+
+// The number of a command and its words before the suffix; those that it does not have are 0. Without ok there is no command.
+pub struct Base {
+    pub ok: bool,
+    pub number: u8,
+    pub w0: u64,
+    pub w1: u64,
+    pub w2: u64,
+    pub w3: u64,
+}
+
+// The base of the first command of a list, where its words are all there.
+pub fn first_command(list: &[u8]) -> Base
+    ensures { λ r. ⌜ Gives 3 (decodeOf (now (list .entry))) r ⌝ }
+{
+    let n = words::whole_words(list);
+    let w0 = words::word_at(list, 0);
+    Base {
+        ok: n != 0,
+        number: words::number_in(w0),
+        w0,
+        w1: words::own_word(list, n, 1),
+        w2: words::own_word(list, n, 2),
+        w3: words::own_word(list, n, 3),
+    }
+}
 
 // A number below 0x30 that is no triangle's, whatever words follow.
 fn low_command(number: u8, w0: u64, w1: u64) -> Command
@@ -53,7 +82,7 @@ fn high_command(number: u8, w: u64) -> Command
     }
 }
 
-pub fn command_in(number: u8, w0: u64, w1: u64, w2: u64, w3: u64) -> Command
+fn command_in(number: u8, w0: u64, w1: u64, w2: u64, w3: u64) -> Command
     requires { ⌜ number < 64 ⌝ }
     ensures { λ r. ⌜ r ≡ commandIn number (w0 ∷ w1 ∷ w2 ∷ w3 ∷ []) ⌝ }
 {
@@ -64,4 +93,18 @@ pub fn command_in(number: u8, w0: u64, w1: u64, w2: u64, w3: u64) -> Command
         return low_command(number, w0, w1);
     }
     high_command(number, w0)
+}
+
+// The command of a base, or the refusal at 0.
+pub fn decoded(base: Base, refusal: u32) -> Decoded
+    requires { ⌜ (base .ok ≡ true → base .number < 64) ⌝ }
+    ensures { λ r. ⌜ r ≡ decodedFrom refusal base ⌝ }
+{
+    if base.ok {
+        return Decoded::Whole(command_in(base.number, base.w0, base.w1, base.w2, base.w3));
+    }
+    Decoded::Refused(Answer {
+        number: refusal,
+        place: 0,
+    })
 }

@@ -11,8 +11,9 @@ ghost use Rattle.rdp_command.specs.Kinds.{isNoOperation};
 ghost use Rattle.rdp_command.specs.Layout.{edgeLines, textureStepLines, texturedRectangleLines};
 ghost use Rattle.rdp_command.specs.Fields.{numberOfValue};
 ghost use Rattle.rdp_command.specs.declared.command.Command.the-variants.{FillTriangle};
-ghost use Rattle.rdp_command.specs.Numbers.{valuesFrom};
-ghost use Rattle.rdp_command.specs.Steps.{numbered, Spread};
+ghost use Rattle.rdp_command.specs.declared.command.Command.{Command};
+ghost use Rattle.rdp_command.specs.Numbers.{valuesFrom, fieldsAnswer, fieldsOut};
+ghost use Rattle.rdp_command.specs.Steps.{numbered, Spread, Usable};
 ghost use Rattle.rdp_command.specs.Groups.{edgeValues, triangleBaseValues, textureStepValues, texturedRectangleValues, keyGbValues, keyRValues, convertValues, scissorValues, primitiveDepthValues, otherModesValues, tileAreaValues, blockValues, tileDescriptorValues, rectangleValues, colorValues, primitiveColorValues, imageValues};
 use crate::command::*;
 
@@ -37,7 +38,7 @@ fn twos(value: i16) -> u64
 }
 
 // Copies numbers to the front of out.
-pub fn copy_values(out: &mut [u64], values: &[u64])
+fn copy_values(out: &mut [u64], values: &[u64])
     requires { ⌜ length (now values) ≤ length (now out) ⌝ }
     ensures { λ _. ⌜ now (out .exit) ≡ overwrite (now (values .entry)) (now (out .entry)) ⌝ }
 {
@@ -385,5 +386,26 @@ pub fn spread(command: Command) -> Numbers
         Command::SetTextureImage(g) => image(0x3D, g),
         Command::SetDepthImage(n) => one(0x3E, n as u64),
         Command::SetColorImage(g) => image(0x3F, g),
+    }
+}
+
+// Writes the numbers of a command's fields to the front of out.
+pub fn write_values(numbers: Numbers, out: &mut [u64]) -> Answer
+    requires { ⌜ Usable numbers ⌝ }
+    ensures answer { λ r. ⌜ ((c : Command) → Spread c numbers → r ≡ fieldsAnswer c (now (out .entry))) ⌝ }
+    ensures output { λ _. ⌜ ((c : Command) → Spread c numbers → now (out .exit) ≡ fieldsOut c (now (out .entry))) ⌝ }
+{
+    let count = numbers.count;
+    if out.len() < count {
+        return Answer {
+            number: 14,
+            place: count as u32,
+        };
+    }
+    let all = numbers.values;
+    copy_values(out, &all[..count]);
+    Answer {
+        number: 0,
+        place: count as u32,
     }
 }
