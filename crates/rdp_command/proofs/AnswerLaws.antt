@@ -2,8 +2,7 @@
 use Prim.Native.Nat.{ℕ, _/_, _≤_, _<_}
 use mathlib.Core.Bool.{Bool, true, false, cond, not, _&&_, false≢true}
 use mathlib.Core.List.{List}
-use mathlib.Core.Path.{_≡_, refl, ap, subst, sym}
-use native.Mathlib.Omega.{arith}
+use mathlib.Core.Path.{_≡_, refl, ap, _∙_}
 use lib.Dec.{eqb, ltb}
 use lib.ListN.{length}
 use borrow.Author.Tests.{ne-eqb, lt-ltb, le-ltb, eqb-true}
@@ -15,7 +14,7 @@ use Rattle.rdp_command.specs.Commands.{commandOf}
 use Rattle.rdp_command.specs.Decode.{firstNumber, wholeWords, ownWord, ownWords, commandIn, decodeOf}
 use Rattle.rdp_command.specs.Encode.{answerWith, outWith}
 use Rattle.rdp_command.specs.Numbers.{valuesFrom, numbersFit, flagsAgree, fromNumbers}
-use Rattle.rdp_command.specs.Steps.{decodedFrom, Gives}
+use Rattle.rdp_command.specs.Steps.{decodedFrom}
 use Rattle.rdp_command.specs.declared.command.Answer.{Answer}
 use Rattle.rdp_command.specs.declared.command.Command.{Command}
 use Rattle.rdp_command.specs.declared.command.Decoded.{Decoded}
@@ -47,10 +46,9 @@ firstBase bs =
     }
 
 -- the base of the first command gives what decoding answers
-pub first-gives : (bs : List ℕ) {b : Base} → b ≡ firstBase bs → Gives 3 (decodeOf bs) b
+pub first-gives : (bs : List ℕ) {b : Base} → b ≡ firstBase bs → decodedFrom 3 b ≡ decodeOf bs
 unfolding decodedFrom decodeOf
-first-gives bs e =
-    subst (λ (b : Base). Gives 3 (decodeOf bs) b) (sym e) (record { small = λ _. omega arith; gives = cond-not (eqb (wholeWords bs) 0) _ _ })
+first-gives bs e = ap (decodedFrom 3) e ∙ cond-not (eqb (wholeWords bs) 0) _ _
 
 cond-zero : (b : Bool) {x : ℕ} → (cond b 0 x ≡ 0 → ⊥) → cond b 0 x ≡ x
 cond-zero true p = absurd (p refl)

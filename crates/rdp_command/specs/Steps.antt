@@ -38,8 +38,3 @@ pub record Usable (r : Numbers) : Type 0 where
 unfoldable pub decodedFrom : ℕ → Base → Decoded
 decodedFrom refusal b =
     cond (b .ok) (Whole (commandIn (b .number) (b .w0 ∷ b .w1 ∷ b .w2 ∷ b .w3 ∷ []))) (Refused (record { number = refusal; place = 0 }))
-
--- a base that gives an answer
-pub record Gives (refusal : ℕ) (d : Decoded) (b : Base) : Type 0 where
-  pub small : b .ok ≡ true → b .number < 64
-  pub gives : decodedFrom refusal b ≡ d

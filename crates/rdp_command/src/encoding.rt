@@ -12,7 +12,7 @@ ghost use Rattle.rdp_command.specs.Table.{Agrees};
 ghost use Rattle.rdp_command.specs.Decode.{suffixWords};
 ghost use Rattle.rdp_command.specs.Encode.{fixedBits, packedWord, packedBytes, baseWords, bytesWith, verdictOf, answerWith, outWith, encodeAnswer, encodeOut};
 ghost use Rattle.rdp_command.specs.Numbers.{numbersFit, flagsAgree, fromNumbers};
-ghost use Rattle.rdp_command.specs.Steps.{Spread, Usable, Gives};
+ghost use Rattle.rdp_command.specs.Steps.{Spread, Usable, decodedFrom};
 ghost use Rattle.rdp_command.specs.declared.command.Command.{Command};
 use crate::command::*;
 use crate::decoding::Base;
@@ -190,7 +190,7 @@ fn flags_agree(number: u8, numbers: &[u64]) -> bool
 
 // The base of a number and the numbers of its fields, where these make a command.
 pub fn packed_command(number: u32, numbers: &[u64]) -> Base
-    ensures { λ r. ⌜ Gives 15 (fromNumbers number (now (numbers .entry))) r ⌝ }
+    ensures { λ r. ⌜ decodedFrom 15 r ≡ fromNumbers number (now (numbers .entry)) ⌝ }
 {
     if number < 64 {
         let n = number as u8;

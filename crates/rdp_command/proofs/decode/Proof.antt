@@ -7,10 +7,10 @@ first-command-requires : tie.Need-first-command-requires
 first-command-requires c κs = search needs
 
 decoded-requires : tie.Need-decoded-requires
-decoded-requires c κs = c .first-command .ensures .small
+decoded-requires c κs = search needs
 
 returns : tie.Need-returns
-returns c = c .decoded .ensures ∙ c .before .first-command .ensures .gives
+returns c = c .decoded .ensures ∙ c .before .first-command .ensures
 
 pub decode-spec : {M : Type 1} → statement M
 decode-spec = tie.close (tie.spec first-command-requires decoded-requires returns)

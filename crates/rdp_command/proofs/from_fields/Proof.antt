@@ -7,10 +7,10 @@ packed-command-requires : tie.Need-packed-command-requires
 packed-command-requires c κs = search needs
 
 decoded-requires : tie.Need-decoded-requires
-decoded-requires c κs = c .packed-command .ensures .small
+decoded-requires c κs = search needs
 
 returns : tie.Need-returns
-returns c = c .decoded .ensures ∙ c .before .packed-command .ensures .gives
+returns c = c .decoded .ensures ∙ c .before .packed-command .ensures
 
 pub from-fields-spec : {M : Type 1} → statement M
 from-fields-spec = tie.close (tie.spec packed-command-requires decoded-requires returns)

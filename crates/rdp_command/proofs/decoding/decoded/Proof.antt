@@ -1,3 +1,4 @@
+use borrow.Author.Needs.{needs}
 use mathlib.Core.Path.{ap}
 use Rattle.rdp_command.specs.Steps.{decodedFrom}
 use Rattle.rdp_command.specs.declared.command.Decoded.the-variants.{Whole}
@@ -5,7 +6,7 @@ use Rattle.rdp_command.proofs.decoding.decoded.Statement.{statement}
 use Rattle.rdp_command.proofs.decoding.decoded.Tie as tie
 
 command-in-requires : tie.Need-command-in-requires
-command-in-requires c κs = c .before .pre (c .if1 .taken)
+command-in-requires c κs = search needs
 
 returns : tie.Need-returns
 unfolding decodedFrom

@@ -1,4 +1,4 @@
-use mathlib.Core.Bool.{Bool, true, _&&_, false≢true}
+use mathlib.Core.Bool.{Bool, true, _&&_}
 use mathlib.Core.List.{[], _∷_}
 use mathlib.Core.Path.{_≡_, ap, sym, _∙_}
 use lib.Dec.{lit<}
@@ -53,39 +53,26 @@ returns c =
     let agree = sym (c .before .before .before .before .before .before .before .before .before .flags-agree .ensures) ∙ c .before .before .before .before .before .before .before .before .if3 .taken in
     let small = c .before .before .before .before .before .before .before .before .before .before .before .before .before .before .if1 .taken in
     let parts = fit-parts n ns fit in
-    record {
-      small = λ _. small;
-      gives =
-          accepted n ns small (λ i. fit i && agree i)
-          ((λ i. commandIn n (c .before .before .before .before .before .before .packed-word .ensures i ∷ c .before .before .before .before .packed-word2 .ensures i ∷ c .before .before .packed-word3 .ensures i ∷ c .packed-word4 .ensures i ∷ [])) ∙
-          ap (commandOf n) (fields-back n ns small (layout-readable n small) (sym (parts .0)) (λ k. c .before .before .before .before .before .before .before .before .before .before .before .before .before .before .before .shared-slice-known .given k .fits) (parts .1)));
-    }
+    accepted n ns small (λ i. fit i && agree i)
+    ((λ i. commandIn n (c .before .before .before .before .before .before .packed-word .ensures i ∷ c .before .before .before .before .packed-word2 .ensures i ∷ c .before .before .packed-word3 .ensures i ∷ c .packed-word4 .ensures i ∷ [])) ∙
+    ap (commandOf n) (fields-back n ns small (layout-readable n small) (sym (parts .0)) (λ k. c .before .before .before .before .before .before .before .before .before .before .before .before .before .before .before .shared-slice-known .given k .fits) (parts .1)))
 
 returns-2 : tie.Need-returns-2
 unfolding decodedFrom
 returns-2 c =
-    record {
-      small = λ e. absurd (false≢true e);
-      gives = misfit (c .before .before .before .before .before .before .before .before .args .number) (now (c .before .before .before .before .before .before .before .before .args .numbers)) (c .before .before .before .before .before .before .if1 .taken) (λ i. (sym (c .before .before .before .numbers-fit .ensures) ∙ c .before .before .if2 .taken) i && (sym (c .before .flags-agree .ensures) ∙ c .if3 .left) i);
-    }
+    misfit (c .before .before .before .before .before .before .before .before .args .number) (now (c .before .before .before .before .before .before .before .before .args .numbers)) (c .before .before .before .before .before .before .if1 .taken) (λ i. (sym (c .before .before .before .numbers-fit .ensures) ∙ c .before .before .if2 .taken) i && (sym (c .before .flags-agree .ensures) ∙ c .if3 .left) i)
 
 returns-3 : tie.Need-returns-3
 unfolding decodedFrom
 returns-3 c =
     let n = c .before .before .before .before .before .before .args .number in
     let ns = now (c .before .before .before .before .before .before .args .numbers) in
-    record {
-      small = λ e. absurd (false≢true e);
-      gives = misfit n ns (c .before .before .before .before .if1 .taken) (ap (λ (b : Bool). b && flagsAgree n ns) (sym (c .before .numbers-fit .ensures) ∙ c .if2 .left));
-    }
+    misfit n ns (c .before .before .before .before .if1 .taken) (ap (λ (b : Bool). b && flagsAgree n ns) (sym (c .before .numbers-fit .ensures) ∙ c .if2 .left))
 
 returns-4 : tie.Need-returns-4
 unfolding decodedFrom
 returns-4 c =
-    record {
-      small = λ e. absurd (false≢true e);
-      gives = too-large (c .before .before .args .number) (now (c .before .before .args .numbers)) (c .if1 .left);
-    }
+    too-large (c .before .before .args .number) (now (c .before .before .args .numbers)) (c .if1 .left)
 
 pub packed-command-spec : {M : Type 1} → statement M
 packed-command-spec =
