@@ -14,7 +14,12 @@ use Rattle.rdp_command.specs.declared.command.Command.{Command}
 use Rattle.rdp_command.specs.declared.command.Decoded.{Decoded}
 use Rattle.rdp_command.specs.declared.command.Decoded.the-variants.{Whole, Refused}
 use Rattle.rdp_command.specs.declared.decoding.Base.{Base}
+use Rattle.rdp_command.specs.declared.values.Four.{Four}
 use Rattle.rdp_command.specs.declared.values.Numbers.{Numbers}
+
+-- four numbers as a list
+abbrev pub listed : Four → List ℕ
+listed r = r .first ∷ r .second ∷ r .third ∷ r .fourth ∷ []
 
 -- a number and numbers of fields, with zeros after them
 abbrev pub numbered : ℕ → Bool → List ℕ → Numbers

@@ -106,12 +106,9 @@ fn write_whole(
     requires { ⌜ Agrees (now table) × ((number < 64) × ((length (now numbers) ≡ length (layout number)) × ((n ≡ wordsOf number) × ((8 * n ≤ length (now out)) × (length (now suffix) ≡ 8 * suffixWords n))))) ⌝ }
     ensures { λ _. ⌜ now (out .exit) ≡ overwrite (bytesWith number (now (numbers .entry)) (now (suffix .entry))) (now (out .entry)) ⌝ }
 {
-    if n < 4 {
-        write_base(table, number, numbers, n, out);
-        return;
-    }
-    write_base(table, number, numbers, 4, out);
-    words::copy(out, 32, suffix);
+    let base = n - suffix.len() / 8;
+    write_base(table, number, numbers, base, out);
+    words::copy(out, 8 * base, suffix);
 }
 
 // The bytes due after a command's base.

@@ -13,7 +13,7 @@ ghost use Rattle.rdp_command.specs.Fields.{numberOfValue};
 ghost use Rattle.rdp_command.specs.declared.command.Command.the-variants.{FillTriangle};
 ghost use Rattle.rdp_command.specs.declared.command.Command.{Command};
 ghost use Rattle.rdp_command.specs.Numbers.{valuesFrom, fieldsAnswer, fieldsOut};
-ghost use Rattle.rdp_command.specs.Steps.{numbered, Spread, Usable};
+ghost use Rattle.rdp_command.specs.Steps.{listed, numbered, Spread, Usable};
 ghost use Rattle.rdp_command.specs.Groups.{edgeValues, triangleBaseValues, textureStepValues, texturedRectangleValues, keyGbValues, keyRValues, convertValues, scissorValues, primitiveDepthValues, otherModesValues, tileAreaValues, blockValues, tileDescriptorValues, rectangleValues, colorValues, primitiveColorValues, imageValues};
 use crate::command::*;
 
@@ -75,10 +75,23 @@ fn none(number: u8, known: bool) -> Numbers
     }
 }
 
-fn edge(g: Edge) -> [u64; 4]
-    ensures { λ r. ⌜ (r ≡ map numberOfValue (edgeValues g)) × (valuesFrom (edgeLines 0) (map numberOfValue (edgeValues g)) ≡ edgeValues g) ⌝ }
+// Four numbers of fields.
+pub struct Four {
+    pub first: u64,
+    pub second: u64,
+    pub third: u64,
+    pub fourth: u64,
+}
+
+fn edge(g: Edge) -> Four
+    ensures { λ r. ⌜ (listed r ≡ map numberOfValue (edgeValues g)) × (valuesFrom (edgeLines 0) (map numberOfValue (edgeValues g)) ≡ edgeValues g) ⌝ }
 {
-    [twos(g.x.i), g.x.f as u64, twos(g.dxdy.i), g.dxdy.f as u64]
+    Four {
+        first: twos(g.x.i),
+        second: g.x.f as u64,
+        third: twos(g.dxdy.i),
+        fourth: g.dxdy.f as u64,
+    }
 }
 
 // The number of a triangle: what follows its base is its low three bits.
@@ -104,26 +117,31 @@ fn triangle_base(g: TriangleBase) -> Numbers
         twos(g.yl),
         twos(g.ym),
         twos(g.yh),
-        l[0],
-        l[1],
-        l[2],
-        l[3],
-        h[0],
-        h[1],
-        h[2],
-        h[3],
-        m[0],
-        m[1],
-        m[2],
-        m[3],
+        l.first,
+        l.second,
+        l.third,
+        l.fourth,
+        h.first,
+        h.second,
+        h.third,
+        h.fourth,
+        m.first,
+        m.second,
+        m.third,
+        m.fourth,
     ];
     padded(triangle_number(g.shade, g.texture, g.zbuffer), &values)
 }
 
-fn texture_step(g: TextureStep) -> [u64; 4]
-    ensures { λ r. ⌜ (r ≡ map numberOfValue (textureStepValues g)) × (valuesFrom (textureStepLines 0) (map numberOfValue (textureStepValues g)) ≡ textureStepValues g) ⌝ }
+fn texture_step(g: TextureStep) -> Four
+    ensures { λ r. ⌜ (listed r ≡ map numberOfValue (textureStepValues g)) × (valuesFrom (textureStepLines 0) (map numberOfValue (textureStepValues g)) ≡ textureStepValues g) ⌝ }
 {
-    [twos(g.s), twos(g.t), twos(g.dsdx), twos(g.dtdy)]
+    Four {
+        first: twos(g.s),
+        second: twos(g.t),
+        third: twos(g.dsdx),
+        fourth: twos(g.dtdy),
+    }
 }
 
 fn textured_rectangle(number: u8, g: TexturedRectangle) -> Numbers
@@ -136,10 +154,10 @@ fn textured_rectangle(number: u8, g: TexturedRectangle) -> Numbers
         g.tile as u64,
         g.upper_left.x as u64,
         g.upper_left.y as u64,
-        step[0],
-        step[1],
-        step[2],
-        step[3],
+        step.first,
+        step.second,
+        step.third,
+        step.fourth,
     ];
     padded(number, &values)
 }
