@@ -121,7 +121,7 @@ padded-requires : tie.Need-padded-requires
 padded-requires c κs = search needs
 
 returns : tie.Need-returns
-returns c = search needs
+returns c = c .padded .ensures
 
 pub other-modes-spec : {M : Type 1} → statement M
 other-modes-spec =
