@@ -6,21 +6,15 @@ ghost use Rattle.rdp_command.specs.Words.{halfOf, wordAt, numberIn, byte
 ghost use Rattle.rdp_command.specs.Decode.{wholeWords, ownWord};
 use crate::words_of;
 
-fn wide(x: u8) -> u64
-    ensures { λ r. ⌜ (r ≡ x) × (r < 256) ⌝ }
-{
-    x as u64
-}
-
 // The four bytes from an index on as a number.
 fn half_at(list: &[u8], at: usize) -> u64
     requires { ⌜ at + 4 ≤ length (now list) ⌝ }
     ensures { λ r. ⌜ (r ≡ halfOf (drop at (now (list .entry)))) × (r < 2 ^ 32) ⌝ }
 {
-    wide(list[at]) * 0x100_0000
-        + wide(list[at + 1]) * 0x1_0000
-        + wide(list[at + 2]) * 0x100
-        + wide(list[at + 3])
+    (list[at] as u64) * 0x100_0000
+        + (list[at + 1] as u64) * 0x1_0000
+        + (list[at + 2] as u64) * 0x100
+        + (list[at + 3] as u64)
 }
 
 // The word at a place of a list; 0 where the list has no whole word there.
