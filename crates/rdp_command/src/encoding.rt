@@ -52,10 +52,8 @@ fn numbers_fit(table: &[u32; 203], number: u8, numbers: &[u64]) -> bool
     ensures { λ r. ⌜ r ≡ numbersFit number (now (numbers .entry)) ⌝ }
 {
     let lines = lines_of(table, number);
-    let first = lines.first;
-    let count = lines.count;
-    if numbers.len() == count {
-        return packing::all_fit(table, first, numbers);
+    if numbers.len() == lines.count {
+        return packing::all_fit(table, lines.first, numbers);
     }
     false
 }
@@ -73,8 +71,7 @@ fn packed_word(table: &[u32; 203], number: u8, numbers: &[u64], k: usize) -> u64
     ensures { λ r. ⌜ r ≡ packedWord number (now (numbers .entry)) k ⌝ }
 {
     let lines = lines_of(table, number);
-    let first = lines.first;
-    let rest = packing::packed_word(table, first, k, numbers);
+    let rest = packing::packed_word(table, lines.first, k, numbers);
     if k == 0 {
         return (fixed_bits(number) as u64) * 0x100_0000_0000_0000 + rest;
     }
