@@ -162,8 +162,8 @@ fn textured_rectangle(number: u8, g: TexturedRectangle) -> Numbers
     padded(number, &values)
 }
 
-fn key_gb(number: u8, g: KeyGb) -> Numbers
-    ensures { λ r. ⌜ r ≡ numbered number true (map numberOfValue (keyGbValues g)) ⌝ }
+fn key_gb(g: KeyGb) -> Numbers
+    ensures { λ r. ⌜ r ≡ numbered 0x2A true (map numberOfValue (keyGbValues g)) ⌝ }
 {
     let values = [
         g.width_g as u64,
@@ -173,18 +173,18 @@ fn key_gb(number: u8, g: KeyGb) -> Numbers
         g.center_b as u64,
         g.scale_b as u64,
     ];
-    padded(number, &values)
+    padded(0x2A, &values)
 }
 
-fn key_r(number: u8, g: KeyR) -> Numbers
-    ensures { λ r. ⌜ r ≡ numbered number true (map numberOfValue (keyRValues g)) ⌝ }
+fn key_r(g: KeyR) -> Numbers
+    ensures { λ r. ⌜ r ≡ numbered 0x2B true (map numberOfValue (keyRValues g)) ⌝ }
 {
     let values = [g.width_r as u64, g.center_r as u64, g.scale_r as u64];
-    padded(number, &values)
+    padded(0x2B, &values)
 }
 
-fn convert(number: u8, g: Convert) -> Numbers
-    ensures { λ r. ⌜ r ≡ numbered number true (map numberOfValue (convertValues g)) ⌝ }
+fn convert(g: Convert) -> Numbers
+    ensures { λ r. ⌜ r ≡ numbered 0x2C true (map numberOfValue (convertValues g)) ⌝ }
 {
     let values = [
         g.k0 as u64,
@@ -194,11 +194,11 @@ fn convert(number: u8, g: Convert) -> Numbers
         g.k4 as u64,
         g.k5 as u64,
     ];
-    padded(number, &values)
+    padded(0x2C, &values)
 }
 
-fn scissor(number: u8, g: Scissor) -> Numbers
-    ensures { λ r. ⌜ r ≡ numbered number true (map numberOfValue (scissorValues g)) ⌝ }
+fn scissor(g: Scissor) -> Numbers
+    ensures { λ r. ⌜ r ≡ numbered 0x2D true (map numberOfValue (scissorValues g)) ⌝ }
 {
     let values = [
         g.upper_left.x as u64,
@@ -208,18 +208,18 @@ fn scissor(number: u8, g: Scissor) -> Numbers
         g.lower_right.x as u64,
         g.lower_right.y as u64,
     ];
-    padded(number, &values)
+    padded(0x2D, &values)
 }
 
-fn primitive_depth(number: u8, g: PrimitiveDepth) -> Numbers
-    ensures { λ r. ⌜ r ≡ numbered number true (map numberOfValue (primitiveDepthValues g)) ⌝ }
+fn primitive_depth(g: PrimitiveDepth) -> Numbers
+    ensures { λ r. ⌜ r ≡ numbered 0x2E true (map numberOfValue (primitiveDepthValues g)) ⌝ }
 {
     let values = [g.z as u64, g.dz as u64];
-    padded(number, &values)
+    padded(0x2E, &values)
 }
 
-fn other_modes(number: u8, g: OtherModes) -> Numbers
-    ensures { λ r. ⌜ r ≡ numbered number true (map numberOfValue (otherModesValues g)) ⌝ }
+fn other_modes(g: OtherModes) -> Numbers
+    ensures { λ r. ⌜ r ≡ numbered 0x2F true (map numberOfValue (otherModesValues g)) ⌝ }
 {
     let values = [
         g.atomic_prim as u64,
@@ -260,7 +260,7 @@ fn other_modes(number: u8, g: OtherModes) -> Numbers
         g.pixel.dither_alpha_en as u64,
         g.pixel.alpha_compare_en as u64,
     ];
-    padded(number, &values)
+    padded(0x2F, &values)
 }
 
 fn tile_area(number: u8, g: TileArea) -> Numbers
@@ -276,8 +276,8 @@ fn tile_area(number: u8, g: TileArea) -> Numbers
     padded(number, &values)
 }
 
-fn block(number: u8, g: Block) -> Numbers
-    ensures { λ r. ⌜ r ≡ numbered number true (map numberOfValue (blockValues g)) ⌝ }
+fn block(g: Block) -> Numbers
+    ensures { λ r. ⌜ r ≡ numbered 0x33 true (map numberOfValue (blockValues g)) ⌝ }
 {
     let values = [
         g.upper_left.s as u64,
@@ -286,11 +286,11 @@ fn block(number: u8, g: Block) -> Numbers
         g.lower_right_s as u64,
         g.dxt as u64,
     ];
-    padded(number, &values)
+    padded(0x33, &values)
 }
 
-fn tile_descriptor(number: u8, g: TileDescriptor) -> Numbers
-    ensures { λ r. ⌜ r ≡ numbered number true (map numberOfValue (tileDescriptorValues g)) ⌝ }
+fn tile_descriptor(g: TileDescriptor) -> Numbers
+    ensures { λ r. ⌜ r ≡ numbered 0x35 true (map numberOfValue (tileDescriptorValues g)) ⌝ }
 {
     let values = [
         g.format as u64,
@@ -308,11 +308,11 @@ fn tile_descriptor(number: u8, g: TileDescriptor) -> Numbers
         g.mask_s as u64,
         g.shift_s as u64,
     ];
-    padded(number, &values)
+    padded(0x35, &values)
 }
 
-fn rectangle(number: u8, g: Rectangle) -> Numbers
-    ensures { λ r. ⌜ r ≡ numbered number true (map numberOfValue (rectangleValues g)) ⌝ }
+fn rectangle(g: Rectangle) -> Numbers
+    ensures { λ r. ⌜ r ≡ numbered 0x36 true (map numberOfValue (rectangleValues g)) ⌝ }
 {
     let values = [
         g.lower_right.x as u64,
@@ -320,7 +320,7 @@ fn rectangle(number: u8, g: Rectangle) -> Numbers
         g.upper_left.x as u64,
         g.upper_left.y as u64,
     ];
-    padded(number, &values)
+    padded(0x36, &values)
 }
 
 fn color(number: u8, g: Color) -> Numbers
@@ -330,8 +330,8 @@ fn color(number: u8, g: Color) -> Numbers
     padded(number, &values)
 }
 
-fn primitive_color(number: u8, g: PrimitiveColor) -> Numbers
-    ensures { λ r. ⌜ r ≡ numbered number true (map numberOfValue (primitiveColorValues g)) ⌝ }
+fn primitive_color(g: PrimitiveColor) -> Numbers
+    ensures { λ r. ⌜ r ≡ numbered 0x3A true (map numberOfValue (primitiveColorValues g)) ⌝ }
 {
     let values = [
         g.min_level as u64,
@@ -341,7 +341,7 @@ fn primitive_color(number: u8, g: PrimitiveColor) -> Numbers
         g.color.blue as u64,
         g.color.alpha as u64,
     ];
-    padded(number, &values)
+    padded(0x3A, &values)
 }
 
 fn image(number: u8, g: Image) -> Numbers
@@ -383,22 +383,22 @@ pub fn spread(command: Command) -> Numbers
         Command::SyncPipe => none(0x27, true),
         Command::SyncTile => none(0x28, true),
         Command::SyncFull => none(0x29, true),
-        Command::SetKeyGb(g) => key_gb(0x2A, g),
-        Command::SetKeyR(g) => key_r(0x2B, g),
-        Command::SetConvert(g) => convert(0x2C, g),
-        Command::SetScissor(g) => scissor(0x2D, g),
-        Command::SetPrimitiveDepth(g) => primitive_depth(0x2E, g),
-        Command::SetOtherModes(g) => other_modes(0x2F, g),
+        Command::SetKeyGb(g) => key_gb(g),
+        Command::SetKeyR(g) => key_r(g),
+        Command::SetConvert(g) => convert(g),
+        Command::SetScissor(g) => scissor(g),
+        Command::SetPrimitiveDepth(g) => primitive_depth(g),
+        Command::SetOtherModes(g) => other_modes(g),
         Command::LoadTlut(g) => tile_area(0x30, g),
         Command::SetTileSize(g) => tile_area(0x32, g),
-        Command::LoadBlock(g) => block(0x33, g),
+        Command::LoadBlock(g) => block(g),
         Command::LoadTile(g) => tile_area(0x34, g),
-        Command::SetTile(g) => tile_descriptor(0x35, g),
-        Command::FillRectangle(g) => rectangle(0x36, g),
+        Command::SetTile(g) => tile_descriptor(g),
+        Command::FillRectangle(g) => rectangle(g),
         Command::SetFillColor(n) => one(0x37, n as u64),
         Command::SetFogColor(g) => color(0x38, g),
         Command::SetBlendColor(g) => color(0x39, g),
-        Command::SetPrimitiveColor(g) => primitive_color(0x3A, g),
+        Command::SetPrimitiveColor(g) => primitive_color(g),
         Command::SetEnvironmentColor(g) => color(0x3B, g),
         Command::SetCombineMode(n) => one(0x3C, n),
         Command::SetTextureImage(g) => image(0x3D, g),
