@@ -1,34 +1,54 @@
 -- What decoding and encoding answer, by the tests that they make. Assumes nothing.
 use Prim.Native.Nat.{ℕ, _/_, _≤_, _<_}
-use mathlib.Core.Bool.{Bool, true, false, cond, _&&_, false≢true}
+use mathlib.Core.Bool.{Bool, true, false, cond, not, _&&_, false≢true}
 use mathlib.Core.List.{List}
-use mathlib.Core.Path.{_≡_, refl, ap}
+use mathlib.Core.Path.{_≡_, refl, ap, _∙_}
 use lib.Dec.{eqb, ltb}
 use lib.ListN.{length}
-use borrow.Author.Tests.{eq-eqb, ne-eqb, lt-ltb, le-ltb, eqb-true}
+use borrow.Author.Tests.{ne-eqb, lt-ltb, le-ltb, eqb-true}
+use Rattle.rdp_command.specs.Words.{wordAt}
 use Rattle.rdp_command.specs.Kinds.{wordsOf}
 use Rattle.rdp_command.specs.Layout.{layout}
 use Rattle.rdp_command.specs.Fields.{allFit}
 use Rattle.rdp_command.specs.Commands.{commandOf}
-use Rattle.rdp_command.specs.Decode.{firstNumber, wholeWords, ownWords, commandIn, decodeOf}
+use Rattle.rdp_command.specs.Decode.{firstNumber, wholeWords, ownWord, ownWords, commandIn, decodeOf}
 use Rattle.rdp_command.specs.Encode.{answerWith, outWith}
 use Rattle.rdp_command.specs.Numbers.{valuesFrom, numbersFit, flagsAgree, fromNumbers}
+use Rattle.rdp_command.specs.Steps.{decodedFrom}
 use Rattle.rdp_command.specs.declared.command.Answer.{Answer}
 use Rattle.rdp_command.specs.declared.command.Command.{Command}
+use Rattle.rdp_command.specs.declared.command.Decoded.{Decoded}
 use Rattle.rdp_command.specs.declared.command.Decoded.the-variants.{Whole, Refused}
+use Rattle.rdp_command.specs.declared.decoding.Base.{Base}
 
 abbrev pub answer : ℕ → ℕ → Answer
 answer number place = record { number = number; place = place }
 
 -- ---- decoding
 
-pub refused : (bs : List ℕ) → wholeWords bs ≡ 0 → Refused (answer 3 0) ≡ decodeOf bs
-unfolding decodeOf
-refused bs e = rw (eq-eqb _ _ e)
-
 pub whole : (bs : List ℕ) {r : Command} → (wholeWords bs ≡ 0 → ⊥) → r ≡ commandIn (firstNumber bs) (ownWords bs (wholeWords bs)) → Whole r ≡ decodeOf bs
 unfolding decodeOf
 whole bs h e = rw (ne-eqb _ _ h) (ap Whole e)
+
+cond-not : (b : Bool) (x y : Decoded) → cond (not b) x y ≡ cond b y x
+cond-not true x y = refl
+cond-not false x y = refl
+
+abbrev firstBase : List ℕ → Base
+firstBase bs =
+    record {
+      ok = not (eqb (wholeWords bs) 0);
+      number = firstNumber bs;
+      w0 = wordAt bs 0;
+      w1 = ownWord bs (wholeWords bs) 1;
+      w2 = ownWord bs (wholeWords bs) 2;
+      w3 = ownWord bs (wholeWords bs) 3;
+    }
+
+-- the base of the first command gives what decoding answers
+pub first-gives : (bs : List ℕ) {b : Base} → b ≡ firstBase bs → decodedFrom 3 b ≡ decodeOf bs
+unfolding decodedFrom decodeOf
+first-gives bs e = ap (decodedFrom 3) e ∙ cond-not (eqb (wholeWords bs) 0) _ _
 
 cond-zero : (b : Bool) {x : ℕ} → (cond b 0 x ≡ 0 → ⊥) → cond b 0 x ≡ x
 cond-zero true p = absurd (p refl)

@@ -1,5 +1,5 @@
 -- A command by its number. Assumes nothing.
-use Prim.Native.Nat.{ℕ, _+_, _/_, _≤_, _<_}
+use Prim.Native.Nat.{ℕ, _/_, _<_}
 use mathlib.Core.List.{List}
 use mathlib.Core.Path.{_≡_, ap, sym, _∙_}
 use native.Mathlib.Omega.{arith}
@@ -24,14 +24,6 @@ triangle-command n vs e = rw (eq-eqb _ _ e)
 pub at-triangle : (n : ℕ) (ws : List ℕ) → n / 8 ≡ 1 → FillTriangle (triangleBaseOf (fieldsOf triangleBaseLines ws)) ≡ commandIn n ws
 at-triangle n ws e =
     sym (triangle-command n (fieldsOf triangleBaseLines ws) e) ∙ ap (λ (ls : List Line). commandOf n (fieldsOf ls ws)) (sym (layout-at n e))
-
--- one number less
-pub under : (k : ℕ) {n : ℕ} → n < k + 1 → (n ≡ k → ⊥) → n < k
-under k h f = omega arith
-
--- the one number from 0x30 on without a name
-pub last-none : {n : ℕ} → 0x30 ≤ n → n < 0x32 → (n ≡ 0x30 → ⊥) → n ≡ 0x31
-last-none h r f = omega arith
 
 -- a number below those with names of their own
 pub low-command : (n : ℕ) (vs : List Value) → n < 0x24 → (n / 8 ≡ 1 → ⊥) → commandOf n vs ≡ NoOperation n

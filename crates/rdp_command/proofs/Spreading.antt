@@ -15,7 +15,7 @@ use Rattle.rdp_command.specs.Fields.{Value, allFit}
 use Rattle.rdp_command.specs.Commands.{numberOf}
 use Rattle.rdp_command.specs.Decode.{suffixWords}
 use Rattle.rdp_command.specs.Numbers.{numbersFit}
-use Rattle.rdp_command.specs.Steps.{Spread}
+use Rattle.rdp_command.specs.Steps.{Spread, Usable}
 use Rattle.rdp_command.specs.declared.values.Numbers.{Numbers}
 use Rattle.rdp_command.specs.declared.command.Command.{Command}
 use Rattle.rdp_command.proofs.Bytes.{length-overwrite}
@@ -47,6 +47,16 @@ module _ (c : Command) (r : Numbers) (s : Spread c r) where
 
   pub known-is : r .known ≡ numberFits c
   known-is = ap (λ (x : Numbers). x .known) (s .numbers)
+
+  pub usable : Usable r
+  usable = record { few = few; fits = rw values-long few; small = λ e. rw number-is (s .small (sym known-is ∙ e)) }
+
+  -- the tests of refusal 15, made with the numbers at the front
+  pub by-front :
+      (suffix : List ℕ) →
+      numbersFit (r .number) (take (r .count) (r .values)) && eqb (length suffix) (8 * suffixWords (wordsOf (r .number))) ≡
+      numbersFit (numberOf c) (numbersOf c) && eqb (length suffix) (8 * suffixWords (wordsOf (numberOf c)))
+  by-front suffix = λ i. numbersFit (number-is i) (front i) && eqb (length suffix) (8 * suffixWords (wordsOf (number-is i)))
 
   -- refusal 15 by the numbers
   pub encodable-by :

@@ -10,13 +10,15 @@ ghost use Rattle.rdp_command.specs.Kinds.{wordsOf};
 ghost use Rattle.rdp_command.specs.Layout.{layout};
 ghost use Rattle.rdp_command.specs.Table.{Agrees};
 ghost use Rattle.rdp_command.specs.Decode.{suffixWords};
-ghost use Rattle.rdp_command.specs.Encode.{fixedBits, packedWord, packedBytes, baseWords, bytesWith, verdictOf, answerWith, outWith};
-ghost use Rattle.rdp_command.specs.Numbers.{numbersFit, flagsAgree};
-ghost use Rattle.rdp_command.specs.Steps.{PackedIs};
+ghost use Rattle.rdp_command.specs.Encode.{fixedBits, packedWord, packedBytes, baseWords, bytesWith, verdictOf, answerWith, outWith, encodeAnswer, encodeOut};
+ghost use Rattle.rdp_command.specs.Numbers.{numbersFit, flagsAgree, fromNumbers};
+ghost use Rattle.rdp_command.specs.Steps.{Spread, Usable, decodedFrom};
+ghost use Rattle.rdp_command.specs.declared.command.Command.{Command};
 use crate::command::*;
-use crate::decoding;
+use crate::decoding::Base;
 use crate::packing;
 use crate::table;
+use crate::values::Numbers;
 use crate::words;
 use crate::words_of;
 
@@ -50,10 +52,8 @@ fn numbers_fit(table: &[u32; 203], number: u8, numbers: &[u64]) -> bool
     ensures { λ r. ⌜ r ≡ numbersFit number (now (numbers .entry)) ⌝ }
 {
     let lines = lines_of(table, number);
-    let first = lines.first;
-    let count = lines.count;
-    if numbers.len() == count {
-        return packing::all_fit(table, first, numbers);
+    if numbers.len() == lines.count {
+        return packing::all_fit(table, lines.first, numbers);
     }
     false
 }
@@ -71,8 +71,7 @@ fn packed_word(table: &[u32; 203], number: u8, numbers: &[u64], k: usize) -> u64
     ensures { λ r. ⌜ r ≡ packedWord number (now (numbers .entry)) k ⌝ }
 {
     let lines = lines_of(table, number);
-    let first = lines.first;
-    let rest = packing::packed_word(table, first, k, numbers);
+    let rest = packing::packed_word(table, lines.first, k, numbers);
     if k == 0 {
         return (fixed_bits(number) as u64) * 0x100_0000_0000_0000 + rest;
     }
@@ -104,12 +103,9 @@ fn write_whole(
     requires { ⌜ Agrees (now table) × ((number < 64) × ((length (now numbers) ≡ length (layout number)) × ((n ≡ wordsOf number) × ((8 * n ≤ length (now out)) × (length (now suffix) ≡ 8 * suffixWords n))))) ⌝ }
     ensures { λ _. ⌜ now (out .exit) ≡ overwrite (bytesWith number (now (numbers .entry)) (now (suffix .entry))) (now (out .entry)) ⌝ }
 {
-    if n < 4 {
-        write_base(table, number, numbers, n, out);
-        return;
-    }
-    write_base(table, number, numbers, 4, out);
-    words::copy(out, 32, suffix);
+    let base = n - suffix.len() / 8;
+    write_base(table, number, numbers, base, out);
+    words::copy(out, 8 * base, suffix);
 }
 
 // The bytes due after a command's base.
@@ -139,7 +135,7 @@ fn verdict(encodable: bool, room: bool, n: usize) -> Answer
 }
 
 // Writes a command at the front of out, where it can be encoded and there is room.
-pub fn write_command(number: u8, numbers: &[u64], suffix: &[u8], out: &mut [u8]) -> Answer
+fn write_command(number: u8, numbers: &[u64], suffix: &[u8], out: &mut [u8]) -> Answer
     requires { ⌜ number < 64 ⌝ }
     ensures answer { λ r. ⌜ r ≡ answerWith (numbersFit number (now (numbers .entry)) && eqb (length (now (suffix .entry))) (8 * suffixWords (wordsOf number))) number (now (out .entry)) ⌝ }
     ensures output { λ _. ⌜ now (out .exit) ≡ outWith (numbersFit number (now (numbers .entry)) && eqb (length (now (suffix .entry))) (8 * suffixWords (wordsOf number))) number (bytesWith number (now (numbers .entry)) (now (suffix .entry))) (now (out .entry)) ⌝ }
@@ -157,6 +153,23 @@ pub fn write_command(number: u8, numbers: &[u64], suffix: &[u8], out: &mut [u8])
     answer
 }
 
+// Writes a command at the front of out, by its numbers.
+pub fn write_numbers(numbers: Numbers, suffix: &[u8], out: &mut [u8]) -> Answer
+    requires { ⌜ Usable numbers ⌝ }
+    ensures answer { λ r. ⌜ ((c : Command) → Spread c numbers → r ≡ encodeAnswer c (now (suffix .entry)) (now (out .entry))) ⌝ }
+    ensures output { λ _. ⌜ ((c : Command) → Spread c numbers → now (out .exit) ≡ encodeOut c (now (suffix .entry)) (now (out .entry))) ⌝ }
+{
+    if numbers.known {
+        let count = numbers.count;
+        let all = numbers.values;
+        return write_command(numbers.number, &all[..count], suffix, out);
+    }
+    Answer {
+        number: 15,
+        place: 0,
+    }
+}
+
 // Whether the flags of a triangle are those of its number.
 fn flags_agree(number: u8, numbers: &[u64]) -> bool
     requires { ⌜ length (now numbers) ≡ length (layout number) ⌝ }
@@ -169,34 +182,29 @@ fn flags_agree(number: u8, numbers: &[u64]) -> bool
     true
 }
 
-// The words of a command before its suffix, where ok; those that it does not have are 0.
-pub struct Packed {
-    pub ok: bool,
-    pub w0: u64,
-    pub w1: u64,
-    pub w2: u64,
-    pub w3: u64,
-}
-
-// The words of a number and the numbers of its fields, where these make a command.
-pub fn packed_words(number: u8, numbers: &[u64]) -> Packed
-    requires { ⌜ number < 64 ⌝ }
-    ensures { λ r. ⌜ PackedIs number (now (numbers .entry)) r ⌝ }
+// The base of a number and the numbers of its fields, where these make a command.
+pub fn packed_command(number: u32, numbers: &[u64]) -> Base
+    ensures { λ r. ⌜ decodedFrom 15 r ≡ fromNumbers number (now (numbers .entry)) ⌝ }
 {
-    let table = table::layout_table();
-    if numbers_fit(&table, number, numbers) {
-        if flags_agree(number, numbers) {
-            return Packed {
-                ok: true,
-                w0: packed_word(&table, number, numbers, 0),
-                w1: packed_word(&table, number, numbers, 1),
-                w2: packed_word(&table, number, numbers, 2),
-                w3: packed_word(&table, number, numbers, 3),
-            };
+    if number < 64 {
+        let n = number as u8;
+        let table = table::layout_table();
+        if numbers_fit(&table, n, numbers) {
+            if flags_agree(n, numbers) {
+                return Base {
+                    ok: true,
+                    number: n,
+                    w0: packed_word(&table, n, numbers, 0),
+                    w1: packed_word(&table, n, numbers, 1),
+                    w2: packed_word(&table, n, numbers, 2),
+                    w3: packed_word(&table, n, numbers, 3),
+                };
+            }
         }
     }
-    Packed {
+    Base {
         ok: false,
+        number: 0,
         w0: 0,
         w1: 0,
         w2: 0,

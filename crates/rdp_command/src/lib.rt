@@ -45,18 +45,7 @@ pub fn words_of(number: u8) -> usize
 pub fn decode(list: &[u8]) -> Decoded
     ensures { λ r. ⌜ r ≡ decodeOf (now (list .entry)) ⌝ }
 {
-    let n = words::whole_words(list);
-    if n == 0 {
-        return Decoded::Refused(Answer {
-            number: 3,
-            place: 0,
-        });
-    }
-    let w0 = words::word_at(list, 0);
-    let w1 = words::own_word(list, n, 1);
-    let w2 = words::own_word(list, n, 2);
-    let w3 = words::own_word(list, n, 3);
-    Decoded::Whole(decoding::command_in(words::number_in(w0), w0, w1, w2, w3))
+    decoding::decoded(decoding::first_command(list), 3)
 }
 
 // The bytes after the base of the first command, where that is a whole triangle; else none. They are the caller's own bytes, and no copy.
@@ -79,18 +68,7 @@ pub fn encode(command: Command, suffix: &[u8], out: &mut [u8]) -> Answer
     ensures answer { λ r. ⌜ r ≡ encodeAnswer command (now (suffix .entry)) (now (out .entry)) ⌝ }
     ensures output { λ _. ⌜ now (out .exit) ≡ encodeOut command (now (suffix .entry)) (now (out .entry)) ⌝ }
 {
-    let numbers = values::spread(command);
-    let known = numbers.known;
-    if known {
-        let number = numbers.number;
-        let count = numbers.count;
-        let all = numbers.values;
-        return encoding::write_command(number, &all[..count], suffix, out);
-    }
-    Answer {
-        number: 15,
-        place: 0,
-    }
+    encoding::write_numbers(values::spread(command), suffix, out)
 }
 
 // Writes the fields of a command as numbers to the front of out, in the order of the layout. Answers 0 and their count, or 14 at the count where out
@@ -99,42 +77,12 @@ pub fn fields(command: Command, out: &mut [u64]) -> Answer
     ensures answer { λ r. ⌜ r ≡ fieldsAnswer command (now (out .entry)) ⌝ }
     ensures output { λ _. ⌜ now (out .exit) ≡ fieldsOut command (now (out .entry)) ⌝ }
 {
-    let numbers = values::spread(command);
-    let count = numbers.count;
-    if out.len() < count {
-        return Answer {
-            number: 14,
-            place: count as u32,
-        };
-    }
-    let all = numbers.values;
-    values::copy_values(out, &all[..count]);
-    Answer {
-        number: 0,
-        place: count as u32,
-    }
+    values::write_values(values::spread(command), out)
 }
 
 // The command of a number and its fields as numbers, or 15 at 0.
 pub fn from_fields(number: u32, numbers: &[u64]) -> Decoded
     ensures { λ r. ⌜ r ≡ fromNumbers number (now (numbers .entry)) ⌝ }
 {
-    if number < 64 {
-        let n = number as u8;
-        let packed = encoding::packed_words(n, numbers);
-        let ok = packed.ok;
-        if ok {
-            return Decoded::Whole(decoding::command_in(
-                n,
-                packed.w0,
-                packed.w1,
-                packed.w2,
-                packed.w3,
-            ));
-        }
-    }
-    Decoded::Refused(Answer {
-        number: 15,
-        place: 0,
-    })
+    decoding::decoded(encoding::packed_command(number, numbers), 15)
 }

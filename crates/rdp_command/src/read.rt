@@ -2,9 +2,9 @@
 ghost use mathlib.Core.Path.{_≡_};
 ghost use mathlib.Core.List.{[], _∷_};
 ghost use Prim.Native.Nat.{_*_, _<_, _≤_};
-ghost use Rattle.rdp_command.specs.Layout.{edgeLines, triangleBaseLines, textureStepLines, texturedRectangleLines, keyGbLines, keyRLines, convertLines, scissorLines, primitiveDepthLines, textureModesLines, blenderInputsLines, pixelModesLines, otherModesLines, tileAreaLines, blockLines, tileDescriptorLines, rectangleLines, colorLines, primitiveColorLines, imageLines, colorImageLines, fillColorLines, combineModeLines, depthImageLines};
+ghost use Rattle.rdp_command.specs.Layout.{edgeLines, triangleBaseLines, textureStepLines, texturedRectangleLines, keyGbLines, keyRLines, convertLines, scissorLines, primitiveDepthLines, textureModesLines, blenderInputsLines, pixelModesLines, otherModesLines, tileAreaLines, blockLines, tileDescriptorLines, rectangleLines, colorLines, primitiveColorLines, imageLines, colorImageLines};
 ghost use Rattle.rdp_command.specs.Fields.{twosComplement, fieldsOf};
-ghost use Rattle.rdp_command.specs.Groups.{natAt, edgeOf, triangleBaseOf, textureStepOf, texturedRectangleOf, keyGbOf, keyROf, convertOf, scissorOf, primitiveDepthOf, textureModesOf, blenderInputsOf, pixelModesOf, otherModesOf, tileAreaOf, blockOf, tileDescriptorOf, rectangleOf, colorOf, primitiveColorOf, imageOf};
+ghost use Rattle.rdp_command.specs.Groups.{edgeOf, triangleBaseOf, textureStepOf, texturedRectangleOf, keyGbOf, keyROf, convertOf, scissorOf, primitiveDepthOf, textureModesOf, blenderInputsOf, pixelModesOf, otherModesOf, tileAreaOf, blockOf, tileDescriptorOf, rectangleOf, colorOf, primitiveColorOf, imageOf};
 ghost use Rattle.rdp_command.specs.Decode.{wordFields};
 use crate::command::*;
 use crate::words::number_in;
@@ -279,18 +279,6 @@ pub fn image(w: u64) -> Image
     }
 }
 
-pub fn combine_mode(w: u64) -> u64
-    ensures { λ r. ⌜ r ≡ natAt (fieldsOf combineModeLines (w ∷ [])) 0 ⌝ }
-{
-    w % 0x100000000000000
-}
-
-pub fn depth_image(w: u64) -> u32
-    ensures { λ r. ⌜ r ≡ natAt (fieldsOf depthImageLines (w ∷ [])) 0 ⌝ }
-{
-    (w % 0x1000000) as u32
-}
-
 pub fn scissor(w: u64) -> Scissor
     ensures { λ r. ⌜ r ≡ scissorOf (fieldsOf scissorLines (w ∷ [])) ⌝ }
 {
@@ -324,12 +312,6 @@ pub fn rectangle(w: u64) -> Rectangle
     }
 }
 
-pub fn fill_color(w: u64) -> u32
-    ensures { λ r. ⌜ r ≡ natAt (fieldsOf fillColorLines (w ∷ [])) 0 ⌝ }
-{
-    (w % 0x100000000) as u32
-}
-
 pub fn color_image(w: u64) -> Image
     ensures { λ r. ⌜ r ≡ imageOf (fieldsOf colorImageLines (w ∷ [])) ⌝ }
 {
@@ -341,13 +323,6 @@ pub fn color_image(w: u64) -> Image
     }
 }
 
-// The cycle type of a Set Other Modes alone.
-pub fn cycle_type(w: u64) -> u8
-    ensures { λ r. ⌜ r ≡ otherModesOf (fieldsOf otherModesLines (w ∷ [])) .«cycle_type» ⌝ }
-{
-    ((w >> 52) % 0x4) as u8
-}
-
 // What the check and the drawing read of a word.
 pub fn word_fields(w: u64) -> WordFields
     ensures { λ r. ⌜ r ≡ wordFields w ⌝ }
@@ -355,10 +330,10 @@ pub fn word_fields(w: u64) -> WordFields
     WordFields {
         word: w,
         number: number_in(w),
-        cycle_type: cycle_type(w),
+        cycle_type: ((w >> 52) % 0x4) as u8,
         scissor: scissor(w),
         rectangle: rectangle(w),
-        fill_color: fill_color(w),
+        fill_color: (w % 0x100000000) as u32,
         color_image: color_image(w),
     }
 }

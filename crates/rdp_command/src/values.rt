@@ -11,8 +11,9 @@ ghost use Rattle.rdp_command.specs.Kinds.{isNoOperation};
 ghost use Rattle.rdp_command.specs.Layout.{edgeLines, textureStepLines, texturedRectangleLines};
 ghost use Rattle.rdp_command.specs.Fields.{numberOfValue};
 ghost use Rattle.rdp_command.specs.declared.command.Command.the-variants.{FillTriangle};
-ghost use Rattle.rdp_command.specs.Numbers.{valuesFrom};
-ghost use Rattle.rdp_command.specs.Steps.{numbered, Spread};
+ghost use Rattle.rdp_command.specs.declared.command.Command.{Command};
+ghost use Rattle.rdp_command.specs.Numbers.{valuesFrom, fieldsAnswer, fieldsOut};
+ghost use Rattle.rdp_command.specs.Steps.{listed, numbered, Spread, Usable};
 ghost use Rattle.rdp_command.specs.Groups.{edgeValues, triangleBaseValues, textureStepValues, texturedRectangleValues, keyGbValues, keyRValues, convertValues, scissorValues, primitiveDepthValues, otherModesValues, tileAreaValues, blockValues, tileDescriptorValues, rectangleValues, colorValues, primitiveColorValues, imageValues};
 use crate::command::*;
 
@@ -37,7 +38,7 @@ fn twos(value: i16) -> u64
 }
 
 // Copies numbers to the front of out.
-pub fn copy_values(out: &mut [u64], values: &[u64])
+fn copy_values(out: &mut [u64], values: &[u64])
     requires { ⌜ length (now values) ≤ length (now out) ⌝ }
     ensures { λ _. ⌜ now (out .exit) ≡ overwrite (now (values .entry)) (now (out .entry)) ⌝ }
 {
@@ -74,10 +75,23 @@ fn none(number: u8, known: bool) -> Numbers
     }
 }
 
-fn edge(g: Edge) -> [u64; 4]
-    ensures { λ r. ⌜ (r ≡ map numberOfValue (edgeValues g)) × (valuesFrom (edgeLines 0) (map numberOfValue (edgeValues g)) ≡ edgeValues g) ⌝ }
+// Four numbers of fields.
+pub struct Four {
+    pub first: u64,
+    pub second: u64,
+    pub third: u64,
+    pub fourth: u64,
+}
+
+fn edge(g: Edge) -> Four
+    ensures { λ r. ⌜ (listed r ≡ map numberOfValue (edgeValues g)) × (valuesFrom (edgeLines 0) (map numberOfValue (edgeValues g)) ≡ edgeValues g) ⌝ }
 {
-    [twos(g.x.i), g.x.f as u64, twos(g.dxdy.i), g.dxdy.f as u64]
+    Four {
+        first: twos(g.x.i),
+        second: g.x.f as u64,
+        third: twos(g.dxdy.i),
+        fourth: g.dxdy.f as u64,
+    }
 }
 
 // The number of a triangle: what follows its base is its low three bits.
@@ -103,26 +117,31 @@ fn triangle_base(g: TriangleBase) -> Numbers
         twos(g.yl),
         twos(g.ym),
         twos(g.yh),
-        l[0],
-        l[1],
-        l[2],
-        l[3],
-        h[0],
-        h[1],
-        h[2],
-        h[3],
-        m[0],
-        m[1],
-        m[2],
-        m[3],
+        l.first,
+        l.second,
+        l.third,
+        l.fourth,
+        h.first,
+        h.second,
+        h.third,
+        h.fourth,
+        m.first,
+        m.second,
+        m.third,
+        m.fourth,
     ];
     padded(triangle_number(g.shade, g.texture, g.zbuffer), &values)
 }
 
-fn texture_step(g: TextureStep) -> [u64; 4]
-    ensures { λ r. ⌜ (r ≡ map numberOfValue (textureStepValues g)) × (valuesFrom (textureStepLines 0) (map numberOfValue (textureStepValues g)) ≡ textureStepValues g) ⌝ }
+fn texture_step(g: TextureStep) -> Four
+    ensures { λ r. ⌜ (listed r ≡ map numberOfValue (textureStepValues g)) × (valuesFrom (textureStepLines 0) (map numberOfValue (textureStepValues g)) ≡ textureStepValues g) ⌝ }
 {
-    [twos(g.s), twos(g.t), twos(g.dsdx), twos(g.dtdy)]
+    Four {
+        first: twos(g.s),
+        second: twos(g.t),
+        third: twos(g.dsdx),
+        fourth: twos(g.dtdy),
+    }
 }
 
 fn textured_rectangle(number: u8, g: TexturedRectangle) -> Numbers
@@ -135,16 +154,16 @@ fn textured_rectangle(number: u8, g: TexturedRectangle) -> Numbers
         g.tile as u64,
         g.upper_left.x as u64,
         g.upper_left.y as u64,
-        step[0],
-        step[1],
-        step[2],
-        step[3],
+        step.first,
+        step.second,
+        step.third,
+        step.fourth,
     ];
     padded(number, &values)
 }
 
-fn key_gb(number: u8, g: KeyGb) -> Numbers
-    ensures { λ r. ⌜ r ≡ numbered number true (map numberOfValue (keyGbValues g)) ⌝ }
+fn key_gb(g: KeyGb) -> Numbers
+    ensures { λ r. ⌜ r ≡ numbered 0x2A true (map numberOfValue (keyGbValues g)) ⌝ }
 {
     let values = [
         g.width_g as u64,
@@ -154,18 +173,18 @@ fn key_gb(number: u8, g: KeyGb) -> Numbers
         g.center_b as u64,
         g.scale_b as u64,
     ];
-    padded(number, &values)
+    padded(0x2A, &values)
 }
 
-fn key_r(number: u8, g: KeyR) -> Numbers
-    ensures { λ r. ⌜ r ≡ numbered number true (map numberOfValue (keyRValues g)) ⌝ }
+fn key_r(g: KeyR) -> Numbers
+    ensures { λ r. ⌜ r ≡ numbered 0x2B true (map numberOfValue (keyRValues g)) ⌝ }
 {
     let values = [g.width_r as u64, g.center_r as u64, g.scale_r as u64];
-    padded(number, &values)
+    padded(0x2B, &values)
 }
 
-fn convert(number: u8, g: Convert) -> Numbers
-    ensures { λ r. ⌜ r ≡ numbered number true (map numberOfValue (convertValues g)) ⌝ }
+fn convert(g: Convert) -> Numbers
+    ensures { λ r. ⌜ r ≡ numbered 0x2C true (map numberOfValue (convertValues g)) ⌝ }
 {
     let values = [
         g.k0 as u64,
@@ -175,11 +194,11 @@ fn convert(number: u8, g: Convert) -> Numbers
         g.k4 as u64,
         g.k5 as u64,
     ];
-    padded(number, &values)
+    padded(0x2C, &values)
 }
 
-fn scissor(number: u8, g: Scissor) -> Numbers
-    ensures { λ r. ⌜ r ≡ numbered number true (map numberOfValue (scissorValues g)) ⌝ }
+fn scissor(g: Scissor) -> Numbers
+    ensures { λ r. ⌜ r ≡ numbered 0x2D true (map numberOfValue (scissorValues g)) ⌝ }
 {
     let values = [
         g.upper_left.x as u64,
@@ -189,18 +208,18 @@ fn scissor(number: u8, g: Scissor) -> Numbers
         g.lower_right.x as u64,
         g.lower_right.y as u64,
     ];
-    padded(number, &values)
+    padded(0x2D, &values)
 }
 
-fn primitive_depth(number: u8, g: PrimitiveDepth) -> Numbers
-    ensures { λ r. ⌜ r ≡ numbered number true (map numberOfValue (primitiveDepthValues g)) ⌝ }
+fn primitive_depth(g: PrimitiveDepth) -> Numbers
+    ensures { λ r. ⌜ r ≡ numbered 0x2E true (map numberOfValue (primitiveDepthValues g)) ⌝ }
 {
     let values = [g.z as u64, g.dz as u64];
-    padded(number, &values)
+    padded(0x2E, &values)
 }
 
-fn other_modes(number: u8, g: OtherModes) -> Numbers
-    ensures { λ r. ⌜ r ≡ numbered number true (map numberOfValue (otherModesValues g)) ⌝ }
+fn other_modes(g: OtherModes) -> Numbers
+    ensures { λ r. ⌜ r ≡ numbered 0x2F true (map numberOfValue (otherModesValues g)) ⌝ }
 {
     let values = [
         g.atomic_prim as u64,
@@ -241,7 +260,7 @@ fn other_modes(number: u8, g: OtherModes) -> Numbers
         g.pixel.dither_alpha_en as u64,
         g.pixel.alpha_compare_en as u64,
     ];
-    padded(number, &values)
+    padded(0x2F, &values)
 }
 
 fn tile_area(number: u8, g: TileArea) -> Numbers
@@ -257,8 +276,8 @@ fn tile_area(number: u8, g: TileArea) -> Numbers
     padded(number, &values)
 }
 
-fn block(number: u8, g: Block) -> Numbers
-    ensures { λ r. ⌜ r ≡ numbered number true (map numberOfValue (blockValues g)) ⌝ }
+fn block(g: Block) -> Numbers
+    ensures { λ r. ⌜ r ≡ numbered 0x33 true (map numberOfValue (blockValues g)) ⌝ }
 {
     let values = [
         g.upper_left.s as u64,
@@ -267,11 +286,11 @@ fn block(number: u8, g: Block) -> Numbers
         g.lower_right_s as u64,
         g.dxt as u64,
     ];
-    padded(number, &values)
+    padded(0x33, &values)
 }
 
-fn tile_descriptor(number: u8, g: TileDescriptor) -> Numbers
-    ensures { λ r. ⌜ r ≡ numbered number true (map numberOfValue (tileDescriptorValues g)) ⌝ }
+fn tile_descriptor(g: TileDescriptor) -> Numbers
+    ensures { λ r. ⌜ r ≡ numbered 0x35 true (map numberOfValue (tileDescriptorValues g)) ⌝ }
 {
     let values = [
         g.format as u64,
@@ -289,11 +308,11 @@ fn tile_descriptor(number: u8, g: TileDescriptor) -> Numbers
         g.mask_s as u64,
         g.shift_s as u64,
     ];
-    padded(number, &values)
+    padded(0x35, &values)
 }
 
-fn rectangle(number: u8, g: Rectangle) -> Numbers
-    ensures { λ r. ⌜ r ≡ numbered number true (map numberOfValue (rectangleValues g)) ⌝ }
+fn rectangle(g: Rectangle) -> Numbers
+    ensures { λ r. ⌜ r ≡ numbered 0x36 true (map numberOfValue (rectangleValues g)) ⌝ }
 {
     let values = [
         g.lower_right.x as u64,
@@ -301,7 +320,7 @@ fn rectangle(number: u8, g: Rectangle) -> Numbers
         g.upper_left.x as u64,
         g.upper_left.y as u64,
     ];
-    padded(number, &values)
+    padded(0x36, &values)
 }
 
 fn color(number: u8, g: Color) -> Numbers
@@ -311,8 +330,8 @@ fn color(number: u8, g: Color) -> Numbers
     padded(number, &values)
 }
 
-fn primitive_color(number: u8, g: PrimitiveColor) -> Numbers
-    ensures { λ r. ⌜ r ≡ numbered number true (map numberOfValue (primitiveColorValues g)) ⌝ }
+fn primitive_color(g: PrimitiveColor) -> Numbers
+    ensures { λ r. ⌜ r ≡ numbered 0x3A true (map numberOfValue (primitiveColorValues g)) ⌝ }
 {
     let values = [
         g.min_level as u64,
@@ -322,7 +341,7 @@ fn primitive_color(number: u8, g: PrimitiveColor) -> Numbers
         g.color.blue as u64,
         g.color.alpha as u64,
     ];
-    padded(number, &values)
+    padded(0x3A, &values)
 }
 
 fn image(number: u8, g: Image) -> Numbers
@@ -364,26 +383,47 @@ pub fn spread(command: Command) -> Numbers
         Command::SyncPipe => none(0x27, true),
         Command::SyncTile => none(0x28, true),
         Command::SyncFull => none(0x29, true),
-        Command::SetKeyGb(g) => key_gb(0x2A, g),
-        Command::SetKeyR(g) => key_r(0x2B, g),
-        Command::SetConvert(g) => convert(0x2C, g),
-        Command::SetScissor(g) => scissor(0x2D, g),
-        Command::SetPrimitiveDepth(g) => primitive_depth(0x2E, g),
-        Command::SetOtherModes(g) => other_modes(0x2F, g),
+        Command::SetKeyGb(g) => key_gb(g),
+        Command::SetKeyR(g) => key_r(g),
+        Command::SetConvert(g) => convert(g),
+        Command::SetScissor(g) => scissor(g),
+        Command::SetPrimitiveDepth(g) => primitive_depth(g),
+        Command::SetOtherModes(g) => other_modes(g),
         Command::LoadTlut(g) => tile_area(0x30, g),
         Command::SetTileSize(g) => tile_area(0x32, g),
-        Command::LoadBlock(g) => block(0x33, g),
+        Command::LoadBlock(g) => block(g),
         Command::LoadTile(g) => tile_area(0x34, g),
-        Command::SetTile(g) => tile_descriptor(0x35, g),
-        Command::FillRectangle(g) => rectangle(0x36, g),
+        Command::SetTile(g) => tile_descriptor(g),
+        Command::FillRectangle(g) => rectangle(g),
         Command::SetFillColor(n) => one(0x37, n as u64),
         Command::SetFogColor(g) => color(0x38, g),
         Command::SetBlendColor(g) => color(0x39, g),
-        Command::SetPrimitiveColor(g) => primitive_color(0x3A, g),
+        Command::SetPrimitiveColor(g) => primitive_color(g),
         Command::SetEnvironmentColor(g) => color(0x3B, g),
         Command::SetCombineMode(n) => one(0x3C, n),
         Command::SetTextureImage(g) => image(0x3D, g),
         Command::SetDepthImage(n) => one(0x3E, n as u64),
         Command::SetColorImage(g) => image(0x3F, g),
+    }
+}
+
+// Writes the numbers of a command's fields to the front of out.
+pub fn write_values(numbers: Numbers, out: &mut [u64]) -> Answer
+    requires { ⌜ Usable numbers ⌝ }
+    ensures answer { λ r. ⌜ ((c : Command) → Spread c numbers → r ≡ fieldsAnswer c (now (out .entry))) ⌝ }
+    ensures output { λ _. ⌜ ((c : Command) → Spread c numbers → now (out .exit) ≡ fieldsOut c (now (out .entry))) ⌝ }
+{
+    let count = numbers.count;
+    if out.len() < count {
+        return Answer {
+            number: 14,
+            place: count as u32,
+        };
+    }
+    let all = numbers.values;
+    copy_values(out, &all[..count]);
+    Answer {
+        number: 0,
+        place: count as u32,
     }
 }

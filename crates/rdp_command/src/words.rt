@@ -6,21 +6,15 @@ ghost use Rattle.rdp_command.specs.Words.{halfOf, wordAt, numberIn, byte
 ghost use Rattle.rdp_command.specs.Decode.{wholeWords, ownWord};
 use crate::words_of;
 
-fn wide(x: u8) -> u64
-    ensures { λ r. ⌜ (r ≡ x) × (r < 256) ⌝ }
-{
-    x as u64
-}
-
 // The four bytes from an index on as a number.
 fn half_at(list: &[u8], at: usize) -> u64
     requires { ⌜ at + 4 ≤ length (now list) ⌝ }
     ensures { λ r. ⌜ (r ≡ halfOf (drop at (now (list .entry)))) × (r < 2 ^ 32) ⌝ }
 {
-    wide(list[at]) * 0x100_0000
-        + wide(list[at + 1]) * 0x1_0000
-        + wide(list[at + 2]) * 0x100
-        + wide(list[at + 3])
+    (list[at] as u64) * 0x100_0000
+        + (list[at + 1] as u64) * 0x1_0000
+        + (list[at + 2] as u64) * 0x100
+        + (list[at + 3] as u64)
 }
 
 // The word at a place of a list; 0 where the list has no whole word there.
@@ -57,21 +51,6 @@ pub fn own_word(list: &[u8], n: usize, k: usize) -> u64
     if k < n { word_at(list, k) } else { 0 }
 }
 
-// Writes a word at the front, most significant byte first.
-fn put_front(out: &mut [u8], w: u64)
-    requires { ⌜ 8 ≤ length (now out) ⌝ }
-    ensures { λ _. ⌜ now (out .exit) ≡ overwrite (bytesOf w) (now (out .entry)) ⌝ }
-{
-    out[0] = ((w >> 56) % 0x100) as u8;
-    out[1] = ((w >> 48) % 0x100) as u8;
-    out[2] = ((w >> 40) % 0x100) as u8;
-    out[3] = ((w >> 32) % 0x100) as u8;
-    out[4] = ((w >> 24) % 0x100) as u8;
-    out[5] = ((w >> 16) % 0x100) as u8;
-    out[6] = ((w >> 8) % 0x100) as u8;
-    out[7] = (w % 0x100) as u8;
-}
-
 // Copies src to the front of out.
 fn copy_front(out: &mut [u8], src: &[u8])
     requires { ⌜ length (now src) ≤ length (now out) ⌝ }
@@ -84,18 +63,28 @@ fn copy_front(out: &mut [u8], src: &[u8])
     }
 }
 
-// Writes a word at an index.
-pub fn put_word(out: &mut [u8], at: usize, w: u64)
-    requires { ⌜ at + 8 ≤ length (now out) ⌝ }
-    ensures { λ _. ⌜ now (out .exit) ≡ pasted at (bytesOf w) (now (out .entry)) ⌝ }
-{
-    put_front(&mut out[at..], w);
-}
-
 // Copies src to an index of out.
 pub fn copy(out: &mut [u8], at: usize, src: &[u8])
     requires { ⌜ at + length (now src) ≤ length (now out) ⌝ }
     ensures { λ _. ⌜ now (out .exit) ≡ pasted at (now (src .entry)) (now (out .entry)) ⌝ }
 {
     copy_front(&mut out[at..], src);
+}
+
+// Writes a word at an index, most significant byte first.
+pub fn put_word(out: &mut [u8], at: usize, w: u64)
+    requires { ⌜ at + 8 ≤ length (now out) ⌝ }
+    ensures { λ _. ⌜ now (out .exit) ≡ pasted at (bytesOf w) (now (out .entry)) ⌝ }
+{
+    let bytes = [
+        ((w >> 56) % 0x100) as u8,
+        ((w >> 48) % 0x100) as u8,
+        ((w >> 40) % 0x100) as u8,
+        ((w >> 32) % 0x100) as u8,
+        ((w >> 24) % 0x100) as u8,
+        ((w >> 16) % 0x100) as u8,
+        ((w >> 8) % 0x100) as u8,
+        (w % 0x100) as u8,
+    ];
+    copy(out, at, &bytes);
 }

@@ -16,26 +16,26 @@ lines-of-requires c κs = search needs
 
 all-fit-requires : tie.Need-all-fit-requires
 all-fit-requires c κs =
-    let table = now (c .before .before .before .args .table) in
-    let agrees = c .before .before .before .pre .0 in
-    let n = c .before .before .before .args .number in
-    let small = c .before .before .before .pre .1 in
-    let f = c .before .lines-of .ensures .0 in
-    let g = c .before .lines-of .ensures .1 in
-    let e = c .if1 .taken ∙ row table agrees n small f g .counted in
-    let k = length (now (c .before .before .before .args .numbers)) in
-    (agrees .long, (row-room table agrees n small f g k e, row-readable table agrees n small f g k e))
-
-returns : tie.Need-returns
-unfolding numbersFit
-returns c =
     let table = now (c .before .before .before .before .args .table) in
     let agrees = c .before .before .before .before .pre .0 in
     let n = c .before .before .before .before .args .number in
     let small = c .before .before .before .before .pre .1 in
     let f = c .before .before .lines-of .ensures .0 in
     let g = c .before .before .lines-of .ensures .1 in
-    let numbers = now (c .before .before .before .before .args .numbers) in
+    let e = c .if1 .taken ∙ row table agrees n small f g .counted in
+    let k = length (now (c .before .before .before .before .args .numbers)) in
+    (agrees .long, (row-room table agrees n small f g k e, row-readable table agrees n small f g k e))
+
+returns : tie.Need-returns
+unfolding numbersFit
+returns c =
+    let table = now (c .before .before .before .before .before .args .table) in
+    let agrees = c .before .before .before .before .before .pre .0 in
+    let n = c .before .before .before .before .before .args .number in
+    let small = c .before .before .before .before .before .pre .1 in
+    let f = c .before .before .before .lines-of .ensures .0 in
+    let g = c .before .before .before .lines-of .ensures .1 in
+    let numbers = now (c .before .before .before .before .before .args .numbers) in
     let e = c .before .if1 .taken ∙ row table agrees n small f g .counted in
     rw (eq-eqb _ _ e)
     (c .all-fit .ensures ∙ ap (λ (ls : List Line). allFit ls (valuesFrom ls numbers)) (row-lines table agrees n small f g (length numbers) e))
@@ -43,7 +43,7 @@ returns c =
 returns-2 : tie.Need-returns-2
 unfolding numbersFit
 returns-2 c =
-    let r = row (now (c .before .before .before .args .table)) (c .before .before .before .pre .0) (c .before .before .before .args .number) (c .before .before .before .pre .1) (c .before .lines-of .ensures .0) (c .before .lines-of .ensures .1) in
+    let r = row (now (c .before .before .before .before .args .table)) (c .before .before .before .before .pre .0) (c .before .before .before .before .args .number) (c .before .before .before .before .pre .1) (c .before .before .lines-of .ensures .0) (c .before .before .lines-of .ensures .1) in
     rw (ne-eqb _ _ (λ e. c .if1 .left (e ∙ sym (r .counted))))
 
 pub numbers-fit-spec : {M : Type 1} → statement M

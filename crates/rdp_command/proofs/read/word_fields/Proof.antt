@@ -1,3 +1,4 @@
+use Rattle.rdp_command.specs.Decode.{wordFields}
 use borrow.Author.Needs.{needs}
 use Rattle.rdp_command.proofs.read.word_fields.Statement.{statement}
 use Rattle.rdp_command.proofs.read.word_fields.Tie as tie
@@ -5,8 +6,8 @@ use Rattle.rdp_command.proofs.read.word_fields.Tie as tie
 number-in-requires : tie.Need-number-in-requires
 number-in-requires c κs = search needs
 
-cycle-type-requires : tie.Need-cycle-type-requires
-cycle-type-requires c κs = search needs
+cast-t5 : tie.Need-cast-t5
+cast-t5 c = search needs
 
 scissor-requires : tie.Need-scissor-requires
 scissor-requires c κs = search needs
@@ -14,8 +15,8 @@ scissor-requires c κs = search needs
 rectangle-requires : tie.Need-rectangle-requires
 rectangle-requires c κs = search needs
 
-fill-color-requires : tie.Need-fill-color-requires
-fill-color-requires c κs = search needs
+cast-t9 : tie.Need-cast-t9
+cast-t9 c = search needs
 
 color-image-requires : tie.Need-color-image-requires
 color-image-requires c κs = search needs
@@ -23,12 +24,12 @@ color-image-requires c κs = search needs
 returns : tie.Need-returns
 returns c =
     λ i. record {
-      word = c .before .before .before .before .before .before .args .w;
-      number = c .before .before .before .before .before .number-in .ensures i;
-      «cycle_type» = c .before .before .before .before .cycle-type .ensures i;
-      scissor = c .before .before .before .scissor .ensures i;
-      rectangle = c .before .before .rectangle .ensures i;
-      «fill_color» = c .before .fill-color .ensures i;
+      word = c .before .before .before .before .args .w;
+      number = c .before .before .before .number-in .ensures i;
+      «cycle_type» = wordFields (c .before .before .before .before .args .w) .«cycle_type»;
+      scissor = c .before .before .scissor .ensures i;
+      rectangle = c .before .rectangle .ensures i;
+      «fill_color» = wordFields (c .before .before .before .before .args .w) .«fill_color»;
       «color_image» = c .color-image .ensures i;
     }
 
@@ -37,9 +38,9 @@ word-fields-spec =
     tie.close
     (tie.spec
     number-in-requires
-    cycle-type-requires
+    cast-t5
     scissor-requires
     rectangle-requires
-    fill-color-requires
+    cast-t9
     color-image-requires
     returns)

@@ -3,6 +3,9 @@ use borrow.Author.Needs.{needs}
 use Rattle.rdp_command.proofs.values.other_modes.Statement.{statement}
 use Rattle.rdp_command.proofs.values.other_modes.Tie as tie
 
+cast-t3 : tie.Need-cast-t3
+cast-t3 c = search needs
+
 cast-t4 : tie.Need-cast-t4
 cast-t4 c = search needs
 
@@ -52,28 +55,28 @@ cast-t19 : tie.Need-cast-t19
 cast-t19 c = search needs
 
 cast-t20 : tie.Need-cast-t20
-cast-t20 c = search needs
+cast-t20 c = omega (arith, c .struct-known18 .given)
 
 cast-t21 : tie.Need-cast-t21
-cast-t21 c = omega (arith, c .struct-known18 .given)
+cast-t21 c = omega (arith, c .struct-known19 .given)
 
 cast-t22 : tie.Need-cast-t22
-cast-t22 c = omega (arith, c .struct-known19 .given)
+cast-t22 c = omega (arith, c .struct-known20 .given)
 
 cast-t23 : tie.Need-cast-t23
-cast-t23 c = omega (arith, c .struct-known20 .given)
+cast-t23 c = omega (arith, c .struct-known21 .given)
 
 cast-t24 : tie.Need-cast-t24
-cast-t24 c = omega (arith, c .struct-known21 .given)
+cast-t24 c = omega (arith, c .struct-known22 .given)
 
 cast-t25 : tie.Need-cast-t25
-cast-t25 c = omega (arith, c .struct-known22 .given)
+cast-t25 c = omega (arith, c .struct-known23 .given)
 
 cast-t26 : tie.Need-cast-t26
-cast-t26 c = omega (arith, c .struct-known23 .given)
+cast-t26 c = omega (arith, c .struct-known24 .given)
 
 cast-t27 : tie.Need-cast-t27
-cast-t27 c = omega (arith, c .struct-known24 .given)
+cast-t27 c = search needs
 
 cast-t28 : tie.Need-cast-t28
 cast-t28 c = search needs
@@ -82,13 +85,13 @@ cast-t29 : tie.Need-cast-t29
 cast-t29 c = search needs
 
 cast-t30 : tie.Need-cast-t30
-cast-t30 c = search needs
+cast-t30 c = omega (arith, c .struct-known28 .given)
 
 cast-t31 : tie.Need-cast-t31
-cast-t31 c = omega (arith, c .struct-known28 .given)
+cast-t31 c = omega (arith, c .struct-known29 .given)
 
 cast-t32 : tie.Need-cast-t32
-cast-t32 c = omega (arith, c .struct-known29 .given)
+cast-t32 c = search needs
 
 cast-t33 : tie.Need-cast-t33
 cast-t33 c = search needs
@@ -111,9 +114,6 @@ cast-t38 c = search needs
 cast-t39 : tie.Need-cast-t39
 cast-t39 c = search needs
 
-cast-t40 : tie.Need-cast-t40
-cast-t40 c = search needs
-
 slice-aggregate-padded : tie.Need-slice-aggregate-padded
 slice-aggregate-padded c = search needs
 
@@ -121,12 +121,13 @@ padded-requires : tie.Need-padded-requires
 padded-requires c κs = search needs
 
 returns : tie.Need-returns
-returns c = search needs
+returns c = c .padded .ensures
 
 pub other-modes-spec : {M : Type 1} → statement M
 other-modes-spec =
     tie.close
     (tie.spec
+    cast-t3
     cast-t4
     cast-t5
     cast-t6
@@ -163,7 +164,6 @@ other-modes-spec =
     cast-t37
     cast-t38
     cast-t39
-    cast-t40
     slice-aggregate-padded
     padded-requires
     returns)

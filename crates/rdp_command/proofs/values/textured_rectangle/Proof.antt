@@ -13,6 +13,9 @@ use Rattle.rdp_command.proofs.values.textured_rectangle.Tie as tie
 texture-step-requires : tie.Need-texture-step-requires
 texture-step-requires c κs = search needs
 
+cast-t5 : tie.Need-cast-t5
+cast-t5 c = search needs
+
 cast-t6 : tie.Need-cast-t6
 cast-t6 c = search needs
 
@@ -24,21 +27,6 @@ cast-t8 c = search needs
 
 cast-t9 : tie.Need-cast-t9
 cast-t9 c = search needs
-
-cast-t10 : tie.Need-cast-t10
-cast-t10 c = search needs
-
-array-read-t13 : tie.Need-array-read-t13
-array-read-t13 c = search needs
-
-array-read-t16 : tie.Need-array-read-t16
-array-read-t16 c = search needs
-
-array-read-t19 : tie.Need-array-read-t19
-array-read-t19 c = search needs
-
-array-read-t22 : tie.Need-array-read-t22
-array-read-t22 c = search needs
 
 slice-aggregate-padded : tie.Need-slice-aggregate-padded
 slice-aggregate-padded c = search needs
@@ -67,15 +55,11 @@ textured-rectangle-spec =
     tie.close
     (tie.spec
     texture-step-requires
+    cast-t5
     cast-t6
     cast-t7
     cast-t8
     cast-t9
-    cast-t10
-    array-read-t13
-    array-read-t16
-    array-read-t19
-    array-read-t22
     slice-aggregate-padded
     padded-requires
     returns)

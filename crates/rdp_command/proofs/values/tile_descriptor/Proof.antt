@@ -3,6 +3,9 @@ use borrow.Author.Needs.{needs}
 use Rattle.rdp_command.proofs.values.tile_descriptor.Statement.{statement}
 use Rattle.rdp_command.proofs.values.tile_descriptor.Tie as tie
 
+cast-t3 : tie.Need-cast-t3
+cast-t3 c = search needs
+
 cast-t4 : tie.Need-cast-t4
 cast-t4 c = search needs
 
@@ -28,22 +31,19 @@ cast-t11 : tie.Need-cast-t11
 cast-t11 c = search needs
 
 cast-t12 : tie.Need-cast-t12
-cast-t12 c = search needs
+cast-t12 c = omega (arith, c .struct-known10 .given)
 
 cast-t13 : tie.Need-cast-t13
-cast-t13 c = omega (arith, c .struct-known10 .given)
+cast-t13 c = search needs
 
 cast-t14 : tie.Need-cast-t14
 cast-t14 c = search needs
 
 cast-t15 : tie.Need-cast-t15
-cast-t15 c = search needs
+cast-t15 c = omega (arith, c .struct-known13 .given)
 
 cast-t16 : tie.Need-cast-t16
-cast-t16 c = omega (arith, c .struct-known13 .given)
-
-cast-t17 : tie.Need-cast-t17
-cast-t17 c = omega (arith, c .struct-known14 .given)
+cast-t16 c = omega (arith, c .struct-known14 .given)
 
 slice-aggregate-padded : tie.Need-slice-aggregate-padded
 slice-aggregate-padded c = search needs
@@ -58,6 +58,7 @@ pub tile-descriptor-spec : {M : Type 1} → statement M
 tile-descriptor-spec =
     tie.close
     (tie.spec
+    cast-t3
     cast-t4
     cast-t5
     cast-t6
@@ -71,7 +72,6 @@ tile-descriptor-spec =
     cast-t14
     cast-t15
     cast-t16
-    cast-t17
     slice-aggregate-padded
     padded-requires
     returns)

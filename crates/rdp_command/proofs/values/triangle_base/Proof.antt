@@ -27,6 +27,9 @@ edge-requires-2 c κs = search needs
 edge-requires-3 : tie.Need-edge-requires-3
 edge-requires-3 c κs = search needs
 
+cast-t6 : tie.Need-cast-t6
+cast-t6 c = search needs
+
 cast-t7 : tie.Need-cast-t7
 cast-t7 c = search needs
 
@@ -42,9 +45,6 @@ cast-t10 c = search needs
 cast-t11 : tie.Need-cast-t11
 cast-t11 c = search needs
 
-cast-t12 : tie.Need-cast-t12
-cast-t12 c = search needs
-
 twos-requires : tie.Need-twos-requires
 twos-requires c κs = search needs
 
@@ -53,42 +53,6 @@ twos-requires-2 c κs = search needs
 
 twos-requires-3 : tie.Need-twos-requires-3
 twos-requires-3 c κs = search needs
-
-array-read-t18 : tie.Need-array-read-t18
-array-read-t18 c = search needs
-
-array-read-t21 : tie.Need-array-read-t21
-array-read-t21 c = search needs
-
-array-read-t24 : tie.Need-array-read-t24
-array-read-t24 c = search needs
-
-array-read-t27 : tie.Need-array-read-t27
-array-read-t27 c = search needs
-
-array-read-t30 : tie.Need-array-read-t30
-array-read-t30 c = search needs
-
-array-read-t33 : tie.Need-array-read-t33
-array-read-t33 c = search needs
-
-array-read-t36 : tie.Need-array-read-t36
-array-read-t36 c = search needs
-
-array-read-t39 : tie.Need-array-read-t39
-array-read-t39 c = search needs
-
-array-read-t42 : tie.Need-array-read-t42
-array-read-t42 c = search needs
-
-array-read-t45 : tie.Need-array-read-t45
-array-read-t45 c = search needs
-
-array-read-t48 : tie.Need-array-read-t48
-array-read-t48 c = search needs
-
-array-read-t51 : tie.Need-array-read-t51
-array-read-t51 c = search needs
 
 triangle-number-requires : tie.Need-triangle-number-requires
 triangle-number-requires c κs = search needs
@@ -134,27 +98,15 @@ triangle-base-spec =
     edge-requires
     edge-requires-2
     edge-requires-3
+    cast-t6
     cast-t7
     cast-t8
     cast-t9
     cast-t10
     cast-t11
-    cast-t12
     twos-requires
     twos-requires-2
     twos-requires-3
-    array-read-t18
-    array-read-t21
-    array-read-t24
-    array-read-t27
-    array-read-t30
-    array-read-t33
-    array-read-t36
-    array-read-t39
-    array-read-t42
-    array-read-t45
-    array-read-t48
-    array-read-t51
     triangle-number-requires
     slice-aggregate-padded
     padded-requires

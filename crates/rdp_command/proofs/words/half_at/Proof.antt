@@ -10,89 +10,87 @@ use borrow.Author.Needs.{needs}
 use Rattle.rdp_command.proofs.words.half_at.Statement.{statement}
 use Rattle.rdp_command.proofs.words.half_at.Tie as tie
 
-shared-slice-read-wide : tie.Need-shared-slice-read-wide
-shared-slice-read-wide c = search needs
+shared-slice-read-result : tie.Need-shared-slice-read-result
+shared-slice-read-result c = search needs
 
-wide-requires : tie.Need-wide-requires
-wide-requires c κs = search needs
+cast-result : tie.Need-cast-result
+cast-result c = omega (arith, c .shared-slice-known .given (c .before .args .at))
 
 mul-result : tie.Need-mul-result
-mul-result c = search needs
-
-add-wide : tie.Need-add-wide
-add-wide c = search needs
-
-shared-slice-read-wide-2 : tie.Need-shared-slice-read-wide-2
-shared-slice-read-wide-2 c = search needs
-
-wide-requires-2 : tie.Need-wide-requires-2
-wide-requires-2 c κs = search needs
-
-mul-result-2 : tie.Need-mul-result-2
-mul-result-2 c = search needs
+mul-result c = omega (arith, c .shared-slice-known .given (c .before .args .at))
 
 add-result : tie.Need-add-result
 add-result c = search needs
 
-add-wide-2 : tie.Need-add-wide-2
-add-wide-2 c = search needs
+shared-slice-read-result-2 : tie.Need-shared-slice-read-result-2
+shared-slice-read-result-2 c = search needs
 
-shared-slice-read-wide-3 : tie.Need-shared-slice-read-wide-3
-shared-slice-read-wide-3 c = search needs
+cast-result-2 : tie.Need-cast-result-2
+cast-result-2 c = omega (arith, c .shared-slice-known2 .given (c .before .before .args .at + 1))
 
-wide-requires-3 : tie.Need-wide-requires-3
-wide-requires-3 c κs = search needs
-
-mul-result-3 : tie.Need-mul-result-3
-mul-result-3 c = search needs
+mul-result-2 : tie.Need-mul-result-2
+mul-result-2 c = omega (arith, c .shared-slice-known2 .given (c .before .before .args .at + 1))
 
 add-result-2 : tie.Need-add-result-2
-add-result-2 c = search needs
-
-add-wide-3 : tie.Need-add-wide-3
-add-wide-3 c = search needs
-
-shared-slice-read-wide-4 : tie.Need-shared-slice-read-wide-4
-shared-slice-read-wide-4 c = search needs
-
-wide-requires-4 : tie.Need-wide-requires-4
-wide-requires-4 c κs = search needs
+add-result-2 c = omega (arith, c .shared-slice-known2 .given (c .before .before .args .at), c .shared-slice-known2 .given (c .before .before .args .at + 1))
 
 add-result-3 : tie.Need-add-result-3
 add-result-3 c = search needs
 
+shared-slice-read-result-3 : tie.Need-shared-slice-read-result-3
+shared-slice-read-result-3 c = search needs
+
+cast-result-3 : tie.Need-cast-result-3
+cast-result-3 c = omega (arith, c .shared-slice-known3 .given (c .before .before .before .args .at + 2))
+
+mul-result-3 : tie.Need-mul-result-3
+mul-result-3 c = omega (arith, c .shared-slice-known3 .given (c .before .before .before .args .at + 2))
+
+add-result-4 : tie.Need-add-result-4
+add-result-4 c = omega (arith, c .shared-slice-known3 .given (c .before .before .before .args .at), c .shared-slice-known3 .given (c .before .before .before .args .at + 1), c .shared-slice-known3 .given (c .before .before .before .args .at + 2))
+
+add-result-5 : tie.Need-add-result-5
+add-result-5 c = search needs
+
+shared-slice-read-result-4 : tie.Need-shared-slice-read-result-4
+shared-slice-read-result-4 c = search needs
+
+cast-result-4 : tie.Need-cast-result-4
+cast-result-4 c = omega (arith, c .shared-slice-known4 .given (c .before .before .before .before .args .at + 3))
+
+add-result-6 : tie.Need-add-result-6
+add-result-6 c = omega (arith, c .shared-slice-known4 .given (c .before .before .before .before .args .at), c .shared-slice-known4 .given (c .before .before .before .before .args .at + 1), c .shared-slice-known4 .given (c .before .before .before .before .args .at + 2), c .shared-slice-known4 .given (c .before .before .before .before .args .at + 3))
+
 returns : tie.Need-returns
 unfolding halfOf
 returns c =
-    let list = now (c .before .before .before .before .before .before .before .before .before .args .list) in
-    let at = c .before .before .before .before .before .before .before .before .before .args .at in (
-      (λ i.
-          ((c .before .before .before .before .before .before .wide .ensures .0 ∙ ap (λ (k : ℕ). getD list k 0) (sym (add-zero at)) ∙ sym (getD-drop at list 0 0)) i * 2 ^ 24 +
-          (c .before .before .before .before .wide2 .ensures .0 ∙ sym (getD-drop at list 1 0)) i * 2 ^ 16 +
-          (c .before .before .wide3 .ensures .0 ∙ sym (getD-drop at list 2 0)) i * 2 ^ 8 +
-          (c .wide4 .ensures .0 ∙ sym (getD-drop at list 3 0)) i)),
-      omega arith,
+    let list = now (c .before .before .before .before .args .list) in
+    let at = c .before .before .before .before .args .at in (
+      λ i.
+          (ap (λ (k : ℕ). getD list k 0) (sym (add-zero at)) ∙ sym (getD-drop at list 0 0)) i * 2 ^ 24 + sym (getD-drop at list 1 0) i * 2 ^ 16 + sym (getD-drop at list 2 0) i * 2 ^ 8 +
+          sym (getD-drop at list 3 0) i,
+      omega (arith, c .shared-slice-known4 .given (c .before .before .before .before .args .at), c .shared-slice-known4 .given (c .before .before .before .before .args .at + 1), c .shared-slice-known4 .given (c .before .before .before .before .args .at + 2), c .shared-slice-known4 .given (c .before .before .before .before .args .at + 3)),
     )
 
 pub half-at-spec : {M : Type 1} → statement M
 half-at-spec =
     tie.close
     (tie.spec
-    shared-slice-read-wide
-    wide-requires
+    shared-slice-read-result
+    cast-result
     mul-result
-    add-wide
-    shared-slice-read-wide-2
-    wide-requires-2
-    mul-result-2
     add-result
-    add-wide-2
-    shared-slice-read-wide-3
-    wide-requires-3
-    mul-result-3
+    shared-slice-read-result-2
+    cast-result-2
+    mul-result-2
     add-result-2
-    add-wide-3
-    shared-slice-read-wide-4
-    wide-requires-4
     add-result-3
+    shared-slice-read-result-3
+    cast-result-3
+    mul-result-3
+    add-result-4
+    add-result-5
+    shared-slice-read-result-4
+    cast-result-4
+    add-result-6
     returns)
