@@ -2,9 +2,9 @@
 use mathlib.Core.Bool.{Bool, true, false, cond, not, _&&_}
 use mathlib.Core.List.{List, [], _∷_, _++_}
 use mathlib.Core.Path.{_≡_, refl, sym, ap, subst, _∙_}
-use Prim.Native.Nat.{ℕ, zero, suc, _+_, _*_, _/_, _%_, _≤_, _<_}
+use Prim.Native.Nat.{ℕ, zero, suc, _+_, _/_, _%_, _≤_, _<_}
 use native.Mathlib.Omega.{arith}
-use borrow.Author.Tests.{ltb-true, ltb-false, eqb-true, eqb-false, leb-true, leb-false, le-leb, lt-leb}
+use borrow.Author.Tests.{ltb-true, ltb-false, eqb-true, eqb-false, le-leb, lt-leb}
 use lib.Dec.{T, eqb, ltb, leb}
 use lib.ListN.{length}
 use Rattle.rdp_command.specs.Kinds.{wordsOf}
@@ -13,7 +13,7 @@ use Rattle.rdp_command.proofs.Tests.{both, both-of, by-test}
 use Rattle.rdp_check.specs.Hazards.{requiredOf}
 use Rattle.rdp_check.specs.Commands.{commandsOf, restOf, wordsIn}
 use Rattle.rdp_check.specs.Check.{State, start, afterCommand, draws, ready, fourBitFill, missing, refusalOf, refusalAt, Outcome, outcome, atEnd, settle, judge, judgeList, outcomeWithin, checkOf}
-use Rattle.rdp_check.specs.Refusals.{stateAfter, Refuses, afterSyncFull, notSet, fillOnFourBits, syncMissing, Holds, tooLong, notWords, pastEnd, atCommand, rank, NotAfter, earlier, same, IsFirst}
+use Rattle.rdp_check.specs.Refusals.{stateAfter, Refuses, afterSyncFull, notSet, fillOnFourBits, syncMissing, Holds, tooLong, notWords, pastEnd, atCommand, NotAfter, earlier, same, IsFirst}
 use Rattle.rdp_check.proofs.JoinLaws.{command-some, parsed, joined-whole, length-joined}
 
 -- ---- at one command

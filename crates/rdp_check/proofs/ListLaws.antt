@@ -1,20 +1,18 @@
 -- Laws of the commands of a list: what stands at its head and at a place, and a list put together from commands. Assumes nothing.
-use mathlib.Core.Path.{_≡_, refl, sym, _∙_, ap, ap₂, subst}
-use mathlib.Core.Bool.{Bool, true, false}
-use mathlib.Core.List.{List, [], _∷_, _++_, append-assoc}
+use mathlib.Core.Path.{_≡_, refl, sym, _∙_, ap}
+use mathlib.Core.List.{List, [], _∷_, _++_}
 use Prim.Native.Nat.{ℕ, zero, suc, pred, _+_, _*_, _/_, _≤_, _<_}
 use native.Mathlib.Omega.{arith}
-use native.Mathlib.Nat.{not-suc-le-zero, le-refl}
-use lib.Dec.{eqb}
-use lib.ListN.{length, take, drop, length-append, length-drop, take-append-drop}
-use lib.Seq.{take-at, drop-at, length-take-le, drop-drop, take-append-le, drop-append-le}
-use borrow.Author.Tests.{eq-eqb, ne-eqb, eqb-true, eqb-false}
+use native.Mathlib.Nat.{not-suc-le-zero}
+use lib.ListN.{length, take, drop, length-drop, take-append-drop}
+use lib.Seq.{length-take-le, drop-drop}
+use borrow.Author.Tests.{eq-eqb, ne-eqb}
 use Rattle.rdp_command.specs.Words.{wordAt, numberIn}
 use Rattle.rdp_command.specs.Kinds.{wordsOf}
 use Rattle.rdp_command.specs.Decode.{firstNumber, wholeWords, decodeOf}
 use Rattle.rdp_command.proofs.WordLaws.{word-front}
 use Rattle.rdp_command.proofs.Laws.{decode-later}
-use Rattle.rdp_check.specs.Commands.{commandsFrom, restFrom, commandsOf, restOf, wordsIn}
+use Rattle.rdp_check.specs.Commands.{commandsFrom, restFrom, commandsOf, restOf}
 use Rattle.rdp_check.proofs.PlaceLaws.{is-whole, word-drop, words-there, some-words, there-at, cut-at}
 
 -- to skip k bytes is to go on from what stands after them

@@ -1,15 +1,13 @@
 -- What stands at a place of a list: its word, and the words of the command that begins there. Assumes nothing.
-use Prim.Native.Nat.{ℕ, _+_, _-_, _*_, _/_, _^_, _≤_, _<_}
-use mathlib.Core.List.{List, _++_}
-use mathlib.Core.Bool.{cond}
-use mathlib.Core.Path.{_≡_, refl, ap, sym, _∙_}
+use Prim.Native.Nat.{ℕ, _+_, _*_, _/_, _^_, _≤_, _<_}
+use mathlib.Core.List.{List}
+use mathlib.Core.Path.{_≡_, ap, sym, _∙_}
 use native.Mathlib.Nat.{mod-lt}
 use native.Mathlib.Omega.{arith}
 use borrow.Author.Tests.{lt-ltb, le-ltb, ltb-true, ltb-false}
 use lib.Dec.{ltb, lit<}
-use lib.ListN.{length, take, drop, length-drop}
-use lib.Seq.{drop-drop}
-use Rattle.rdp_command.specs.Words.{wordOf, wordAt, numberIn}
+use lib.ListN.{length, drop, length-drop}
+use Rattle.rdp_command.specs.Words.{wordAt, numberIn}
 use Rattle.rdp_command.specs.Kinds.{wordsOf}
 use Rattle.rdp_command.specs.Decode.{firstNumber, wholeWords}
 use Rattle.rdp_command.proofs.Tests.{by-test}

@@ -1,6 +1,6 @@
 -- The fields that the check and the drawing read of a command's first word are those that decoding gives. Assumes nothing.
 use mathlib.Core.List.{List}
-use mathlib.Core.Path.{_≡_, refl, sym, _∙_, ap}
+use mathlib.Core.Path.{_≡_, refl, sym, ap}
 use Prim.Native.Nat.{ℕ}
 use Rattle.rdp_command.specs.Words.{wordAt}
 use Rattle.rdp_command.specs.Layout.{layout, otherModesLines}

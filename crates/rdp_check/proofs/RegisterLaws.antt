@@ -1,6 +1,6 @@
 -- The registers in their five groups: a command changes one group at most, and each group by what it holds alone. Assumes nothing.
 use Prim.Native.Nat.{ℕ}
-use mathlib.Core.Bool.{Bool, true, false, cond, not}
+use mathlib.Core.Bool.{Bool, cond, not}
 use mathlib.Core.List.{List, [], _∷_}
 use mathlib.Core.Logic.{_⊎_, inl, ⊎-elim}
 use mathlib.Core.Path.{_≡_, refl, sym, subst}
@@ -12,7 +12,7 @@ use Rattle.rdp_command.proofs.Tests.{by-test}
 use Rattle.rdp_command.specs.Kinds.{among}
 use Rattle.rdp_command.specs.declared.command.Command.{Command}
 use Rattle.rdp_command.specs.declared.command.Command.the-variants.{NoOperation, FillTriangle, TextureRectangle, TextureRectangleFlip, SyncLoad, SyncPipe, SyncTile, SyncFull, SetKeyGb, SetKeyR, SetConvert, SetScissor, SetPrimitiveDepth, SetOtherModes, LoadTlut, SetTileSize, LoadBlock, LoadTile, SetTile, FillRectangle, SetFillColor, SetFogColor, SetBlendColor, SetPrimitiveColor, SetEnvironmentColor, SetCombineMode, SetTextureImage, SetDepthImage, SetColorImage}
-use Rattle.rdp_check.specs.Registers.{withColors, withCombiner, withModes, withImages, withTiles, noRegisters, registersAfter, colorsAfter, combinerAfter, modesAfter, imagesAfter, tilesAfter}
+use Rattle.rdp_check.specs.Registers.{withColors, withCombiner, withModes, withImages, withTiles, registersAfter, colorsAfter, combinerAfter, modesAfter, imagesAfter, tilesAfter}
 use Rattle.rdp_check.specs.declared.registers.Tile.{Tile}
 use Rattle.rdp_check.specs.declared.registers.Colors.{Colors}
 use Rattle.rdp_check.specs.declared.registers.Combiner.{Combiner}

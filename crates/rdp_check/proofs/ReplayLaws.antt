@@ -16,7 +16,7 @@ use Rattle.rdp_command.proofs.Tests.{by-test}
 use Rattle.rdp_command.proofs.KindLaws.{words-pos, words-most}
 use Rattle.rdp_check.specs.Commands.{commandsOf, restOf}
 use Rattle.rdp_check.specs.Registers.{noRegisters, afterDecoded}
-use Rattle.rdp_check.specs.Check.{State, start, afterCommand, refusalOf, refusalAt, Outcome, outcome, atEnd, settle, judge, judgeList, outcomeWithin}
+use Rattle.rdp_check.specs.Check.{State, start, afterCommand, refusalOf, refusalAt, Outcome, atEnd, settle, judge, judgeList, outcomeWithin}
 use Rattle.rdp_check.specs.View.{registersUpTo, endOf}
 use Rattle.rdp_check.specs.declared.registers.Registers.{Registers}
 use Rattle.rdp_check.proofs.PlaceLaws.{number-small, some-words}

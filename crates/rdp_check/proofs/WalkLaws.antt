@@ -1,5 +1,5 @@
 -- The judgement of a list's commands, as the loop of the walk meets it. Assumes nothing.
-use mathlib.Core.Path.{_≡_, refl, sym, _∙_, ap, subst}
+use mathlib.Core.Path.{_≡_, refl, sym, _∙_, ap}
 use mathlib.Core.Bool.{Bool, true, false, cond, not, _&&_, false≢true}
 use mathlib.Core.List.{List, [], _∷_}
 use Prim.Native.Nat.{ℕ, zero, suc, _+_, _*_, _-_, _/_, _%_, _≤_, _<_}
@@ -14,7 +14,6 @@ use Rattle.rdp_command.specs.Kinds.{wordsOf}
 use Rattle.rdp_command.specs.Decode.{firstNumber}
 use Rattle.rdp_check.specs.Hazards.{requiredOf, entryOf}
 use Rattle.rdp_check.specs.Commands.{commandsFrom, restFrom, commandsOf, restOf}
-use Rattle.rdp_check.specs.Registers.{noRegisters}
 use Rattle.rdp_check.specs.Check.{State, start, afterCommand, refusalAt, Outcome, outcome, settle, judge, judgeList, checked}
 use Rattle.rdp_check.specs.View.{headOf, viewOf, Sound, viewAfter, refusalWith, viewRefusal, quiet}
 use Rattle.rdp_check.specs.declared.Checked.{Checked}

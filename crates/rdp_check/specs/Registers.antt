@@ -4,14 +4,7 @@ use mathlib.Core.Bool.{true, false}
 use mathlib.Core.List.{List}
 use lib.ListN.{getD, set, replicate}
 use Rattle.rdp_command.specs.declared.command.Color.{Color}
-use Rattle.rdp_command.specs.declared.command.PrimitiveColor.{PrimitiveColor}
-use Rattle.rdp_command.specs.declared.command.KeyGb.{KeyGb}
-use Rattle.rdp_command.specs.declared.command.KeyR.{KeyR}
-use Rattle.rdp_command.specs.declared.command.Convert.{Convert}
 use Rattle.rdp_command.specs.declared.command.OtherModes.{OtherModes}
-use Rattle.rdp_command.specs.declared.command.PrimitiveDepth.{PrimitiveDepth}
-use Rattle.rdp_command.specs.declared.command.Scissor.{Scissor}
-use Rattle.rdp_command.specs.declared.command.Image.{Image}
 use Rattle.rdp_command.specs.declared.command.TileDescriptor.{TileDescriptor}
 use Rattle.rdp_command.specs.declared.command.TexelCorner.{TexelCorner}
 use Rattle.rdp_command.specs.declared.command.Decoded.{Decoded}

@@ -1,6 +1,6 @@
 -- `rdp_check::walk::walk` meets its contract. The loop's invariant: the judgement of what is left is that of the whole list. The measure is what is left
 -- of the words. Assumes nothing.
-use mathlib.Core.Path.{refl, ap, _∙_}
+use mathlib.Core.Path.{ap, _∙_}
 use Prim.Native.Nat.{_-_}
 use native.Mathlib.Omega.{arith}
 use borrow.Author.Needs.{needs}
