@@ -15,7 +15,7 @@ use Rattle.rdp_command.proofs.Tests.{by-test}
 use Rattle.rdp_command.proofs.KindLaws.{words-pos}
 use Rattle.rdp_command.proofs.WordLaws.{word-front}
 use Rattle.rdp_check.specs.Commands.{commandsFrom, restFrom, commandsOf, restOf, wordsIn, joined}
-use Rattle.rdp_check.proofs.PlaceLaws.{number-small, words-there, is-whole}
+use Rattle.rdp_command.proofs.PlaceLaws.{number-small, words-there, is-whole}
 use Rattle.rdp_check.proofs.ListLaws.{head, tail, commands-head, rest-head, commands-cut, rest-cut}
 
 -- a command alone: as many bytes as its number says

@@ -1,7 +1,5 @@
 pub mod TableTests
 pub mod HazardLaws
-pub mod PlaceLaws
-pub mod ReadLaws
 pub mod ListLaws
 pub mod JoinLaws
 pub mod ViewLaws

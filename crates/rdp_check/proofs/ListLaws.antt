@@ -13,7 +13,7 @@ use Rattle.rdp_command.specs.Decode.{firstNumber, wholeWords, decodeOf}
 use Rattle.rdp_command.proofs.WordLaws.{word-front}
 use Rattle.rdp_command.proofs.Laws.{decode-later}
 use Rattle.rdp_check.specs.Commands.{commandsFrom, restFrom, commandsOf, restOf}
-use Rattle.rdp_check.proofs.PlaceLaws.{is-whole, word-drop, words-there, some-words, there-at, cut-at}
+use Rattle.rdp_command.proofs.PlaceLaws.{is-whole, word-drop, words-there, some-words, there-at, cut-at}
 
 -- to skip k bytes is to go on from what stands after them
 commands-skip : (k : ℕ) (bs : List ℕ) → commandsFrom k bs ≡ commandsOf (drop k bs)

@@ -22,7 +22,7 @@ use Rattle.rdp_check.specs.declared.walk.Head.{Head}
 use Rattle.rdp_check.specs.declared.walk.View.{View}
 use Rattle.rdp_check.specs.declared.walk.Advanced.{Advanced}
 use Rattle.rdp_check.proofs.HazardLaws.{EntryParts, entry-parts, required-most}
-use Rattle.rdp_check.proofs.ReadLaws.{decoded, decodes, decoded-number, reads-other-modes, reads-scissor, reads-color-image}
+use Rattle.rdp_command.proofs.ReadLaws.{decoded, decodes, decoded-number, reads-other-modes, reads-scissor, reads-color-image}
 
 -- ---- the kinds of steps
 

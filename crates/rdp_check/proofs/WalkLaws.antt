@@ -21,7 +21,7 @@ use Rattle.rdp_check.specs.declared.walk.Head.{Head}
 use Rattle.rdp_check.specs.declared.walk.Rest.{Rest}
 use Rattle.rdp_check.specs.declared.walk.View.{View}
 use Rattle.rdp_check.proofs.HazardLaws.{next-small, entry-parts}
-use Rattle.rdp_check.proofs.PlaceLaws.{number-small, some-words}
+use Rattle.rdp_command.proofs.PlaceLaws.{number-small, some-words}
 use Rattle.rdp_check.proofs.ListLaws.{commandAt, commands-at, rest-at, command-word, command-number, command-there, commands-past, rest-past}
 use Rattle.rdp_check.proofs.ViewLaws.{quiet-is, quiet-after, refusal-seen, seen-sound, view-after}
 

@@ -16,3 +16,5 @@ pub mod WordLaws
 pub mod NumberLaws
 pub mod Laws
 pub mod FieldLaws
+pub mod PlaceLaws
+pub mod ReadLaws

@@ -6,7 +6,7 @@ use native.Mathlib.Omega.{arith}
 use borrow.Author.Needs.{needs}
 use Rattle.rdp_check.specs.Hazards.{entryOf}
 use Rattle.rdp_check.specs.View.{viewAfter, quiet}
-use Rattle.rdp_check.proofs.PlaceLaws.{number-small}
+use Rattle.rdp_command.proofs.PlaceLaws.{number-small}
 use Rattle.rdp_check.proofs.WalkLaws.{Walked, first, sound, ended, past, refused, falls, again, quick}
 use Rattle.rdp_check.proofs.walk.walk.Statement.{statement}
 use Rattle.rdp_check.proofs.walk.walk.Tie as tie
