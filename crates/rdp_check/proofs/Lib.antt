@@ -5,3 +5,9 @@ pub mod ReadLaws
 pub mod ListLaws
 pub mod ViewLaws
 pub mod WalkLaws
+pub mod SyncLaws
+pub mod ChoiceLaws
+pub mod LeastLaws
+pub mod JoinLaws
+pub mod JudgeLaws
+pub mod RepairedLaws

@@ -3,3 +3,7 @@ pub mod Commands
 pub mod Registers
 pub mod Check
 pub mod View
+pub mod Inserted
+pub mod Plan
+pub mod Work
+pub mod Repair

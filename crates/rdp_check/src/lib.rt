@@ -17,6 +17,14 @@ pub struct Checked {
     pub hazards: u8,
 }
 
+// The number of the first refusal, 0 where the list is repaired; its place, or the words written; and the cycles of the inserted syncs, 0 at a refusal.
+#[repr(C)]
+pub struct Repaired {
+    pub number: u32,
+    pub place: u32,
+    pub cycles: u32,
+}
+
 // The hazards after a command, whether a sync is missing, and the sync that the command requires: 0 none, 1 Load, 2 Tile, 3 Pipe.
 #[repr(C)]
 pub struct Transition {

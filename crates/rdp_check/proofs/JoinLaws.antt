@@ -1,0 +1,125 @@
+-- Lists put together from whole commands: their commands are those, and every list is its commands and what is left. Assumes nothing.
+use mathlib.Core.Path.{_≡_, refl, sym, _∙_, ap, ap₂}
+use mathlib.Core.List.{List, [], _∷_, _++_, append-assoc, append-nil}
+use Prim.Native.Nat.{ℕ, zero, suc, _+_, _*_, _/_, _≤_, _<_}
+use native.Mathlib.Nat.{not-suc-le-zero, le-refl}
+use native.Mathlib.Omega.{arith}
+use lib.Dec.{eqb}
+use lib.ListN.{length, take, drop, length-append, length-drop, take-append-drop}
+use lib.Seq.{take-at, drop-at, length-take-le}
+use borrow.Author.Tests.{eqb-true, eqb-false}
+use Rattle.rdp_command.specs.Words.{wordAt, numberIn}
+use Rattle.rdp_command.specs.Kinds.{wordsOf}
+use Rattle.rdp_command.specs.Decode.{firstNumber, wholeWords}
+use Rattle.rdp_command.proofs.Tests.{by-test}
+use Rattle.rdp_command.proofs.KindLaws.{words-pos}
+use Rattle.rdp_command.proofs.WordLaws.{word-front}
+use Rattle.rdp_check.specs.Commands.{commandsFrom, restFrom, commandsOf, restOf, wordsIn}
+use Rattle.rdp_check.specs.Inserted.{joined}
+use Rattle.rdp_check.proofs.PlaceLaws.{number-small, words-there, is-whole}
+use Rattle.rdp_check.proofs.ListLaws.{head, tail, commands-head, rest-head, commands-cut, rest-cut}
+
+-- a command alone: as many bytes as its number says
+abbrev pub Alone : List ℕ → Type 0
+Alone c = length c ≡ 8 * wordsOf (firstNumber c)
+
+abbrev pub AllAlone : List (List ℕ) → Type 0
+AllAlone [] = Unit {0}
+AllAlone (c ∷ cs) = Alone c × AllAlone cs
+
+pub command-some : (c : List ℕ) → 1 ≤ wordsOf (firstNumber c)
+command-some c = words-pos (firstNumber c) (number-small (wordAt c 0))
+
+-- a command in front is the first command
+module _ (c bs : List ℕ) (alone : Alone c) where
+  number-front : firstNumber (c ++ bs) ≡ firstNumber c
+  number-front = ap numberIn (word-front c bs 0 (omega (arith, command-some c)))
+
+  words-front : wholeWords (c ++ bs) ≡ wordsOf (firstNumber c)
+  words-front =
+      words-there (c ++ bs) (rw number-front (omega (arith, length-append c bs))) ∙ ap wordsOf number-front
+
+  there-front : wholeWords (c ++ bs) ≡ 0 → ⊥
+  there-front z = omega (arith, words-front, command-some c)
+
+  long-front : length c ≡ 8 * wholeWords (c ++ bs)
+  long-front = alone ∙ ap (λ (n : ℕ). 8 * n) (sym words-front)
+
+  tail-front : tail (c ++ bs) ≡ bs
+  tail-front = drop-at c bs _ long-front
+
+  pub commands-front : commandsOf (c ++ bs) ≡ c ∷ commandsOf bs
+  commands-front =
+      commands-head (c ++ bs) there-front ∙ ap₂ (λ (x y : List ℕ). x ∷ commandsOf y) (take-at c bs _ long-front) tail-front
+
+  pub rest-front : restOf (c ++ bs) ≡ restOf bs
+  rest-front = rest-head (c ++ bs) there-front ∙ ap restOf tail-front
+
+-- commands one after the other
+pub commands-joined : (cs : List (List ℕ)) → AllAlone cs → commandsOf (joined cs) ≡ cs
+unfolding commandsFrom
+commands-joined [] h = refl
+commands-joined (c ∷ cs) h = commands-front c (joined cs) (h .0) ∙ ap (λ (x : List (List ℕ)). c ∷ x) (commands-joined cs (h .1))
+
+pub rest-joined : (cs : List (List ℕ)) → AllAlone cs → restOf (joined cs) ≡ []
+unfolding restFrom
+rest-joined [] h = refl
+rest-joined (c ∷ cs) h = rest-front c (joined cs) (h .0) ∙ rest-joined cs (h .1)
+
+pub length-joined : (cs : List (List ℕ)) → AllAlone cs → length (joined cs) ≡ 8 * wordsIn cs
+length-joined [] h = refl
+length-joined (c ∷ cs) h = omega (arith, length-append c (joined cs), h .0, length-joined cs (h .1))
+
+pub count-joined : (cs : List (List ℕ)) → AllAlone cs → length cs ≤ wordsIn cs
+count-joined [] h = omega arith
+count-joined (c ∷ cs) h = omega (arith, command-some c, count-joined cs (h .1))
+
+-- ---- every list is its commands, each alone, and what is left
+
+pub record Parsed (bs : List ℕ) : Type 0 where
+  pub alone : AllAlone (commandsOf bs)
+  pub joins : joined (commandsOf bs) ++ restOf bs ≡ bs
+
+module _ (bs : List ℕ) (there : wholeWords bs ≡ 0 → ⊥) where
+  head-long : length (head bs) ≡ 8 * wholeWords bs
+  head-long = length-take-le (8 * wholeWords bs) bs (is-whole bs there .inside)
+
+  head-number : firstNumber (head bs) ≡ firstNumber bs
+  head-number =
+      let some : 0 < length (head bs) / 8 = omega (arith, head-long, is-whole bs there .some) in
+      ap numberIn (sym (word-front (head bs) (tail bs) 0 some)) ∙ ap firstNumber (take-append-drop (8 * wholeWords bs) bs)
+
+  head-alone : Alone (head bs)
+  head-alone = head-long ∙ ap (λ (n : ℕ). 8 * n) (is-whole bs there .words ∙ ap wordsOf (sym head-number))
+
+  parsed-head : Parsed (tail bs) → Parsed bs
+  parsed-head p =
+      record {
+        alone = rw (commands-head bs there) (head-alone, p .alone);
+        joins = rw (commands-head bs there, rest-head bs there, append-assoc, p .joins) (take-append-drop (8 * wholeWords bs) bs);
+      }
+
+parsed-cut : (bs : List ℕ) → wholeWords bs ≡ 0 → Parsed bs
+parsed-cut bs cut = record { alone = rw (commands-cut bs cut) tt; joins = rw (commands-cut bs cut, rest-cut bs cut) }
+
+-- by the number of bytes that are left
+parsed-within : (k : ℕ) (bs : List ℕ) → length bs ≤ k → Parsed bs
+parsed-within zero bs h =
+    by-test (eqb (wholeWords bs) 0) (λ t. parsed-cut bs (eqb-true _ _ t))
+    (λ f.
+    let w = is-whole bs (eqb-false _ _ f) in
+    absurd (omega (arith, w .some, w .inside)))
+parsed-within (suc k) bs h =
+    by-test (eqb (wholeWords bs) 0) (λ t. parsed-cut bs (eqb-true _ _ t))
+    (λ f.
+    let w = is-whole bs (eqb-false _ _ f) in
+    parsed-head bs (eqb-false _ _ f)
+    (parsed-within k (tail bs) (omega (arith, length-drop (8 * wholeWords bs) bs, w .some, w .inside))))
+
+pub parsed : (bs : List ℕ) → Parsed bs
+parsed bs = parsed-within (length bs) bs (le-refl _)
+
+-- a list with nothing left is its commands
+pub joined-whole : (bs : List ℕ) → restOf bs ≡ [] → joined (commandsOf bs) ≡ bs
+joined-whole bs none =
+    sym (append-nil (joined (commandsOf bs))) ∙ ap (λ (x : List ℕ). joined (commandsOf bs) ++ x) (sym none) ∙ parsed bs .joins

@@ -1,0 +1,124 @@
+-- The judgement of commands by structural recursion, what strictness adds to it, and what inserted syncs do to it. Assumes nothing.
+use mathlib.Core.Path.{_≡_, refl, sym, _∙_, ap, subst}
+use mathlib.Core.Bool.{Bool, true, false, cond, _&&_, not}
+use mathlib.Core.List.{List, [], _∷_}
+use Prim.Native.Nat.{ℕ, zero, suc, _+_}
+use native.Mathlib.Omega.{arith}
+use lib.Dec.{eqb}
+use borrow.Author.Tests.{eqb-true}
+use Rattle.rdp_command.proofs.Tests.{by-test}
+use Rattle.rdp_command.specs.Words.{halfOf, wordAt}
+use Rattle.rdp_command.specs.Kinds.{kindOf, wordsOf}
+use Rattle.rdp_command.specs.Layout.{layout}
+use Rattle.rdp_command.specs.Commands.{commandOf}
+use Rattle.rdp_command.specs.Decode.{firstNumber, wholeWords, decodeOf}
+use Rattle.rdp_check.specs.Hazards.{nextOf, requiredOf}
+use Rattle.rdp_check.specs.Registers.{registersAfter}
+use Rattle.rdp_check.specs.Check.{State, afterCommand, draws, missing, refusalOf, refusalAt, Outcome, settle, judge}
+use Rattle.rdp_check.specs.Inserted.{syncWord}
+use Rattle.rdp_check.specs.Plan.{withOption, applied}
+use Rattle.rdp_check.proofs.LeastLaws.{Passes}
+
+-- no command is refused
+abbrev pub Accepted : Bool → State → List (List ℕ) → Type 0
+Accepted strict s [] = Unit {0}
+Accepted strict s (c ∷ cs) = (refusalAt strict s c ≡ 0) × Accepted strict (afterCommand s c) cs
+
+settled-zero : (g at : ℕ) (s : State) (next : Outcome) → settle g at s next .number ≡ 0 → (g ≡ 0) × (next .number ≡ 0)
+settled-zero zero at s next e = (refl, e)
+settled-zero (suc g) at s next e = absurd (omega arith)
+
+-- a judgement of 0 says that no command is refused, and that none runs past the end
+pub judge-accepted :
+    (strict : Bool) (s : State) (at : ℕ) (cs : List (List ℕ)) (rest : List ℕ) → judge strict s at cs rest .number ≡ 0 →
+    Accepted strict s cs × (rest ≡ [])
+unfolding judge
+judge-accepted strict s at [] [] e = (tt, refl)
+judge-accepted strict s at [] (b ∷ rest) e = absurd (omega arith)
+judge-accepted strict s at (c ∷ cs) rest e =
+    let h = settled-zero (refusalAt strict s c) at s (judge strict (afterCommand s c) (at + wordsOf (firstNumber c)) cs rest) e in
+    let r = judge-accepted strict (afterCommand s c) (at + wordsOf (firstNumber c)) cs rest (h .1) in
+    ((h .0, r .0), r .1)
+
+pub accepted-judge : (strict : Bool) (s : State) (at : ℕ) (cs : List (List ℕ)) → Accepted strict s cs → judge strict s at cs [] .number ≡ 0
+unfolding judge
+accepted-judge strict s at [] h = refl
+accepted-judge strict s at (c ∷ cs) h = rw (h .0) (accepted-judge strict (afterCommand s c) (at + wordsOf (firstNumber c)) cs (h .1))
+
+-- ---- strict: besides, no sync is missing
+
+missing-none : (q : ℕ) → missing q ≡ 0 → q ≡ 0
+missing-none q e = by-test (eqb q 0) (eqb-true q 0) (λ f. absurd (omega (arith, rw f at e)))
+
+refusal-parts : (ended draw ready fill : Bool) (q : ℕ) → refusalOf ended draw ready fill q ≡ 0 → (refusalOf ended draw ready fill 0 ≡ 0) × (q ≡ 0)
+unfolding refusalOf
+refusal-parts true draw ready fill q e = absurd (omega arith)
+refusal-parts false false ready fill q e = (refl, missing-none q e)
+refusal-parts false true false fill q e = absurd (omega arith)
+refusal-parts false true true true q e = absurd (omega arith)
+refusal-parts false true true false q e = (refl, missing-none q e)
+
+pub accepted-loose : (s : State) (cs : List (List ℕ)) → Accepted true s cs → Accepted false s cs
+accepted-loose s [] h = tt
+accepted-loose s (c ∷ cs) h = (refusal-parts _ _ _ _ _ (h .0) .0, accepted-loose (afterCommand s c) cs (h .1))
+
+pub accepted-passes : (s : State) (cs : List (List ℕ)) → Accepted true s cs → Passes (s .hazards) cs
+unfolding afterCommand
+accepted-passes s [] h = tt
+accepted-passes s (c ∷ cs) h = (refusal-parts _ _ _ _ _ (h .0) .1, accepted-passes (afterCommand s c) cs (h .1))
+
+pub accepted-strict : (s : State) (cs : List (List ℕ)) → Accepted false s cs → Passes (s .hazards) cs → Accepted true s cs
+unfolding afterCommand
+accepted-strict s [] h p = tt
+accepted-strict s (c ∷ cs) h p = (rw (p .0) (h .0), accepted-strict (afterCommand s c) cs (h .1) (p .1))
+
+-- ---- inserted syncs
+
+abbrev withHazards : ℕ → State → State
+withHazards m s = record { hazards = m; ended = s .ended; registers = s .registers }
+
+-- a sync changes nothing but the hazards
+after-load : (s : State) → afterCommand s (syncWord 0x26) ≡ withHazards (nextOf (s .hazards) 0x26) s
+unfolding afterCommand decodeOf wholeWords wordAt halfOf wordsOf kindOf layout commandOf registersAfter
+after-load s = refl
+
+after-tile : (s : State) → afterCommand s (syncWord 0x28) ≡ withHazards (nextOf (s .hazards) 0x28) s
+unfolding afterCommand decodeOf wholeWords wordAt halfOf wordsOf kindOf layout commandOf registersAfter
+after-tile s = refl
+
+after-pipe : (s : State) → afterCommand s (syncWord 0x27) ≡ withHazards (nextOf (s .hazards) 0x27) s
+unfolding afterCommand decodeOf wholeWords wordAt halfOf wordsOf kindOf layout commandOf registersAfter
+after-pipe s = refl
+
+-- without strictness the hazards do not count
+any-hazards : (m : ℕ) (s : State) (cs : List (List ℕ)) → Accepted false s cs → Accepted false (withHazards m s) cs
+unfolding afterCommand
+any-hazards m s [] h = tt
+any-hazards m s (c ∷ cs) h = (h .0, any-hazards (nextOf m (firstNumber c)) (afterCommand s c) cs (h .1))
+
+-- where a command is not refused, a command that is no draw is not refused either
+sync-fits : (ended draw ready fill : Bool) → refusalOf ended draw ready fill 0 ≡ 0 → refusalOf ended false ready fill 0 ≡ 0
+unfolding refusalOf
+sync-fits true draw ready fill e = absurd (omega arith)
+sync-fits false draw ready fill e = refl
+
+insert-sync :
+    (n : ℕ) (s : State) (c : List ℕ) (cs : List (List ℕ)) → draws (firstNumber (syncWord n)) ≡ false →
+    afterCommand s (syncWord n) ≡ withHazards (nextOf (s .hazards) n) s → Accepted false s (c ∷ cs) → Accepted false s (syncWord n ∷ c ∷ cs)
+insert-sync n s c cs d e h = (
+  rw d (sync-fits _ _ _ _ (h .0)),
+  subst (λ (x : State). Accepted false x (c ∷ cs)) (sym e) (any-hazards (nextOf (s .hazards) n) s (c ∷ cs) h),
+)
+
+with-accepted : (a : ℕ) (s : State) (c : List ℕ) (cs : List (List ℕ)) → Accepted false s (c ∷ cs) → Accepted false s (withOption a c cs)
+unfolding withOption draws wordAt halfOf kindOf
+with-accepted zero s c cs h = h
+with-accepted (suc zero) s c cs h = insert-sync 0x26 s c cs refl (after-load s) h
+with-accepted (suc (suc zero)) s c cs h = insert-sync 0x28 s c cs refl (after-tile s) h
+with-accepted (suc (suc (suc a))) s c cs h = insert-sync 0x27 s c cs refl (after-pipe s) h
+
+pub applied-accepted : (p : List ℕ) (s : State) (cs : List (List ℕ)) → Accepted false s cs → Accepted false s (applied p cs)
+unfolding applied
+applied-accepted p s [] h = tt
+applied-accepted [] s (c ∷ cs) h = h
+applied-accepted (a ∷ p) s (c ∷ cs) h = with-accepted a s c (applied p cs) (h .0, applied-accepted p (afterCommand s c) cs (h .1))

@@ -1,0 +1,81 @@
+-- What the repair uses of the synchronisation rule: with no hazard nothing is required, a sync requires nothing and clears its hazards, and two syncs
+-- clear what the longer clears. Assumes nothing.
+use mathlib.Core.Path.{_≡_, refl, sym, _∙_}
+use Prim.Native.Nat.{ℕ, zero, suc, max, _%_, _≤_}
+use native.Mathlib.Nat.{mod-lt}
+use native.Mathlib.Omega.{arith}
+use lib.Dec.{eqb, eqb→eq, lit<}
+use Rattle.rdp_command.specs.Kinds.{Kind, noOperation, triangle, textureRectangle, fillRectangle, syncLoad, syncTile, syncPipe, syncFull, load, setTile, attribute, free, kindOf}
+use Rattle.rdp_command.proofs.Tests.{below}
+use Rattle.rdp_check.specs.Hazards.{hazardsOf, requiredBy, nextOf, requiredOf}
+use Rattle.rdp_check.specs.Plan.{waitOf, clearedBy}
+use Rattle.rdp_check.proofs.HazardLaws.{next-low}
+
+idle-requires-none : (k : Kind) → requiredBy k (hazardsOf 0) ≡ 0
+idle-requires-none noOperation = refl
+idle-requires-none triangle = refl
+idle-requires-none textureRectangle = refl
+idle-requires-none fillRectangle = refl
+idle-requires-none syncLoad = refl
+idle-requires-none syncTile = refl
+idle-requires-none syncPipe = refl
+idle-requires-none syncFull = refl
+idle-requires-none load = refl
+idle-requires-none setTile = refl
+idle-requires-none attribute = refl
+idle-requires-none free = refl
+
+pub required-idle : (n : ℕ) → requiredOf 0 n ≡ 0
+unfolding requiredOf
+required-idle n = idle-requires-none (kindOf n)
+
+pub required-load : (m : ℕ) → requiredOf m 0x26 ≡ 0
+unfolding requiredOf kindOf
+required-load m = refl
+
+pub required-tile : (m : ℕ) → requiredOf m 0x28 ≡ 0
+unfolding requiredOf kindOf
+required-tile m = refl
+
+pub required-pipe : (m : ℕ) → requiredOf m 0x27 ≡ 0
+unfolding requiredOf kindOf
+required-pipe m = refl
+
+pub next-load : (m : ℕ) → nextOf m 0x26 ≡ clearedBy 1 m
+unfolding nextOf kindOf clearedBy
+next-load m =
+    let e : m % 16 % 4 ≡ m % 4 = omega arith in
+    sym (next-low m 0x26) ∙ eqb→eq _ _ (below 16 (λ k. eqb (nextOf k 0x26) (k % 4)) tt (m % 16) (mod-lt m (lit< tt))) ∙ e
+
+pub next-tile : (m : ℕ) → nextOf m 0x28 ≡ clearedBy 2 m
+unfolding nextOf kindOf clearedBy
+next-tile m =
+    let e : m % 16 % 2 ≡ m % 2 = omega arith in
+    sym (next-low m 0x28) ∙ eqb→eq _ _ (below 16 (λ k. eqb (nextOf k 0x28) (k % 2)) tt (m % 16) (mod-lt m (lit< tt))) ∙ e
+
+pub next-pipe : (m : ℕ) → nextOf m 0x27 ≡ clearedBy 3 m
+unfolding nextOf kindOf clearedBy
+next-pipe m = refl
+
+pub wait-some : (a : ℕ) → 25 ≤ waitOf (suc a)
+unfolding waitOf
+wait-some zero = omega arith
+wait-some (suc zero) = omega arith
+wait-some (suc (suc a)) = omega arith
+
+-- two syncs in a row clear what the longer of them clears
+pub two-as-one : (a b m : ℕ) → (d : ℕ) × (clearedBy b (clearedBy a m) ≡ clearedBy d m) × (waitOf d ≤ max (waitOf a) (waitOf b))
+unfolding clearedBy waitOf
+two-as-one zero b m = (b, refl, omega arith)
+two-as-one (suc zero) zero m = (1, refl, omega arith)
+two-as-one (suc zero) (suc zero) m = (1, omega arith, omega arith)
+two-as-one (suc zero) (suc (suc zero)) m = (2, omega arith, omega arith)
+two-as-one (suc zero) (suc (suc (suc b))) m = (3, refl, omega arith)
+two-as-one (suc (suc zero)) zero m = (2, refl, omega arith)
+two-as-one (suc (suc zero)) (suc zero) m = (2, omega arith, omega arith)
+two-as-one (suc (suc zero)) (suc (suc zero)) m = (2, omega arith, omega arith)
+two-as-one (suc (suc zero)) (suc (suc (suc b))) m = (3, refl, omega arith)
+two-as-one (suc (suc (suc a))) zero m = (3, refl, omega arith)
+two-as-one (suc (suc (suc a))) (suc zero) m = (3, refl, omega arith)
+two-as-one (suc (suc (suc a))) (suc (suc zero)) m = (3, refl, omega arith)
+two-as-one (suc (suc (suc a))) (suc (suc (suc b))) m = (3, refl, omega arith)

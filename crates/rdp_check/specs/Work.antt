@@ -1,0 +1,93 @@
+-- What the repair carries, and what its work buffer holds while it runs. No public contract cites this.
+use Prim.Native.Nat.{ℕ, zero, suc, _+_, _*_, _/_, _%_, min, _<_, _≤_}
+use mathlib.Core.Bool.{cond}
+use mathlib.Core.List.{List, [], _∷_, _++_}
+use mathlib.Core.Path.{_≡_}
+use lib.Dec.{eqb}
+use lib.ListN.{length, getD, drop}
+use Rattle.rdp_check.specs.Hazards.{nextOf, requiredOf}
+use Rattle.rdp_check.specs.Commands.{commandsOf, restOf}
+use Rattle.rdp_check.specs.Inserted.{syncWord, joined}
+use Rattle.rdp_check.specs.Plan.{Choice, chosen, best, applied}
+
+-- f 0, f 1, .., f (n - 1)
+unfoldable pub tabulate : ℕ → (ℕ → ℕ) → List ℕ
+tabulate zero f = []
+tabulate (suc n) f = f 0 ∷ tabulate n (λ k. f (suc k))
+
+-- ---- choices as numbers
+
+-- a choice without its total, in a byte: 16 times the option, and the next hazards
+unfoldable pub packed : Choice → ℕ
+packed ch = 16 * ch .option + ch .next
+
+-- a choice as one number, the smaller for the better choice: by the total, then by the option
+unfoldable pub rankOf : Choice → ℕ
+rankOf ch = 64 * ch .total + packed ch
+
+-- the rank of nothing before command number n at hazards m, where the rest costs f; more than any other where a sync is missing
+unfoldable pub bareRank : ℕ → (ℕ → ℕ) → ℕ → ℕ
+bareRank n f m = cond (eqb (requiredOf m n) 0) (64 * f (nextOf m n) + nextOf m n) 0x1000000
+
+-- the least rank at hazards m of nothing, Load, Tile and Pipe, by the ranks of nothing: 64 times the cycles and 16 times the option are added
+unfoldable pub leastRank : (ℕ → ℕ) → ℕ → ℕ
+leastRank g m = min (g m) (min (g (m % 4) + 1616) (min (g (m % 2) + 2144) (g 0 + 3248)))
+
+-- the totals and the choices before command number n at each of the sixteen hazard states, where the rest costs f
+unfoldable pub totalsOf : ℕ → (ℕ → ℕ) → List ℕ
+totalsOf n f = tabulate 16 (λ m. chosen n f m .total)
+
+unfoldable pub choicesOf : ℕ → (ℕ → ℕ) → List ℕ
+choicesOf n f = tabulate 16 (λ m. packed (chosen n f m))
+
+-- totals of at most 2,048 commands, and ranks
+abbrev pub Bounded : ℕ → List ℕ → Type 0
+Bounded b xs = (k : ℕ) → getD xs k 0 ≤ b
+
+-- ---- the work buffer, sixteen bytes for each command
+
+-- the command numbers noted in it, one at the start of each sixteen bytes
+unfoldable pub notedIn : List ℕ → ℕ → List ℕ
+notedIn work n = tabulate n (λ i. getD work (16 * i) 0)
+
+-- after the backward pass: for each command the choices at the sixteen hazard states
+unfoldable pub workOf : List ℕ → List ℕ
+workOf [] = []
+workOf (n ∷ ns) = choicesOf n (best ns) ++ workOf ns
+
+-- the plan of n commands that it then holds, from hazards m
+unfoldable pub optionsIn : ℕ → List ℕ → ℕ → List ℕ
+optionsIn zero work m = []
+optionsIn (suc n) work m = getD work m 0 / 16 ∷ optionsIn n (drop 16 work) (getD work m 0 % 16)
+
+-- the first n bytes are below b
+abbrev pub Below : ℕ → List ℕ → ℕ → Type 0
+Below b xs n = (k : ℕ) → k < n → getD xs k 0 < b
+
+-- ---- the words of a plan
+
+-- the number of words that a plan inserts
+unfoldable pub insertsOf : List ℕ → ℕ
+insertsOf [] = 0
+insertsOf (a ∷ p) = min a 1 + insertsOf p
+
+-- the command number of an option's sync, and its bytes
+unfoldable pub syncOf : ℕ → ℕ
+syncOf zero = 0
+syncOf (suc zero) = 0x26
+syncOf (suc (suc zero)) = 0x28
+syncOf (suc (suc (suc a))) = 0x27
+
+unfoldable pub optionBytes : ℕ → List ℕ
+optionBytes zero = []
+optionBytes (suc a) = syncWord (syncOf (suc a))
+
+-- the bytes of the commands of a list with the plan that the work buffer holds
+abbrev pub dueBytes : List ℕ → List ℕ → List ℕ
+dueBytes list work = joined (applied (optionsIn (length (commandsOf list)) work 0) (commandsOf list))
+
+-- a list of whole commands, of so many words
+pub record WholeList (list : List ℕ) (words : ℕ) : Type 0 where
+  pub long : length list ≡ 8 * words
+  pub few : words ≤ 2048
+  pub none : restOf list ≡ []
