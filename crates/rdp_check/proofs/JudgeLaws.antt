@@ -2,9 +2,10 @@
 use mathlib.Core.Path.{_≡_, refl, sym, _∙_, ap, subst}
 use mathlib.Core.Bool.{Bool, true, false, cond, _&&_, not}
 use mathlib.Core.List.{List, [], _∷_}
-use Prim.Native.Nat.{ℕ, zero, suc, _+_}
+use Prim.Native.Nat.{ℕ, zero, suc, _+_, _*_, _%_, _≤_}
 use native.Mathlib.Omega.{arith}
-use lib.Dec.{eqb}
+use lib.Dec.{eqb, ltb}
+use lib.ListN.{length}
 use borrow.Author.Tests.{eqb-true}
 use Rattle.rdp_command.proofs.Tests.{by-test}
 use Rattle.rdp_command.specs.Words.{halfOf, wordAt}
@@ -13,8 +14,9 @@ use Rattle.rdp_command.specs.Layout.{layout}
 use Rattle.rdp_command.specs.Commands.{commandOf}
 use Rattle.rdp_command.specs.Decode.{firstNumber, wholeWords, decodeOf}
 use Rattle.rdp_check.specs.Hazards.{nextOf, requiredOf}
+use Rattle.rdp_check.specs.Commands.{commandsOf, restOf}
 use Rattle.rdp_check.specs.Registers.{registersAfter}
-use Rattle.rdp_check.specs.Check.{State, afterCommand, draws, missing, refusalOf, refusalAt, Outcome, settle, judge}
+use Rattle.rdp_check.specs.Check.{State, afterCommand, draws, missing, refusalOf, refusalAt, Outcome, settle, judge, start, outcomeWithin}
 use Rattle.rdp_check.specs.Inserted.{syncWord}
 use Rattle.rdp_check.specs.Plan.{withOption, applied}
 use Rattle.rdp_check.proofs.LeastLaws.{Passes}
@@ -122,3 +124,31 @@ unfolding applied
 applied-accepted p s [] h = tt
 applied-accepted [] s (c ∷ cs) h = h
 applied-accepted (a ∷ p) s (c ∷ cs) h = with-accepted a s c (applied p cs) (h .0, applied-accepted p (afterCommand s c) cs (h .1))
+
+-- ---- without strictness a refusal is one of 1 to 6
+
+refusal-most : (ended draw ready fill : Bool) → refusalOf ended draw ready fill 0 ≤ 6
+unfolding refusalOf
+refusal-most true draw ready fill = omega arith
+refusal-most false false ready fill = omega arith
+refusal-most false true false fill = omega arith
+refusal-most false true true true = omega arith
+refusal-most false true true false = omega arith
+
+settled-most : (g at : ℕ) (s : State) (next : Outcome) → g ≤ 6 → next .number ≤ 6 → settle g at s next .number ≤ 6
+settled-most zero at s next h k = k
+settled-most (suc g) at s next h k = h
+
+judge-most : (s : State) (at : ℕ) (cs : List (List ℕ)) (rest : List ℕ) → judge false s at cs rest .number ≤ 6
+unfolding judge
+judge-most s at [] [] = omega arith
+judge-most s at [] (b ∷ rest) = omega arith
+judge-most s at (c ∷ cs) rest =
+    settled-most (refusalAt false s c) at s _ (refusal-most _ _ _ _) (judge-most (afterCommand s c) (at + wordsOf (firstNumber c)) cs rest)
+
+pub loose-most : (words : ℕ) (list : List ℕ) → outcomeWithin words false list .number ≤ 6
+unfolding outcomeWithin
+loose-most words list =
+    by-test (ltb (8 * words) (length list)) (λ t. rw t (omega arith))
+    (λ f.
+    by-test (eqb (length list % 8) 0) (λ t. rw (f, t) (judge-most start 0 (commandsOf list) (restOf list))) (λ g. rw (f, g) (omega arith)))

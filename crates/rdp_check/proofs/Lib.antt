@@ -11,3 +11,10 @@ pub mod LeastLaws
 pub mod JoinLaws
 pub mod JudgeLaws
 pub mod RepairedLaws
+pub mod TabulateLaws
+pub mod RankLaws
+pub mod WriteLaws
+pub mod PassLaws
+pub mod BackLaws
+pub mod ForwardLaws
+pub mod RepairLaws

@@ -98,6 +98,9 @@ module _ (s : List ℕ) (none : restOf s ≡ []) where
       omega
       (arith, length-repaired, inserts-most (plan (numbersOf (commandsOf s)) 0), plan-long (commandsOf s) 0, count-most)
 
+  pub inserts-few : 8 * insertsOf (plan (numbersOf (commandsOf s)) 0) ≤ length s
+  inserts-few = omega (arith, inserts-most (plan (numbersOf (commandsOf s)) 0), plan-long (commandsOf s) 0, count-most)
+
   -- a list made by inserting has the commands that it was made of
   commands-made : {ds : List (List ℕ)} {k : ℕ} → Inserted (commandsOf s) ds k → commandsOf (joined ds) ≡ ds
   commands-made {ds} i = commands-joined ds (alone-inserted i (parsed s .alone))

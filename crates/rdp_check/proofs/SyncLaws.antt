@@ -79,3 +79,10 @@ two-as-one (suc (suc (suc a))) zero m = (3, refl, omega arith)
 two-as-one (suc (suc (suc a))) (suc zero) m = (3, refl, omega arith)
 two-as-one (suc (suc (suc a))) (suc (suc zero)) m = (3, refl, omega arith)
 two-as-one (suc (suc (suc a))) (suc (suc (suc b))) m = (3, refl, omega arith)
+
+pub wait-most : (a : ℕ) → waitOf a ≤ 50
+unfolding waitOf
+wait-most zero = omega arith
+wait-most (suc zero) = omega arith
+wait-most (suc (suc zero)) = omega arith
+wait-most (suc (suc (suc a))) = omega arith

@@ -5,10 +5,12 @@ use mathlib.Core.List.{List, [], _∷_, _++_}
 use mathlib.Core.Path.{_≡_}
 use lib.Dec.{eqb}
 use lib.ListN.{length, getD, drop}
+use Rattle.rdp_command.specs.Words.{overwrite, pasted}
 use Rattle.rdp_check.specs.Hazards.{nextOf, requiredOf}
 use Rattle.rdp_check.specs.Commands.{commandsOf, restOf}
 use Rattle.rdp_check.specs.Inserted.{syncWord, joined}
-use Rattle.rdp_check.specs.Plan.{Choice, chosen, best, applied}
+use Rattle.rdp_check.specs.Plan.{Choice, chosen, best, plan, applied, numbersOf}
+use Rattle.rdp_check.specs.declared.repairing.Planned.{Planned}
 
 -- f 0, f 1, .., f (n - 1)
 unfoldable pub tabulate : ℕ → (ℕ → ℕ) → List ℕ
@@ -91,3 +93,29 @@ pub record WholeList (list : List ℕ) (words : ℕ) : Type 0 where
   pub long : length list ≡ 8 * words
   pub few : words ≤ 2048
   pub none : restOf list ≡ []
+
+-- a row of the backward pass: the totals and choices before command number n, by the totals after it
+pub record RowIs (n : ℕ) (after totals choices : List ℕ) : Type 0 where
+  pub totals-are : totals ≡ totalsOf n (λ k. getD after k 0)
+  pub choices-are : choices ≡ choicesOf n (λ k. getD after k 0)
+
+-- the numbers of a list's commands are noted, and what lies beyond the sixteen bytes a command is as it was
+pub record NotedIs (list work work′ : List ℕ) : Type 0 where
+  pub numbers : notedIn work′ (length (commandsOf list)) ≡ numbersOf (commandsOf list)
+  pub beyond : drop (16 * length (commandsOf list)) work′ ≡ drop (16 * length (commandsOf list)) work
+
+-- the backward pass over n commands: the least cycles, and the choices in place of the numbers
+pub record BackwardIs (n cycles : ℕ) (work work′ : List ℕ) : Type 0 where
+  pub least : cycles ≡ best (notedIn work n) 0
+  pub choices : work′ ≡ overwrite (workOf (notedIn work n)) work
+
+-- the plan of a list: its cycles, the words of the list with its syncs, and the choices at the front of the work buffer
+pub record PlannedIs (list work : List ℕ) (r : Planned) (work′ : List ℕ) : Type 0 where
+  pub cycles : r .cycles ≡ best (numbersOf (commandsOf list)) 0
+  pub words : r .words ≡ length list / 8 + insertsOf (plan (numbersOf (commandsOf list)) 0)
+  pub choices : work′ ≡ overwrite (workOf (numbersOf (commandsOf list))) work
+
+-- bytes written to an index, and the index after them
+pub record WrittenIs (bytes : List ℕ) (at next : ℕ) (out out′ : List ℕ) : Type 0 where
+  pub after : next ≡ at + length bytes
+  pub output : out′ ≡ pasted at bytes out

@@ -3,9 +3,12 @@ ghost use mathlib.Core.Path.{_≡_};
 ghost use Prim.Native.Nat.{_%_};
 ghost use Rattle.rdp_check.specs.Hazards.{transitionOf};
 ghost use Rattle.rdp_check.specs.Check.{checkOf};
+ghost use Rattle.rdp_check.specs.Repair.{RepairIs};
 
 mod hazards;
+mod plan;
 pub mod registers;
+mod repairing;
 mod table;
 mod walk;
 
@@ -52,4 +55,30 @@ pub fn check(list: &[u8]) -> Checked
     ensures { λ r. ⌜ r ≡ checkOf (now (list .entry)) ⌝ }
 {
     walk::check_within(list, 4096, true)
+}
+
+// Writes to out the list with the syncs that it misses inserted, at the least cycles. The work buffer lends sixteen bytes a command. Refusals 1 to 6 of
+// the list, where 7 to 9 are passed over, then 13 and 14 of the room; else 0, the words written and the cycles inserted.
+pub fn repair(list: &[u8], work: &mut [u8], out: &mut [u8]) -> Repaired
+    ensures { λ r. ⌜ RepairIs (now (list .entry)) (now (work .entry)) (now (out .entry)) r (now (work .exit)) (now (out .exit)) ⌝ }
+{
+    let checked = walk::check_within(list, 2048, false);
+    let number = checked.number;
+    if number != 0 {
+        return Repaired {
+            number,
+            place: checked.place,
+            cycles: 0,
+        };
+    }
+    let words = list.len() / 8;
+    let commands = repairing::count_commands(list, words);
+    if work.len() / 16 < commands {
+        return Repaired {
+            number: 13,
+            place: commands as u32,
+            cycles: 0,
+        };
+    }
+    repairing::repair_whole(list, words, commands, work, out)
 }

@@ -1,0 +1,13 @@
+-- `rdp_check::repairing::number_at` meets its contract, by that of `read_at`. Assumes nothing.
+use borrow.Author.Needs.{needs}
+use Rattle.rdp_check.proofs.repairing.number_at.Statement.{statement}
+use Rattle.rdp_check.proofs.repairing.number_at.Tie as tie
+
+read-at-requires : tie.Need-read-at-requires
+read-at-requires c κs = search needs
+
+returns : tie.Need-returns
+returns c = λ i. c .read-at .ensures i .number
+
+pub number-at-spec : {M : Type 1} → statement M
+number-at-spec = tie.close (tie.spec read-at-requires returns)

@@ -1,0 +1,83 @@
+// One step of the backward pass: the least total and its choice at each of the sixteen hazard states.
+ghost use mathlib.Core.Bool.{cond};
+ghost use mathlib.Core.Path.{_≡_};
+ghost use Prim.Native.Nat.{_+_, _*_, _<_, min};
+ghost use lib.Dec.{leb};
+ghost use lib.ListN.{getD};
+ghost use Rattle.rdp_check.specs.Hazards.{Agrees};
+ghost use Rattle.rdp_check.specs.Work.{tabulate, bareRank, leastRank, Bounded, RowIs};
+use crate::hazards;
+
+// The totals before a command at the sixteen hazard states, and the choices there: 16 times the option, and the next hazards.
+pub struct Row {
+    pub totals: [u32; 16],
+    pub choices: [u8; 16],
+}
+
+fn lesser(a: u32, b: u32) -> u32
+    ensures { λ r. ⌜ r ≡ min a b ⌝ }
+{
+    if a <= b {
+        return a;
+    }
+    b
+}
+
+// The rank of a command with nothing before it, by its entry of the table: 64 times the total after it, and the next hazards; more than any other where
+// a sync is missing.
+fn bare_rank(after: &[u32; 16], entry: u8) -> u32
+    requires { ⌜ Bounded 102400 (now after) ⌝ }
+    ensures { λ r. ⌜ r ≡ cond (leb 16 entry) 0x1000000 (64 * getD (now (after .entry)) entry 0 + entry) ⌝ }
+{
+    if 16 <= entry {
+        return 0x100_0000;
+    }
+    let next = entry as usize;
+    64 * after[next] + entry as u32
+}
+
+// The ranks of a command with nothing before it at the sixteen hazard states.
+fn bare_ranks(table: &[u8; 1024], number: u8, after: &[u32; 16]) -> [u32; 16]
+    requires { ⌜ Agrees (now table) × (number < 64) × Bounded 102400 (now after) ⌝ }
+    ensures { λ r. ⌜ r ≡ tabulate 16 (bareRank number (λ k. getD (now (after .entry)) k 0)) ⌝ }
+{
+    let mut ranks = [0u32; 16];
+    let mut m: u8 = 0;
+    while m < 16 {
+        let entry = hazards::entry(table, m, number);
+        let rank = bare_rank(after, entry);
+        ranks[m as usize] = rank;
+        m += 1;
+    }
+    ranks
+}
+
+// The least rank of nothing, Load, Tile and Pipe before a command: to the rank after the hazards that the option clears come 64 times its cycles and 16
+// times the option.
+fn least_rank(ranks: &[u32; 16], m: usize) -> u32
+    requires { ⌜ (m < 16) × Bounded 0x1000000 (now ranks) ⌝ }
+    ensures { λ r. ⌜ r ≡ leastRank (λ k. getD (now (ranks .entry)) k 0) m ⌝ }
+{
+    let pipe = ranks[0] + 3248;
+    let tile = lesser(ranks[m % 2] + 2144, pipe);
+    let load = lesser(ranks[m % 4] + 1616, tile);
+    lesser(ranks[m], load)
+}
+
+// The totals and choices before a command, from the totals after it.
+pub fn row_before(table: &[u8; 1024], number: u8, after: [u32; 16]) -> Row
+    requires { ⌜ Agrees (now table) × (number < 64) × Bounded 102400 after ⌝ }
+    ensures { λ r. ⌜ RowIs number after (r .totals) (r .choices) ⌝ }
+{
+    let ranks = bare_ranks(table, number, &after);
+    let mut totals = [0u32; 16];
+    let mut choices = [0u8; 16];
+    let mut m = 0;
+    while m < 16 {
+        let rank = least_rank(&ranks, m);
+        totals[m] = rank / 64;
+        choices[m] = (rank % 64) as u8;
+        m += 1;
+    }
+    Row { totals, choices }
+}
