@@ -1,6 +1,6 @@
 -- The judgement of commands by structural recursion, what strictness adds to it, and what inserted syncs do to it. Assumes nothing.
-use mathlib.Core.Path.{_≡_, refl, sym, _∙_, ap, subst}
-use mathlib.Core.Bool.{Bool, true, false, cond, _&&_, not}
+use mathlib.Core.Path.{_≡_, refl, sym, subst}
+use mathlib.Core.Bool.{Bool, true, false}
 use mathlib.Core.List.{List, [], _∷_}
 use Prim.Native.Nat.{ℕ, zero, suc, _+_, _*_, _%_, _≤_}
 use native.Mathlib.Omega.{arith}
@@ -13,7 +13,7 @@ use Rattle.rdp_command.specs.Kinds.{kindOf, wordsOf}
 use Rattle.rdp_command.specs.Layout.{layout}
 use Rattle.rdp_command.specs.Commands.{commandOf}
 use Rattle.rdp_command.specs.Decode.{firstNumber, wholeWords, decodeOf}
-use Rattle.rdp_check.specs.Hazards.{nextOf, requiredOf}
+use Rattle.rdp_check.specs.Hazards.{nextOf}
 use Rattle.rdp_check.specs.Commands.{commandsOf, restOf}
 use Rattle.rdp_check.specs.Registers.{registersAfter}
 use Rattle.rdp_check.specs.Check.{State, afterCommand, draws, missing, refusalOf, refusalAt, Outcome, settle, judge, start, outcomeWithin}

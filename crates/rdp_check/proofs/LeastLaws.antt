@@ -11,7 +11,7 @@ use Rattle.rdp_command.specs.Words.{halfOf, wordAt}
 use Rattle.rdp_command.specs.Decode.{firstNumber}
 use Rattle.rdp_check.specs.Hazards.{nextOf, requiredOf}
 use Rattle.rdp_check.specs.Inserted.{syncWord, Inserted, end, keep, insertLoad, insertTile, insertPipe}
-use Rattle.rdp_check.specs.Plan.{Choice, waitOf, clearedBy, withOption, totalWith, choiceOf, chosen, best, applied, cyclesOf, plan, numbersOf, planned, FirstOf, same, next, less}
+use Rattle.rdp_check.specs.Plan.{Choice, waitOf, clearedBy, withOption, totalWith, choiceOf, chosen, best, applied, cyclesOf, plan, planned, FirstOf, same, next, less}
 use Rattle.rdp_check.specs.Work.{syncOf}
 use Rattle.rdp_check.proofs.SyncLaws.{required-load, required-tile, required-pipe, next-load, next-tile, next-pipe, two-as-one, wait-some}
 use Rattle.rdp_check.proofs.ChoiceLaws.{Right, right-chosen}

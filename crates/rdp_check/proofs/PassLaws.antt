@@ -1,7 +1,7 @@
 -- The loops over a list of whole commands: what holds at their heads, and what a turn does. Assumes nothing.
-use mathlib.Core.Path.{_≡_, refl, sym, ap, ap₂, _∙_, subst}
+use mathlib.Core.Path.{_≡_, refl, sym, ap, _∙_}
 use mathlib.Core.List.{List, [], _∷_, _++_, append-nil, append-assoc}
-use Prim.Native.Nat.{ℕ, zero, suc, _+_, _*_, _-_, _/_, _%_, _<_, _≤_}
+use Prim.Native.Nat.{ℕ, _+_, _*_, _-_, _/_, _%_, _<_, _≤_}
 use native.Mathlib.Nat.{lt-of-not-le}
 use native.Mathlib.Decide.{decLe}
 use native.Mathlib.Omega.{arith}
@@ -9,7 +9,6 @@ use lib.ListN.{length, getD, take, drop, set, length-append, length-take, length
 use lib.Seq.{append-snoc, drop-set-lt}
 use Rattle.rdp_command.specs.Words.{wordAt, numberIn, overwrite, pasted}
 use Rattle.rdp_command.specs.Kinds.{wordsOf}
-use Rattle.rdp_command.specs.Decode.{firstNumber}
 use Rattle.rdp_command.proofs.Bytes.{length-overwrite, pasted-after}
 use Rattle.rdp_check.specs.Commands.{commandsFrom, commandsOf, restOf}
 use Rattle.rdp_check.specs.Inserted.{joined}
@@ -181,7 +180,7 @@ module _ {list : List ℕ} {words : ℕ} {work out₀ out : List ℕ} {at m i to
   unfolding applied
   all-written h =
       let none : dueFrom list work at i m ≡ [] =
-          ap (λ (cs : List (List ℕ)). joined (applied (optionsIn (length cs) (drop (16 * i) work) m) cs)) (none-left (w .reached) h) in
+      ap (λ (cs : List (List ℕ)). joined (applied (optionsIn (length cs) (drop (16 * i) work) m) cs)) (none-left (w .reached) h) in
       w .output ∙
       ap (λ (l : List ℕ). overwrite l out₀)
       (sym (append-nil (w .done)) ∙ ap (λ (l : List ℕ). w .done ++ l) (sym none) ∙ w .due)
@@ -219,16 +218,17 @@ module _ {list : List ℕ} {words : ℕ} {work out₀ out : List ℕ} {at m i to
 
     pub turn-fits : to + length (optionBytes (choice / 16)) + 8 * count ≤ length out
     turn-fits =
-        omega
-        (arith,
-        output-long,
-        w .index,
-        w .room,
-        ap length due-turn,
-        length-append (w .done ++ turn) (dueFrom list work (at + count) (i + 1) (choice % 16)),
-        length-append (w .done) turn,
-        length-append (optionBytes (choice / 16)) (take (8 * count) (drop (8 * at) list)),
-        command-long)
+        omega (
+          arith,
+          output-long,
+          w .index,
+          w .room,
+          ap length due-turn,
+          length-append (w .done ++ turn) (dueFrom list work (at + count) (i + 1) (choice % 16)),
+          length-append (w .done) turn,
+          length-append (optionBytes (choice / 16)) (take (8 * count) (drop (8 * at) list)),
+          command-long,
+        )
 
     pub in-list : 8 * (at + count) ≤ length list
     in-list = omega (arith, inside (w .reached) more n is count long, w .reached .whole .long)

@@ -1,16 +1,16 @@
 -- The least rank is the rank of the choice: ranks compare as the totals do, and by the option where they are equal. Assumes nothing.
-use mathlib.Core.Path.{_≡_, refl, sym, ap, _∙_}
+use mathlib.Core.Path.{_≡_, refl, ap, _∙_}
 use mathlib.Core.Bool.{Bool, true, false, cond, not}
 use mathlib.Core.List.{List}
 use Prim.Native.Nat.{ℕ, suc, _+_, _*_, _/_, _%_, min, _<_, _≤_}
 use native.Mathlib.Omega.{arith}
 use lib.Dec.{eqb, leb}
-use lib.ListN.{length, getD}
-use borrow.Author.Tests.{eq-eqb, eqb-true, eqb-false, leb-true, leb-false, ne-eqb, lt-leb, le-leb}
+use lib.ListN.{getD}
+use borrow.Author.Tests.{eq-eqb, leb-true, leb-false}
 use Rattle.rdp_command.proofs.Tests.{by-test}
 use Rattle.rdp_check.specs.Hazards.{nextOf, requiredOf, entryOf}
 use Rattle.rdp_check.specs.Plan.{Choice, waitOf, clearedBy, totalWith, choiceOf, prefer, chosen}
-use Rattle.rdp_check.specs.Work.{tabulate, packed, rankOf, bareRank, leastRank, Bounded}
+use Rattle.rdp_check.specs.Work.{tabulate, packed, rankOf, bareRank, leastRank}
 use Rattle.rdp_check.proofs.HazardLaws.{next-small, EntryParts, entry-parts}
 use Rattle.rdp_check.proofs.SyncLaws.{required-idle, wait-most}
 use Rattle.rdp_check.proofs.TabulateLaws.{getD-tabulate}
@@ -115,7 +115,7 @@ module _ (n : ℕ) (f : ℕ → ℕ) (most : (k : ℕ) → f k ≤ 102400) (m : 
   least-held ranks e h =
       let g : ℕ → ℕ = bareRank n f in
       let at : (k : ℕ) → k < 16 → getD ranks k 0 ≡ g k =
-          λ k s. ap (λ (l : List ℕ). getD l k 0) e ∙ getD-tabulate 16 g k s in
+      λ k s. ap (λ (l : List ℕ). getD l k 0) e ∙ getD-tabulate 16 g k s in
       rw (at m h, at (m % 4) (omega arith), at (m % 2) (omega arith), at 0 (omega arith)) least-is
 
   pub bare-most : (k : ℕ) → bareRank n f k ≤ 0x1000000

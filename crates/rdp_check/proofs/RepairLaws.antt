@@ -2,7 +2,7 @@
 use mathlib.Core.Path.{_≡_, refl, sym, ap, ap₂, _∙_, subst}
 use mathlib.Core.Bool.{false}
 use mathlib.Core.List.{List, [], _∷_, _++_}
-use Prim.Native.Nat.{ℕ, zero, suc, _+_, _*_, _/_, _%_, _<_, _≤_}
+use Prim.Native.Nat.{ℕ, zero, suc, _+_, _*_, _/_, _<_, _≤_}
 use native.Mathlib.Omega.{arith}
 use lib.ListN.{length, getD, take, drop, replicate, length-map, length-replicate}
 use lib.Seq.{take-at, drop-at}
@@ -13,16 +13,15 @@ use Rattle.rdp_check.specs.Commands.{commandsOf}
 use Rattle.rdp_check.specs.Check.{outcomeWithin, checked}
 use Rattle.rdp_check.specs.Inserted.{joined}
 use Rattle.rdp_check.specs.Plan.{best, plan, applied, numbersOf, planned}
-use Rattle.rdp_check.specs.Work.{notedIn, workOf, optionsIn, insertsOf, Below, dueBytes, WholeList, NotedIs, BackwardIs, PlannedIs}
+use Rattle.rdp_check.specs.Work.{notedIn, workOf, optionsIn, insertsOf, Below, dueBytes, WholeList, NotedIs, BackwardIs}
 use Rattle.rdp_check.specs.Repair.{repairedBytes, repairAnswer, roomed, repairOf, outAfter, workAfter, RepairIs}
 use Rattle.rdp_check.specs.declared.Checked.{Checked}
 use Rattle.rdp_check.specs.declared.Repaired.{Repaired}
-use Rattle.rdp_check.specs.declared.repairing.Planned.{Planned}
 use Rattle.rdp_check.proofs.PlaceLaws.{number-small}
 use Rattle.rdp_check.proofs.BackLaws.{length-work}
 use Rattle.rdp_check.proofs.ForwardLaws.{options-plan, work-below}
 use Rattle.rdp_check.proofs.JudgeLaws.{loose-most}
-use Rattle.rdp_check.proofs.RepairedLaws.{Sound, sound, count-most, length-repaired, repaired-most, least-repair}
+use Rattle.rdp_check.proofs.RepairedLaws.{sound, count-most, length-repaired, repaired-most, least-repair}
 
 -- ---- the work buffer from pass to pass
 
@@ -175,7 +174,7 @@ module _ (list work out : List ℕ) where
       repaired-is h cycles are-cycles out′ written =
           let fits : length (repairedBytes list) ≤ length out = omega arith in
           let start : take (8 * words) out′ ≡ repairedBytes list =
-              ap (take (8 * words)) written ∙ take-at (repairedBytes list) (drop (length (repairedBytes list)) out) (8 * words) long in
+          ap (take (8 * words)) written ∙ take-at (repairedBytes list) (drop (length (repairedBytes list)) out) (8 * words) long in
           record {
             answer = ap₂ (repairAnswer 0) is-words are-cycles ∙ rw (le-ltb _ _ enough, le-ltb _ _ fits) refl ∙ in-room;
             output = written;

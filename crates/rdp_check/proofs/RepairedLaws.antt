@@ -1,21 +1,20 @@
 -- The repaired list is a least repair of the given one, and a list that passes is repaired into itself. Assumes nothing.
 use mathlib.Core.Path.{_≡_, refl, sym, ap, _∙_, subst}
 use mathlib.Core.Bool.{Bool, true, false}
-use mathlib.Core.List.{List, [], _∷_, _++_}
-use Prim.Native.Nat.{ℕ, zero, suc, _+_, _*_, _/_, _%_, min, _<_, _≤_}
-use native.Mathlib.Nat.{le-refl}
+use mathlib.Core.List.{List, [], _∷_}
+use Prim.Native.Nat.{ℕ, zero, suc, _+_, _*_, _/_, _%_, min, _≤_}
 use native.Mathlib.Omega.{arith}
 use lib.Dec.{eqb, ltb}
 use lib.ListN.{length, length-append, length-map}
-use borrow.Author.Tests.{lt-ltb, le-ltb, ltb-true, ltb-false, eq-eqb, eqb-true}
+use borrow.Author.Tests.{le-ltb, ltb-false, eq-eqb, eqb-true}
 use Rattle.rdp_command.specs.Words.{halfOf, wordAt}
 use Rattle.rdp_command.specs.Kinds.{kindOf, wordsOf}
 use Rattle.rdp_command.specs.Decode.{firstNumber}
 use Rattle.rdp_command.proofs.Tests.{by-test}
-use Rattle.rdp_check.specs.Commands.{commandsOf, restOf, wordsIn}
-use Rattle.rdp_check.specs.Check.{start, judge, judgeList, outcomeWithin, outcomeOf}
-use Rattle.rdp_check.specs.Inserted.{syncWord, Inserted, end, keep, insertLoad, insertTile, insertPipe, joined, MadeByInserting}
-use Rattle.rdp_check.specs.Plan.{waitOf, withOption, best, plan, applied, cyclesOf, numbersOf, planned}
+use Rattle.rdp_check.specs.Commands.{commandsOf, restOf}
+use Rattle.rdp_check.specs.Check.{start, judgeList, outcomeWithin, outcomeOf}
+use Rattle.rdp_check.specs.Inserted.{Inserted, end, keep, insertLoad, insertTile, insertPipe, joined, MadeByInserting}
+use Rattle.rdp_check.specs.Plan.{withOption, best, plan, applied, cyclesOf, numbersOf, planned}
 use Rattle.rdp_check.specs.Work.{insertsOf}
 use Rattle.rdp_check.specs.Repair.{Makes, LeastRepair, repairedBytes, repairAnswer, roomed, repairOf}
 use Rattle.rdp_check.proofs.SyncLaws.{wait-some}

@@ -1,5 +1,5 @@
 -- An option's word, and what one command adds to the output. Assumes nothing.
-use mathlib.Core.Path.{_≡_, refl, sym, ap, ap₂, _∙_}
+use mathlib.Core.Path.{_≡_, refl, sym, ap, _∙_}
 use mathlib.Core.List.{List, [], _∷_, _++_, append-assoc}
 use Prim.Native.Nat.{ℕ, zero, suc, _+_, _*_, _/_, _%_, _<_, _≤_}
 use native.Mathlib.Nat.{not-suc-le-zero}
@@ -7,7 +7,7 @@ use native.Mathlib.Omega.{arith}
 use lib.ListN.{length, getD, take, drop, length-append, take-append-drop}
 use lib.Seq.{drop-drop, length-take-le}
 use Rattle.rdp_command.specs.Words.{overwrite, pasted}
-use Rattle.rdp_command.proofs.Bytes.{length-overwrite, pasted-after}
+use Rattle.rdp_command.proofs.Bytes.{pasted-after}
 use Rattle.rdp_check.specs.Inserted.{syncWord, joined}
 use Rattle.rdp_check.specs.Plan.{withOption, applied}
 use Rattle.rdp_check.specs.Work.{optionsIn, syncOf, optionBytes}

@@ -1,6 +1,6 @@
 -- Document 01, "Repair" and refusals 1 to 6, 13, 14: what the repair answers, what it writes, and what the written list is.
 use Prim.Native.Nat.{ℕ, _*_, _/_, _≤_}
-use mathlib.Core.Bool.{Bool, true, false, cond, _||_}
+use mathlib.Core.Bool.{true, false, cond, _||_}
 use mathlib.Core.List.{List}
 use mathlib.Core.Path.{_≡_}
 use lib.Dec.{eqb, ltb}

@@ -1,5 +1,5 @@
 -- `rdp_check::repair` meets its contract: the refusals of the list by the check's walk, those of the room and the repair by `RepairLaws`. Assumes nothing.
-use mathlib.Core.Path.{_≡_, refl, sym, ap, _∙_}
+use mathlib.Core.Path.{_≡_, refl, sym, _∙_}
 use mathlib.Core.Bool.{false}
 use native.Mathlib.Omega.{arith}
 use borrow.Author.Needs.{needs}

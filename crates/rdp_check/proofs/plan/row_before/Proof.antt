@@ -1,6 +1,5 @@
 -- `rdp_check::plan::row_before` meets its contract: after m turns the first m totals and choices stand. Assumes nothing.
 use mathlib.Core.Path.{_≡_, refl, ap, _∙_, subst, sym}
-use mathlib.Core.List.{List}
 use Prim.Native.Nat.{ℕ, _-_, _/_, _%_, _<_, _≤_}
 use native.Mathlib.Omega.{arith}
 use borrow.Author.Needs.{needs}
@@ -29,10 +28,11 @@ loop-holds c = (omega arith, refl, refl, (λ k h. absurd (omega arith)), (λ k h
 least-rank-requires : tie.Need-least-rank-requires Inv-loop μ-loop
 least-rank-requires c κs =
     let s = c .before .before .before in
-    let a = s .before .before .args in
-    (c .before .loop-test .taken,
-    subst (Bounded 0x1000000) (sym (s .bare-ranks .ensures))
-    (tabulate-most 16 _ _ (bare-most (a .number) (λ k. getD (a .t3) k 0) (s .before .before .pre .2) 0)))
+    let a = s .before .before .args in (
+      c .before .loop-test .taken,
+      subst (Bounded 0x1000000) (sym (s .bare-ranks .ensures))
+          (tabulate-most 16 _ _ (bare-most (a .number) (λ k. getD (a .t3) k 0) (s .before .before .pre .2) 0)),
+    )
 
 mul-totals : tie.Need-mul-totals Inv-loop μ-loop
 mul-totals c = search needs

@@ -3,7 +3,6 @@ use mathlib.Core.Path.{_≡_, refl, sym, ap, _∙_}
 use mathlib.Core.List.{List}
 use Prim.Native.Nat.{ℕ, suc, _*_, _-_, _<_, _≤_}
 use native.Mathlib.Omega.{arith}
-use borrow.Author.Needs.{needs}
 use lib.ListN.{length, getD, drop}
 use Rattle.rdp_check.specs.Plan.{best}
 use Rattle.rdp_check.specs.Work.{tabulate, notedIn}
@@ -67,10 +66,11 @@ slice-read-number c = omega (arith, length-now (c .before), room (c .before))
 row-before-requires : tie.Need-row-before-requires Inv-loop μ-loop
 row-before-requires c κs =
     let t = c .before in
-    let s = t .before .before .before in
-    (s .pre .0,
-    number-below (first-work t) (count t) (room t) (index t) (in-range t) _ (is-now t) _ (are-totals t) _ refl (s .pre .3),
-    totals-bounded (first-work t) (count t) (room t) (index t) (in-range t) _ (is-now t) _ (are-totals t) _ refl (s .pre .1))
+    let s = t .before .before .before in (
+      s .pre .0,
+      number-below (first-work t) (count t) (room t) (index t) (in-range t) _ (is-now t) _ (are-totals t) _ refl (s .pre .3),
+      totals-bounded (first-work t) (count t) (room t) (index t) (in-range t) _ (is-now t) _ (are-totals t) _ refl (s .pre .1),
+    )
 
 mul-copy-to : tie.Need-mul-copy-to Inv-loop μ-loop
 mul-copy-to c = omega arith
@@ -82,12 +82,13 @@ copy-to-requires : tie.Need-copy-to-requires Inv-loop μ-loop
 copy-to-requires c κs =
     let row = c .before .before .before in
     let t = row .before .before in
-    omega
-    (arith,
-    ap length (row .row-before .ensures .choices-are),
-    length-choices (getD (t .before .loop .work) (16 * index t) 0) (λ k. getD (t .before .loop .totals) k 0),
-    length-now t,
-    room t)
+    omega (
+      arith,
+      ap length (row .row-before .ensures .choices-are),
+      length-choices (getD (t .before .loop .work) (16 * index t) 0) (λ k. getD (t .before .loop .totals) k 0),
+      length-now t,
+      room t,
+    )
 
 loop-less : tie.Need-loop-less Inv-loop μ-loop
 loop-less c = omega arith

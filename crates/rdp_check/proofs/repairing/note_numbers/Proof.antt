@@ -1,9 +1,8 @@
 -- `rdp_check::repairing::note_numbers` meets its contract: the numbers noted and those of the commands left are the numbers of all. Assumes nothing.
-use mathlib.Core.Path.{_∙_}
 use Prim.Native.Nat.{_-_}
 use native.Mathlib.Omega.{arith}
 use borrow.Author.Needs.{needs}
-use Rattle.rdp_check.proofs.PassLaws.{count-few, one-more, inside, falls, Noting, noting-first, noting-next, note-room, noted-all}
+use Rattle.rdp_check.proofs.PassLaws.{count-few, inside, falls, Noting, noting-first, noting-next, note-room, noted-all}
 use Rattle.rdp_check.proofs.repairing.note_numbers.Statement.{statement}
 use Rattle.rdp_check.proofs.repairing.note_numbers.Tie as tie
 

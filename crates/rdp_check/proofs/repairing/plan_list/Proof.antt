@@ -1,5 +1,5 @@
 -- `rdp_check::repairing::plan_list` meets its contract: the passes one after the other, by `RepairLaws`. Assumes nothing.
-use mathlib.Core.Path.{_≡_, refl, sym, ap, ap₂, _∙_, subst}
+use mathlib.Core.Path.{_≡_, sym, ap, ap₂, _∙_, subst}
 use mathlib.Core.List.{List}
 use Prim.Native.Nat.{ℕ, _+_, _*_, _/_}
 use native.Mathlib.Omega.{arith}
@@ -26,11 +26,12 @@ backward-requires : tie.Need-backward-requires
 backward-requires c κs =
     let n = c .before .before .before .before .before in
     let s = n .before .before .before .before in
-    let w = s .pre .0 in
-    (c .before .before .step-table .ensures,
-    omega (arith, s .pre .1, count-most (s .args .list .now) (w .none), w .long, w .few),
-    omega (arith, s .pre .2, n .note-numbers .kept .1 .1 .0),
-    noted-below (s .args .list .now) (s .args .work .now) _ (n .note-numbers .ensures) _ (s .pre .1))
+    let w = s .pre .0 in (
+      c .before .before .step-table .ensures,
+      omega (arith, s .pre .1, count-most (s .args .list .now) (w .none), w .long, w .few),
+      omega (arith, s .pre .2, n .note-numbers .kept .1 .1 .0),
+      noted-below (s .args .list .now) (s .args .work .now) _ (n .note-numbers .ensures) _ (s .pre .1),
+    )
 
 -- after the backward pass
 module _ (b : tie.After-backward) where

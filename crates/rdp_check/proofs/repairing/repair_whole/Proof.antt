@@ -1,7 +1,7 @@
 -- `rdp_check::repairing::repair_whole` meets its contract: the plan, the output and the cleared work buffer, by `RepairLaws`. Assumes nothing.
-use mathlib.Core.Path.{_≡_, refl, sym, ap, _∙_}
+use mathlib.Core.Path.{_≡_, ap, _∙_}
 use mathlib.Core.List.{List}
-use Prim.Native.Nat.{ℕ, _+_, _*_, _/_, _≤_}
+use Prim.Native.Nat.{ℕ, _*_, _≤_}
 use native.Mathlib.Omega.{arith}
 use borrow.Author.Needs.{needs}
 use lib.ListN.{length, replicate}
@@ -66,11 +66,12 @@ returns c =
 
 write-plan-requires : tie.Need-write-plan-requires
 write-plan-requires c κs =
-    let p = c .before .before .before .before .before in
-    (whole-list (list p) (s p .args .words) (s p .pre .0) (s p .pre .1),
-    omega (arith, long p, room p),
-    choices-below (list p) (work p) (held p) (p .plan-list .ensures .choices),
-    omega (arith, ap length (due-held (list p) (work p) (held p) (p .plan-list .ensures .choices)), needed p .0, c .before .before .if1 .left))
+    let p = c .before .before .before .before .before in (
+      whole-list (list p) (s p .args .words) (s p .pre .0) (s p .pre .1),
+      omega (arith, long p, room p),
+      choices-below (list p) (work p) (held p) (p .plan-list .ensures .choices),
+      omega (arith, ap length (due-held (list p) (work p) (held p) (p .plan-list .ensures .choices)), needed p .0, c .before .before .if1 .left),
+    )
 
 mul-clear-2 : tie.Need-mul-clear-2
 mul-clear-2 c = omega (arith, few (c .before .before .before .before .before .before .before .before .before))

@@ -48,9 +48,10 @@ write-command-requires c κs =
     let words = c .before in
     let t = words .before .before .before in
     let w = t .before .loop .inv in
-    let more = t .loop-test .taken in
-    (in-list w more _ (words .before .number-at .ensures) _ (words .words-of .ensures),
-    turn-fits w more _ (words .before .number-at .ensures) _ (words .words-of .ensures))
+    let more = t .loop-test .taken in (
+      in-list w more _ (words .before .number-at .ensures) _ (words .words-of .ensures),
+      turn-fits w more _ (words .before .number-at .ensures) _ (words .words-of .ensures),
+    )
 
 add-at : tie.Need-add-at Inv-loop μ-loop
 add-at c =
