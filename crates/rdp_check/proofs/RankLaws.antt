@@ -6,11 +6,11 @@ use Prim.Native.Nat.{ℕ, suc, _+_, _*_, _/_, _%_, min, _<_, _≤_}
 use native.Mathlib.Omega.{arith}
 use lib.Dec.{eqb, leb}
 use lib.ListN.{getD}
-use borrow.Author.Tests.{eq-eqb, leb-true, leb-false}
+use borrow.Author.Tests.{eq-eqb, eqb-true, eqb-false, leb-true, leb-false}
 use Rattle.rdp_command.proofs.Tests.{by-test}
 use Rattle.rdp_check.specs.Hazards.{nextOf, requiredOf, entryOf}
 use Rattle.rdp_check.specs.Plan.{Choice, waitOf, clearedBy, totalWith, choiceOf, prefer, chosen}
-use Rattle.rdp_check.specs.Work.{tabulate, packed, rankOf, bareRank, leastRank}
+use Rattle.rdp_check.specs.Work.{tabulate, packed, rankOf, bareRank, syncedRank, leastRank}
 use Rattle.rdp_check.proofs.HazardLaws.{next-small, EntryParts, entry-parts}
 use Rattle.rdp_check.proofs.SyncLaws.{required-idle, wait-most}
 use Rattle.rdp_check.proofs.TabulateLaws.{getD-tabulate}
@@ -18,19 +18,18 @@ use Rattle.rdp_check.proofs.TabulateLaws.{getD-tabulate}
 -- ---- a command with nothing before it, by its entry of the table
 
 module _ (m n e : ℕ) (small : n < 64) (is-e : e ≡ entryOf m n) (f : ℕ → ℕ) where
-  parts : EntryParts m n e
-  parts = entry-parts m n e small is-e
+  missing-bit : e / 16 % 2 * 0x1000000 ≡ cond (eqb (requiredOf m n) 0) 0 0x1000000
+  unfolding entryOf
+  missing-bit =
+      by-test (eqb (requiredOf m n) 0)
+      (λ t. rw t (omega (arith, rw t at is-e, eqb-true (requiredOf m n) 0 t, next-small m n)))
+      (λ t. rw t (omega (arith, rw t at is-e, next-small m n)))
 
-  -- in the order of the rule's test, and not of the table's
-  by-missing : (b : Bool) → leb 16 e ≡ not b → e % 16 ≡ nextOf m n → cond (leb 16 e) 0x1000000 (64 * f e + e) ≡ cond b (64 * f (nextOf m n) + nextOf m n) 0x1000000
-  by-missing true t next =
-      let same : e ≡ nextOf m n = omega (arith, leb-false 16 e t) in
-      rw t (ap (λ (k : ℕ). 64 * f k + k) same)
-  by-missing false t next = rw t
-
-  pub bare-is : cond (leb 16 e) 0x1000000 (64 * f e + e) ≡ bareRank n f m
+  pub bare-is : 64 * f (e % 16) + e % 16 + e / 16 % 2 * 0x1000000 ≡ bareRank n f m
   unfolding bareRank
-  bare-is = by-missing (eqb (requiredOf m n) 0) (parts .missing) (parts .next)
+  bare-is =
+      let next = entry-parts m n e small is-e .next in
+      λ i. 64 * f (next i) + next i + missing-bit i
 
 -- ---- ranks compare as choices do
 
@@ -87,14 +86,16 @@ module _ (n : ℕ) (f : ℕ → ℕ) (most : (k : ℕ) → f k ≤ 102400) (m : 
   rank-pipe = rw (eq-eqb _ _ (required-idle n)) (omega arith)
 
   pub least-is : leastRank (bareRank n f) m ≡ rankOf (chosen n f m)
-  unfolding leastRank chosen clearedBy waitOf
+  unfolding leastRank syncedRank chosen clearedBy waitOf
   least-is =
+      let low : m % 4 % 2 ≡ m % 2 = omega arith in
       let g : ℕ → ℕ = bareRank n f in
       let r3 = choice-ranked 3 (omega arith) in
       let r2 = prefer-ranked 2 (choiceOf n f m 3) r3 in
       let r1 = prefer-ranked 1 (prefer n f m 2 (choiceOf n f m 3)) r2 in
-      rank-prefer 0 _ r1 (g m) _ (omega arith)
-      (rank-prefer 1 _ r2 (g (m % 4) + 1616) _ refl (rank-prefer 2 _ r3 (g (m % 2) + 2144) _ refl rank-pipe))
+      rw low
+      (rank-prefer 0 _ r1 (g m) _ (omega arith)
+      (rank-prefer 1 _ r2 (g (m % 4) + 1616) _ refl (rank-prefer 2 _ r3 (g (m % 2) + 2144) _ refl rank-pipe)))
 
   chosen-ranked : Ranked 0 (chosen n f m)
   unfolding chosen
@@ -109,16 +110,21 @@ module _ (n : ℕ) (f : ℕ → ℕ) (most : (k : ℕ) → f k ≤ 102400) (m : 
   unfolding rankOf packed
   choice-of = omega (arith, chosen-ranked .within, chosen-ranked .next)
 
-  -- ranks held in a list
-  pub least-held : (ranks : List ℕ) → ranks ≡ tabulate 16 (bareRank n f) → m < 16 → leastRank (λ k. getD ranks k 0) m ≡ rankOf (chosen n f m)
-  unfolding leastRank
-  least-held ranks e h =
-      let g : ℕ → ℕ = bareRank n f in
-      let at : (k : ℕ) → k < 16 → getD ranks k 0 ≡ g k =
-      λ k s. ap (λ (l : List ℕ). getD l k 0) e ∙ getD-tabulate 16 g k s in
-      rw (at m h, at (m % 4) (omega arith), at (m % 2) (omega arith), at 0 (omega arith)) least-is
-
-  pub bare-most : (k : ℕ) → bareRank n f k ≤ 0x1000000
+  pub bare-most : (k : ℕ) → bareRank n f k ≤ 0x2000000
   unfolding bareRank
   bare-most k =
-      by-test (eqb (requiredOf k n) 0) (λ t. rw t (omega (arith, most (nextOf k n), next-small k n))) (λ g. rw g (omega arith))
+      by-test (eqb (requiredOf k n) 0) (λ t. rw t (omega (arith, most (nextOf k n), next-small k n)))
+      (λ g. rw g (omega (arith, most (nextOf k n), next-small k n)))
+
+  -- ranks held in lists
+  pub least-held :
+      (ranks synced : List ℕ) → ranks ≡ tabulate 16 (bareRank n f) → synced ≡ tabulate 4 (syncedRank (λ k. getD ranks k 0)) → m < 16 →
+      min (getD ranks m 0) (getD synced (m % 4) 0) ≡ rankOf (chosen n f m)
+  unfolding leastRank syncedRank
+  least-held ranks synced e s h =
+      let g : ℕ → ℕ = bareRank n f in
+      let at : (k : ℕ) → k < 16 → getD ranks k 0 ≡ g k =
+      λ k small. ap (λ (l : List ℕ). getD l k 0) e ∙ getD-tabulate 16 g k small in
+      let after : getD synced (m % 4) 0 ≡ syncedRank (λ k. getD ranks k 0) (m % 4) =
+      ap (λ (l : List ℕ). getD l (m % 4) 0) s ∙ getD-tabulate 4 (syncedRank (λ k. getD ranks k 0)) (m % 4) (omega arith) in
+      rw (after, at m h, at (m % 4) (omega arith), at (m % 4 % 2) (omega arith), at 0 (omega arith)) least-is

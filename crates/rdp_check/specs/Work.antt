@@ -29,11 +29,15 @@ rankOf ch = 64 * ch .total + packed ch
 
 -- the rank of nothing before command number n at hazards m, where the rest costs f; more than any other where a sync is missing
 unfoldable pub bareRank : ℕ → (ℕ → ℕ) → ℕ → ℕ
-bareRank n f m = cond (eqb (requiredOf m n) 0) (64 * f (nextOf m n) + nextOf m n) 0x1000000
+bareRank n f m = 64 * f (nextOf m n) + nextOf m n + cond (eqb (requiredOf m n) 0) 0 0x1000000
 
--- the least rank at hazards m of nothing, Load, Tile and Pipe, by the ranks of nothing: 64 times the cycles and 16 times the option are added
+-- the least rank of Load, Tile and Pipe at hazards of which P and T are m, by the ranks of nothing: 64 times the cycles and 16 times the option are added
+unfoldable pub syncedRank : (ℕ → ℕ) → ℕ → ℕ
+syncedRank g m = min (g m + 1616) (min (g (m % 2) + 2144) (g 0 + 3248))
+
+-- the least rank of nothing, Load, Tile and Pipe at hazards m
 unfoldable pub leastRank : (ℕ → ℕ) → ℕ → ℕ
-leastRank g m = min (g m) (min (g (m % 4) + 1616) (min (g (m % 2) + 2144) (g 0 + 3248)))
+leastRank g m = min (g m) (syncedRank g (m % 4))
 
 -- the totals and the choices before command number n at each of the sixteen hazard states, where the rest costs f
 unfoldable pub totalsOf : ℕ → (ℕ → ℕ) → List ℕ
