@@ -14,11 +14,12 @@ use crate::Repaired;
 use crate::plan;
 use crate::table;
 
+// The number of the command at a place, from its first byte.
 fn number_at(list: &[u8], place: usize) -> u8
+    requires { ⌜ place < length (now list) / 8 ⌝ }
     ensures { λ r. ⌜ r ≡ numberIn (wordAt (now (list .entry)) place) ⌝ }
 {
-    let fields = rdp_command::read_at(list, place);
-    fields.number
+    list[8 * place] % 64
 }
 
 pub fn count_commands(list: &[u8], words: usize) -> usize
