@@ -120,9 +120,10 @@ unfolding notedIn tabulate
 noting-first list words work w h = record { reached = reached-first list words w; room = h; numbers = refl; long = refl; beyond = refl }
 
 module _ {list : List ℕ} {words : ℕ} {work₀ work : List ℕ} {at i : ℕ} (t : Noting list words work₀ work at i) where
-  pub noted-all : words ≤ at → NotedIs list work₀ work
+  pub noted-all : words ≤ at → NotedIs list work₀ i work
   noted-all h =
       record {
+        counted = all-passed (t .reached) h;
         numbers =
             ap (notedIn work) (sym (all-passed (t .reached) h)) ∙
             sym (append-nil (notedIn work i)) ∙

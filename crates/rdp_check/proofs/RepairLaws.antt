@@ -39,9 +39,9 @@ numbers-small (c ∷ cs) (suc k) = numbers-small cs k
 work-long : (cs : List (List ℕ)) → length (workOf (numbersOf cs)) ≡ 16 * length cs
 work-long cs = length-work (numbersOf cs) ∙ ap (λ (k : ℕ). 16 * k) (length-map cs firstNumber)
 
-module _ (list work noted : List ℕ) (is-noted : NotedIs list work noted) (count : ℕ) (is-count : count ≡ length (commandsOf list)) where
+module _ (list work noted : List ℕ) (count : ℕ) (is-noted : NotedIs list work count noted) where
   noted-are : notedIn noted count ≡ numbersOf (commandsOf list)
-  noted-are = ap (notedIn noted) is-count ∙ is-noted .numbers
+  noted-are = ap (notedIn noted) (is-noted .counted) ∙ is-noted .numbers
 
   pub noted-below : Below 64 (notedIn noted count) count
   noted-below k h = subst (λ (l : List ℕ). getD l k 0 < 64) (sym noted-are) (numbers-small (commandsOf list) k)

@@ -103,8 +103,9 @@ pub record RowIs (n : ℕ) (after totals choices : List ℕ) : Type 0 where
   pub totals-are : totals ≡ totalsOf n (λ k. getD after k 0)
   pub choices-are : choices ≡ choicesOf n (λ k. getD after k 0)
 
--- the numbers of a list's commands are noted, and what lies beyond the sixteen bytes a command is as it was
-pub record NotedIs (list work work′ : List ℕ) : Type 0 where
+-- the numbers of a list's commands are noted and counted, and what lies beyond the sixteen bytes a command is as it was
+pub record NotedIs (list work : List ℕ) (count : ℕ) (work′ : List ℕ) : Type 0 where
+  pub counted : count ≡ length (commandsOf list)
   pub numbers : notedIn work′ (length (commandsOf list)) ≡ numbersOf (commandsOf list)
   pub beyond : drop (16 * length (commandsOf list)) work′ ≡ drop (16 * length (commandsOf list)) work
 
@@ -113,8 +114,9 @@ pub record BackwardIs (n cycles : ℕ) (work work′ : List ℕ) : Type 0 where
   pub least : cycles ≡ best (notedIn work n) 0
   pub choices : work′ ≡ overwrite (workOf (notedIn work n)) work
 
--- the plan of a list: its cycles, the words of the list with its syncs, and the choices at the front of the work buffer
+-- the plan of a list: its commands, its cycles, the words of the list with its syncs, and the choices at the front of the work buffer
 pub record PlannedIs (list work : List ℕ) (r : Planned) (work′ : List ℕ) : Type 0 where
+  pub commands : r .commands ≡ length (commandsOf list)
   pub cycles : r .cycles ≡ best (numbersOf (commandsOf list)) 0
   pub words : r .words ≡ length list / 8 + insertsOf (plan (numbersOf (commandsOf list)) 0)
   pub choices : work′ ≡ overwrite (workOf (numbersOf (commandsOf list))) work

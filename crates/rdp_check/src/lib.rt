@@ -72,13 +72,18 @@ pub fn repair(list: &[u8], work: &mut [u8], out: &mut [u8]) -> Repaired
         };
     }
     let words = list.len() / 8;
+    let room = work.len() / 16;
+    if words <= room {
+        return repairing::repair_whole(list, words, work, out);
+    }
     let commands = repairing::count_commands(list, words);
-    if work.len() / 16 < commands {
+    let place = commands as u32;
+    if room < commands {
         return Repaired {
             number: 13,
-            place: commands as u32,
+            place,
             cycles: 0,
         };
     }
-    repairing::repair_whole(list, words, commands, work, out)
+    repairing::repair_whole(list, words, work, out)
 }

@@ -36,10 +36,10 @@ pub fn count_commands(list: &[u8], words: usize) -> usize
     count
 }
 
-// Notes the number of each command at the start of its sixteen bytes of work.
-fn note_numbers(list: &[u8], words: usize, work: &mut [u8])
+// Notes the number of each command at the start of its sixteen bytes of work, and answers how many there are.
+fn note_numbers(list: &[u8], words: usize, work: &mut [u8]) -> usize
     requires { ⌜ WholeList (now list) words × (16 * length (commandsOf (now list)) ≤ length (now work)) ⌝ }
-    ensures { λ _. ⌜ NotedIs (now (list .entry)) (now (work .entry)) (now (work .exit)) ⌝ }
+    ensures { λ r. ⌜ NotedIs (now (list .entry)) (now (work .entry)) r (now (work .exit)) ⌝ }
 {
     let mut at: usize = 0;
     let mut i: usize = 0;
@@ -49,6 +49,7 @@ fn note_numbers(list: &[u8], words: usize, work: &mut [u8])
         at += rdp_command::words_of(number);
         i += 1;
     }
+    i
 }
 
 // Copies src to an index of out.
@@ -186,54 +187,52 @@ fn clear(work: &mut [u8], n: usize)
     }
 }
 
-// The least cycles of a list, and its words with the plan's syncs.
+// The commands of a list, its least cycles, and its words with the plan's syncs.
 pub struct Planned {
+    pub commands: usize,
     pub cycles: u32,
     pub words: usize,
 }
 
 // Leaves the choices at each command in the work buffer.
-fn plan_list(list: &[u8], words: usize, commands: usize, work: &mut [u8]) -> Planned
-    requires { ⌜ WholeList (now list) words × (commands ≡ length (commandsOf (now list))) × (16 * commands ≤ length (now work)) ⌝ }
+fn plan_list(list: &[u8], words: usize, work: &mut [u8]) -> Planned
+    requires { ⌜ WholeList (now list) words × (16 * length (commandsOf (now list)) ≤ length (now work)) ⌝ }
     ensures { λ r. ⌜ PlannedIs (now (list .entry)) (now (work .entry)) r (now (work .exit)) ⌝ }
 {
-    note_numbers(list, words, work);
+    let commands = note_numbers(list, words, work);
     let table = table::step_table();
     let cycles = backward(&table, work, commands);
-    let inserts = count_inserts(work, commands);
+    let total = words + count_inserts(work, commands);
     Planned {
+        commands,
         cycles,
-        words: words + inserts,
+        words: total,
     }
 }
 
 // Repairs a list that none of refusals 1 to 6 holds for, where the work buffer has sixteen bytes for each command.
-pub fn repair_whole(
-    list: &[u8],
-    words: usize,
-    commands: usize,
-    work: &mut [u8],
-    out: &mut [u8],
-) -> Repaired
-    requires { ⌜ (outcomeWithin 2048 false (now list) .number ≡ 0) × (words ≡ length (now list) / 8) × (commands ≡ length (commandsOf (now list)))
-        × (16 * commands ≤ length (now work)) ⌝ }
+pub fn repair_whole(list: &[u8], words: usize, work: &mut [u8], out: &mut [u8]) -> Repaired
+    requires { ⌜ (outcomeWithin 2048 false (now list) .number ≡ 0) × (words ≡ length (now list) / 8)
+        × (16 * length (commandsOf (now list)) ≤ length (now work)) ⌝ }
     ensures { λ r. ⌜ RepairIs (now (list .entry)) (now (work .entry)) (now (out .entry)) r (now (work .exit)) (now (out .exit)) ⌝ }
 {
-    let planned = plan_list(list, words, commands, work);
+    let planned = plan_list(list, words, work);
     let needed = planned.words;
+    let used = 16 * planned.commands;
+    let place = needed as u32;
     if out.len() / 8 < needed {
-        clear(work, 16 * commands);
+        clear(work, used);
         return Repaired {
             number: 14,
-            place: needed as u32,
+            place,
             cycles: 0,
         };
     }
     write_plan(list, words, work, out);
-    clear(work, 16 * commands);
+    clear(work, used);
     Repaired {
         number: 0,
-        place: needed as u32,
+        place,
         cycles: planned.cycles,
     }
 }

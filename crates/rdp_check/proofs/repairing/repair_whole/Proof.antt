@@ -15,7 +15,7 @@ use Rattle.rdp_check.proofs.repairing.repair_whole.Tie as tie
 plan-list-requires : tie.Need-plan-list-requires
 plan-list-requires c κs =
     let s = c .before .before .before .before in
-    (whole-list (s .args .list .now) (s .args .words) (s .pre .0) (s .pre .1), s .pre .2, s .pre .3)
+    (whole-list (s .args .list .now) (s .args .words) (s .pre .0) (s .pre .1), s .pre .2)
 
 -- after the plan is made
 module _ (p : tie.After-plan-list) where
@@ -29,58 +29,55 @@ module _ (p : tie.After-plan-list) where
   work = s .args .work .now
 
   abbrev held : List ℕ
-  held = p .plan-list .last .1 .1 .1 .0
+  held = p .plan-list .last .1 .1 .0
+
+  abbrev count : ℕ
+  count = p .plan-list .result .commands
 
   long : length held ≡ length work
-  long = p .plan-list .kept .1 .1 .1 .0
+  long = p .plan-list .kept .1 .1 .0
 
   needed : (length (repairedBytes list) ≡ 8 * p .plan-list .result .words) × (p .plan-list .result .words ≤ 4096)
   needed = words-needed list (s .pre .0) _ (p .plan-list .ensures .words)
 
-  room : 16 * length (commandsOf list) ≤ length work
-  room = omega (arith, s .pre .2, s .pre .3)
+  few : count ≤ 2048
+  few = omega (arith, p .plan-list .ensures .commands, commands-few list (s .pre .0))
 
-  few : s .args .commands ≤ 2048
-  few = omega (arith, s .pre .2, commands-few list (s .pre .0))
+  room : 16 * count ≤ length held
+  room = omega (arith, p .plan-list .ensures .commands, s .pre .2, long)
 
-  cleared-is : (work′ : List ℕ) → work′ ≡ overwrite (replicate (16 * s .args .commands) 0) held → work′ ≡ overwrite (replicate (16 * length (commandsOf list)) 0) work
-  cleared-is work′ e = e ∙ work-cleared list work held (p .plan-list .ensures .choices) (s .args .commands) (s .pre .2)
+  cleared-is : (work′ : List ℕ) → work′ ≡ overwrite (replicate (16 * count) 0) held → work′ ≡ overwrite (replicate (16 * length (commandsOf list)) 0) work
+  cleared-is work′ e = e ∙ work-cleared list work held (p .plan-list .ensures .choices) count (p .plan-list .ensures .commands)
 
-mul-clear : tie.Need-mul-clear
-mul-clear c = omega (arith, few (c .before .before .before .before))
+mul-used : tie.Need-mul-used
+mul-used c = omega (arith, few (c .before .before .before))
+
+cast-place : tie.Need-cast-place
+cast-place c = omega (arith, needed (c .before .before .before) .1)
 
 clear-requires : tie.Need-clear-requires
-clear-requires c κs = let p = c .before .before .before .before in omega (arith, long p, s p .pre .3)
-
-cast-t17 : tie.Need-cast-t17
-cast-t17 c = omega (arith, needed (c .before .before .before .before .before .before .before) .1)
+clear-requires c κs = room (c .before .before .before .before .before)
 
 same-length : tie.Need-same-length
 same-length c = search needs
 
 returns : tie.Need-returns
 returns c =
-    let p = c .before .before .before .before .before .before .before in
-    refused-out (list p) (work p) (s p .args .out .now) (s p .pre .0) (room p) _ (needed p .0) _ (cleared-is p _ (c .before .before .clear .ensures))
+    let p = c .before .before .before .before .before .before .before .before in
+    refused-out (list p) (work p) (s p .args .out .now) (s p .pre .0) (s p .pre .2) _ (needed p .0) _ (cleared-is p _ (c .before .before .clear .ensures))
     (c .before .before .before .before .if1 .taken)
 
 write-plan-requires : tie.Need-write-plan-requires
 write-plan-requires c κs =
-    let p = c .before .before .before .before .before in (
+    let p = c .before .before .before .before .before .before in (
       whole-list (list p) (s p .args .words) (s p .pre .0) (s p .pre .1),
-      omega (arith, long p, room p),
+      omega (arith, long p, s p .pre .2),
       choices-below (list p) (work p) (held p) (p .plan-list .ensures .choices),
       omega (arith, ap length (due-held (list p) (work p) (held p) (p .plan-list .ensures .choices)), needed p .0, c .before .before .if1 .left),
     )
 
-mul-clear-2 : tie.Need-mul-clear-2
-mul-clear-2 c = omega (arith, few (c .before .before .before .before .before .before .before .before .before))
-
 clear-requires-2 : tie.Need-clear-requires-2
-clear-requires-2 c κs = let p = c .before .before .before .before .before .before .before .before .before in omega (arith, long p, s p .pre .3)
-
-cast-t25 : tie.Need-cast-t25
-cast-t25 c = omega (arith, needed (c .before .before .before .before .before .before .before .before .before .before .before .before) .1)
+clear-requires-2 c κs = room (c .before .before .before .before .before .before .before .before .before .before)
 
 same-length-2 : tie.Need-same-length-2
 same-length-2 c = search needs
@@ -90,10 +87,10 @@ same-length-3 c = search needs
 
 returns-2 : tie.Need-returns-2
 returns-2 c =
-    let p = c .before .before .before .before .before .before .before .before .before .before .before .before in
     let w = c .before .before .before .before .before .before in
+    let p = c .before .before .before .before .before .before .before .before .before .before .before .before .before in
     let out : List ℕ = s p .args .out .now in
-    repaired-is (list p) (work p) out (s p .pre .0) (room p) _ (needed p .0) _ (cleared-is p _ (c .before .before .clear2 .ensures))
+    repaired-is (list p) (work p) out (s p .pre .0) (s p .pre .2) _ (needed p .0) _ (cleared-is p _ (c .before .before .clear2 .ensures))
     (w .before .before .before .if1 .left) _ (p .plan-list .ensures .cycles) _
     (w .write-plan .ensures ∙ ap (λ (l : List ℕ). overwrite l out) (due-held (list p) (work p) (held p) (p .plan-list .ensures .choices)))
 
@@ -102,15 +99,13 @@ repair-whole-spec =
     tie.close
     (tie.spec
     plan-list-requires
-    mul-clear
+    mul-used
+    cast-place
     clear-requires
-    cast-t17
     same-length
     returns
     write-plan-requires
-    mul-clear-2
     clear-requires-2
-    cast-t25
     same-length-2
     same-length-3
     returns-2)
