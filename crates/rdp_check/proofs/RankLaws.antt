@@ -1,17 +1,17 @@
 -- The least rank is the rank of the choice: ranks compare as the totals do, and by the option where they are equal. Assumes nothing.
 use mathlib.Core.Path.{_≡_, refl, ap, _∙_}
-use mathlib.Core.Bool.{Bool, true, false, cond, not}
+use mathlib.Core.Bool.{cond}
 use mathlib.Core.List.{List}
 use Prim.Native.Nat.{ℕ, suc, _+_, _*_, _/_, _%_, min, _<_, _≤_}
 use native.Mathlib.Omega.{arith}
 use lib.Dec.{eqb, leb}
 use lib.ListN.{getD}
-use borrow.Author.Tests.{eq-eqb, eqb-true, eqb-false, leb-true, leb-false}
+use borrow.Author.Tests.{eq-eqb, eqb-true, leb-true, leb-false}
 use Rattle.rdp_command.proofs.Tests.{by-test}
 use Rattle.rdp_check.specs.Hazards.{nextOf, requiredOf, entryOf}
 use Rattle.rdp_check.specs.Plan.{Choice, waitOf, clearedBy, totalWith, choiceOf, prefer, chosen}
 use Rattle.rdp_check.specs.Work.{tabulate, packed, rankOf, bareRank, syncedRank, leastRank}
-use Rattle.rdp_check.proofs.HazardLaws.{next-small, EntryParts, entry-parts}
+use Rattle.rdp_check.proofs.HazardLaws.{next-small, entry-parts}
 use Rattle.rdp_check.proofs.SyncLaws.{required-idle, wait-most}
 use Rattle.rdp_check.proofs.TabulateLaws.{getD-tabulate}
 
