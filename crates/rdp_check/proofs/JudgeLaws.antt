@@ -18,7 +18,7 @@ use Rattle.rdp_check.specs.Commands.{commandsOf, restOf}
 use Rattle.rdp_check.specs.Registers.{registersAfter}
 use Rattle.rdp_check.specs.Check.{State, afterCommand, draws, missing, refusalOf, refusalAt, Outcome, settle, judge, start, outcomeWithin}
 use Rattle.rdp_check.specs.Inserted.{syncWord}
-use Rattle.rdp_check.specs.Plan.{withOption, applied}
+use Rattle.rdp_check.specs.Plan.{syncOf, withOption, applied}
 use Rattle.rdp_check.proofs.LeastLaws.{Passes}
 
 -- no command is refused
@@ -113,7 +113,7 @@ insert-sync n s c cs d e h = (
 )
 
 with-accepted : (a : ℕ) (s : State) (c : List ℕ) (cs : List (List ℕ)) → Accepted false s (c ∷ cs) → Accepted false s (withOption a c cs)
-unfolding withOption draws wordAt halfOf kindOf
+unfolding withOption syncOf draws wordAt halfOf kindOf
 with-accepted zero s c cs h = h
 with-accepted (suc zero) s c cs h = insert-sync 0x26 s c cs refl (after-load s) h
 with-accepted (suc (suc zero)) s c cs h = insert-sync 0x28 s c cs refl (after-tile s) h

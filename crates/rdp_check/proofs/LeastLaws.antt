@@ -11,8 +11,7 @@ use Rattle.rdp_command.specs.Words.{halfOf, wordAt}
 use Rattle.rdp_command.specs.Decode.{firstNumber}
 use Rattle.rdp_check.specs.Hazards.{nextOf, requiredOf}
 use Rattle.rdp_check.specs.Inserted.{syncWord, Inserted, end, keep, insertLoad, insertTile, insertPipe}
-use Rattle.rdp_check.specs.Plan.{Choice, waitOf, clearedBy, withOption, totalWith, choiceOf, chosen, best, applied, cyclesOf, plan, planned, FirstOf, same, next, less}
-use Rattle.rdp_check.specs.Work.{syncOf}
+use Rattle.rdp_check.specs.Plan.{syncOf, Choice, waitOf, clearedBy, withOption, totalWith, choiceOf, chosen, best, applied, cyclesOf, plan, planned, FirstOf, same, next, less}
 use Rattle.rdp_check.proofs.SyncLaws.{required-load, required-tile, required-pipe, next-load, next-tile, next-pipe, two-as-one, wait-some}
 use Rattle.rdp_check.proofs.ChoiceLaws.{Right, right-chosen}
 
@@ -24,7 +23,7 @@ Passes m (c ∷ cs) = (requiredOf m (firstNumber c) ≡ 0) × Passes (nextOf m (
 -- ---- one command with an option before it
 
 with-inserted : (a : ℕ) {c : List ℕ} {cs ds : List (List ℕ)} {k : ℕ} → Inserted cs ds k → Inserted (c ∷ cs) (withOption a c ds) (waitOf a + k)
-unfolding withOption waitOf
+unfolding withOption syncOf waitOf
 with-inserted zero {c} {cs} {ds} {k} h = subst (λ (j : ℕ). Inserted (c ∷ cs) (c ∷ ds) j) (omega arith) (keep h)
 with-inserted (suc zero) h = insertLoad (keep h)
 with-inserted (suc (suc zero)) h = insertTile (keep h)
@@ -38,14 +37,14 @@ abbrev PassesAfter : ℕ → ℕ → List ℕ → List (List ℕ) → Type 0
 PassesAfter m a c ds = Passes (clearedBy a m) (c ∷ ds)
 
 with-passes : (a m : ℕ) (c : List ℕ) (ds : List (List ℕ)) → PassesAfter m a c ds → Passes m (withOption a c ds)
-unfolding withOption clearedBy wordAt halfOf
+unfolding withOption syncOf clearedBy wordAt halfOf
 with-passes zero m c ds h = h
 with-passes (suc zero) m c ds h = (required-load m, passes-at (c ∷ ds) (sym (next-load m)) h)
 with-passes (suc (suc zero)) m c ds h = (required-tile m, passes-at (c ∷ ds) (sym (next-tile m)) h)
 with-passes (suc (suc (suc a))) m c ds h = (required-pipe m, passes-at (c ∷ ds) (sym (next-pipe m)) h)
 
 passes-with : (a m : ℕ) (c : List ℕ) (ds : List (List ℕ)) → Passes m (withOption a c ds) → PassesAfter m a c ds
-unfolding withOption clearedBy wordAt halfOf
+unfolding withOption syncOf clearedBy wordAt halfOf
 passes-with zero m c ds h = h
 passes-with (suc zero) m c ds h = passes-at (c ∷ ds) (next-load m) (h .1)
 passes-with (suc (suc zero)) m c ds h = passes-at (c ∷ ds) (next-tile m) (h .1)
@@ -200,12 +199,6 @@ passes-sync zero m ds h = passes-at ds (next-load m) (h .1)
 passes-sync (suc zero) m ds h = passes-at ds (next-tile m) (h .1)
 passes-sync (suc (suc a)) m ds h = passes-at ds (next-pipe m) (h .1)
 
-with-sync : (a : ℕ) (c : List ℕ) (cs : List (List ℕ)) → syncWord (syncOf (suc a)) ∷ c ∷ cs ≡ withOption (suc a) c cs
-unfolding syncOf withOption
-with-sync zero c cs = refl
-with-sync (suc zero) c cs = refl
-with-sync (suc (suc a)) c cs = refl
-
 -- an option for each command makes the list
 pub record Single (cs ds : List (List ℕ)) (k : ℕ) : Type 0 where
   pub options : List ℕ
@@ -214,7 +207,7 @@ pub record Single (cs ds : List (List ℕ)) (k : ℕ) : Type 0 where
   pub waits : cyclesOf options ≡ k
 
 single-keep : {c : List ℕ} {cs ds : List (List ℕ)} {k : ℕ} → Single cs ds k → Single (c ∷ cs) (c ∷ ds) k
-unfolding applied cyclesOf withOption waitOf
+unfolding applied cyclesOf withOption syncOf waitOf
 single-keep {c} r = record {
   options = 0 ∷ r .options;
   one-each = ap suc (r .one-each);
@@ -223,11 +216,11 @@ single-keep {c} r = record {
 }
 
 single-insert : (a : ℕ) {c : List ℕ} {cs ds : List (List ℕ)} {k : ℕ} → Single cs ds k → Single (c ∷ cs) (syncWord (syncOf (suc a)) ∷ c ∷ ds) (waitOf (suc a) + k)
-unfolding applied cyclesOf
+unfolding applied cyclesOf withOption
 single-insert a {c} {ds} r = record {
   options = suc a ∷ r .options;
   one-each = ap suc (r .one-each);
-  makes = ap (withOption (suc a) c) (r .makes) ∙ sym (with-sync a c ds);
+  makes = ap (λ (x : List (List ℕ)). syncWord (syncOf (suc a)) ∷ c ∷ x) (r .makes);
   waits = omega (arith, r .waits);
 }
 

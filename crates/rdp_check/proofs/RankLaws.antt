@@ -10,7 +10,7 @@ use borrow.Author.Tests.{eq-eqb, eqb-true, leb-true, leb-false}
 use Rattle.rdp_command.proofs.Tests.{by-test}
 use Rattle.rdp_check.specs.Hazards.{nextOf, requiredOf, entryOf}
 use Rattle.rdp_check.specs.Plan.{Choice, waitOf, clearedBy, totalWith, choiceOf, prefer, chosen}
-use Rattle.rdp_check.specs.Work.{tabulate, packed, rankOf, bareRank, syncedRank, leastRank}
+use Rattle.rdp_check.specs.Work.{tabulate, packed, bareRank, syncedRank}
 use Rattle.rdp_check.proofs.HazardLaws.{next-small, entry-parts}
 use Rattle.rdp_check.proofs.SyncLaws.{required-idle, wait-most}
 use Rattle.rdp_check.proofs.TabulateLaws.{getD-tabulate}
@@ -32,6 +32,9 @@ module _ (m n e : ℕ) (small : n < 64) (is-e : e ≡ entryOf m n) (f : ℕ → 
       λ i. 64 * f (next i) + next i + missing-bit i
 
 -- ---- ranks compare as choices do
+
+unfoldable pub rankOf : Choice → ℕ
+rankOf ch = 64 * ch .total + packed ch
 
 module _ (n : ℕ) (f : ℕ → ℕ) (most : (k : ℕ) → f k ≤ 102400) (m : ℕ) where
   -- an option from k on, with its total and next hazards
@@ -85,8 +88,8 @@ module _ (n : ℕ) (f : ℕ → ℕ) (most : (k : ℕ) → f k ≤ 102400) (m : 
   unfolding bareRank rankOf packed choiceOf totalWith clearedBy waitOf
   rank-pipe = rw (eq-eqb _ _ (required-idle n)) (omega arith)
 
-  pub least-is : leastRank (bareRank n f) m ≡ rankOf (chosen n f m)
-  unfolding leastRank syncedRank chosen clearedBy waitOf
+  least-is : min (bareRank n f m) (syncedRank (bareRank n f) (m % 4)) ≡ rankOf (chosen n f m)
+  unfolding syncedRank chosen clearedBy waitOf
   least-is =
       let low : m % 4 % 2 ≡ m % 2 = omega arith in
       let g : ℕ → ℕ = bareRank n f in
@@ -120,7 +123,7 @@ module _ (n : ℕ) (f : ℕ → ℕ) (most : (k : ℕ) → f k ≤ 102400) (m : 
   pub least-held :
       (ranks synced : List ℕ) → ranks ≡ tabulate 16 (bareRank n f) → synced ≡ tabulate 4 (syncedRank (λ k. getD ranks k 0)) → m < 16 →
       min (getD ranks m 0) (getD synced (m % 4) 0) ≡ rankOf (chosen n f m)
-  unfolding leastRank syncedRank
+  unfolding syncedRank
   least-held ranks synced e s h =
       let g : ℕ → ℕ = bareRank n f in
       let at : (k : ℕ) → k < 16 → getD ranks k 0 ≡ g k =

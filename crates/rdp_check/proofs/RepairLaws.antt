@@ -125,7 +125,11 @@ untouched list work out r e z y =
       output = rw (ne-eqb _ _ z);
       cleared = rw (ne-eqb _ _ z, ne-eqb _ _ y);
       repaired = λ n. absurd (z n);
+      needed = λ n. absurd (y n);
     }
+
+fourteen : _≡_ {A = ℕ} 14 0 → ⊥
+fourteen e = omega arith
 
 module _ (list work out : List ℕ) where
   pub refused : (r : Checked) → r ≡ checked (outcomeWithin 2048 false list) → (r .number ≡ 0 → ⊥) → RepairIs list work out (repairAnswer (r .number) (r .place) 0) work out
@@ -162,10 +166,8 @@ module _ (list work out : List ℕ) where
             output = refl;
             cleared = cleared;
             repaired = λ n. absurd (fourteen n);
+            needed = λ n. (repairedBytes list, best (numbersOf (commandsOf list)) 0, least-repair list (sound false list clean), long);
           }
-        where
-          fourteen : _≡_ {A = ℕ} 14 0 → ⊥
-          fourteen e = omega arith
 
       pub repaired-is :
           words ≤ length out / 8 → (cycles : ℕ) → cycles ≡ best (numbersOf (commandsOf list)) 0 → (out′ : List ℕ) → out′ ≡ overwrite (repairedBytes list) out →
@@ -180,4 +182,5 @@ module _ (list work out : List ℕ) where
             output = written;
             cleared = cleared;
             repaired = λ n. rw (start, are-cycles) (least-repair list (sound false list clean));
+            needed = λ n. absurd (fourteen (sym n));
           }

@@ -3,6 +3,7 @@ use mathlib.Core.Path.{_≡_, refl, sym, ap, _∙_, subst}
 use mathlib.Core.Bool.{Bool, true, false}
 use mathlib.Core.List.{List, [], _∷_}
 use Prim.Native.Nat.{ℕ, zero, suc, _+_, _*_, _/_, _%_, min, _≤_}
+use native.Mathlib.Nat.{le-antisymm}
 use native.Mathlib.Omega.{arith}
 use lib.Dec.{eqb, ltb}
 use lib.ListN.{length, length-append, length-map}
@@ -14,11 +15,11 @@ use Rattle.rdp_command.proofs.Tests.{by-test}
 use Rattle.rdp_check.specs.Commands.{commandsOf, restOf}
 use Rattle.rdp_check.specs.Check.{start, judgeList, outcomeWithin, outcomeOf}
 use Rattle.rdp_check.specs.Inserted.{Inserted, end, keep, insertLoad, insertTile, insertPipe, joined, MadeByInserting}
-use Rattle.rdp_check.specs.Plan.{withOption, best, plan, applied, cyclesOf, numbersOf, planned}
+use Rattle.rdp_check.specs.Plan.{syncOf, withOption, best, plan, applied, cyclesOf, numbersOf, planned}
 use Rattle.rdp_check.specs.Work.{insertsOf}
 use Rattle.rdp_check.specs.Repair.{Makes, LeastRepair, repairedBytes, repairAnswer, roomed, repairOf}
 use Rattle.rdp_check.proofs.SyncLaws.{wait-some}
-use Rattle.rdp_check.proofs.LeastLaws.{Passes, length-plan, cycles-plan, applied-inserted, planned-inserted, planned-passes, planned-least, plan-first, Single, least-single}
+use Rattle.rdp_check.proofs.LeastLaws.{Passes, length-plan, cycles-plan, applied-inserted, planned-inserted, planned-passes, planned-least, plan-first, Single, least-single, first-unique}
 use Rattle.rdp_check.proofs.JoinLaws.{AllAlone, commands-joined, rest-joined, length-joined, count-joined, parsed, joined-whole}
 use Rattle.rdp_check.proofs.JudgeLaws.{Accepted, judge-accepted, accepted-judge, accepted-loose, accepted-passes, accepted-strict, applied-accepted}
 
@@ -54,7 +55,7 @@ alone-inserted (insertPipe s) h = (refl, alone-inserted s h)
 -- ---- the length of the repaired list
 
 length-with : (a : ℕ) (c : List ℕ) (cs : List (List ℕ)) → length (joined (withOption a c cs)) ≡ 8 * min a 1 + (length c + length (joined cs))
-unfolding withOption
+unfolding withOption syncOf
 length-with zero c cs = omega (arith, length-append c (joined cs))
 length-with (suc zero) c cs = omega (arith, length-append c (joined cs))
 length-with (suc (suc zero)) c cs = omega (arith, length-append c (joined cs))
@@ -158,6 +159,26 @@ module _ (s : List ℕ) (given : Sound false s) where
         );
       }
 
+-- ---- there is one least repair: that list, with those cycles
+
+passes-judged : (t : List ℕ) → outcomeOf t .number ≡ 0 → judgeList true t .number ≡ 0
+unfolding outcomeWithin
+passes-judged t e =
+    by-test (ltb 32768 (length t)) (λ a. absurd (omega (arith, rw a at e)))
+    (λ a. by-test (eqb (length t % 8) 0) (λ b. rw (a, b) at e) (λ b. absurd (omega (arith, rw (a, b) at e))))
+
+pub least-unique : {s t u : List ℕ} {k j : ℕ} → LeastRepair s t k → LeastRepair s u j → (t ≡ u) × (k ≡ j)
+unfolding Makes
+least-unique {s} {t} {u} {k} {j} a b =
+    let t-passes = passes-judged t (a .passes) in
+    let u-passes = passes-judged u (b .passes) in
+    let e : k ≡ j = le-antisymm (a .least u j (b .inserted) u-passes) (b .least t k (a .inserted) t-passes) in
+    let p = a .first in
+    let q = b .first in
+    let same : p .0 ≡ q .0 =
+    first-unique (p .3 (q .0) u (q .1) u-passes (q .2 ∙ sym e)) (q .3 (p .0) t (p .1) t-passes (p .2 ∙ e)) in
+    (sym (p .1 .1) ∙ ap (λ (l : List ℕ). joined (applied l (commandsOf s))) same ∙ q .1 .1, e)
+
 -- ---- a list that passes already
 
 kept : (cs : List (List ℕ)) → Inserted cs cs 0
@@ -165,7 +186,7 @@ kept [] = end
 kept (c ∷ cs) = keep (kept cs)
 
 none-applied : (p : List ℕ) (cs : List (List ℕ)) → cyclesOf p ≡ 0 → applied p cs ≡ cs
-unfolding applied cyclesOf withOption
+unfolding applied cyclesOf withOption syncOf
 none-applied p [] e = refl
 none-applied [] (c ∷ cs) e = refl
 none-applied (zero ∷ p) (c ∷ cs) e = ap (λ (x : List (List ℕ)). c ∷ x) (none-applied p cs (omega arith))

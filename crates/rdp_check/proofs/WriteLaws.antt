@@ -9,8 +9,8 @@ use lib.Seq.{drop-drop, length-take-le}
 use Rattle.rdp_command.specs.Words.{overwrite, pasted}
 use Rattle.rdp_command.proofs.Bytes.{pasted-after}
 use Rattle.rdp_check.specs.Inserted.{syncWord, joined}
-use Rattle.rdp_check.specs.Plan.{withOption, applied}
-use Rattle.rdp_check.specs.Work.{optionsIn, syncOf, optionBytes}
+use Rattle.rdp_check.specs.Plan.{syncOf, withOption, applied}
+use Rattle.rdp_check.specs.Work.{optionsIn, optionBytes}
 use Rattle.rdp_check.proofs.ForwardLaws.{options-at}
 
 pub sync-other : (a : ℕ) → 0 < a → (a ≡ 1 → ⊥) → (a ≡ 2 → ⊥) → 0x27 ≡ syncOf a

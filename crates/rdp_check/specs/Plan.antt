@@ -22,12 +22,16 @@ clearedBy (suc zero) m = m % 4
 clearedBy (suc (suc zero)) m = m % 2
 clearedBy (suc (suc (suc a))) m = 0
 
--- a command, and the commands after it, with the option's sync before it
+-- the command number of an option's sync, and a command and those after it with that sync before it
+unfoldable pub syncOf : ℕ → ℕ
+syncOf zero = 0
+syncOf (suc zero) = 0x26
+syncOf (suc (suc zero)) = 0x28
+syncOf (suc (suc (suc a))) = 0x27
+
 unfoldable pub withOption : ℕ → List ℕ → List (List ℕ) → List (List ℕ)
 withOption zero c cs = c ∷ cs
-withOption (suc zero) c cs = syncWord 0x26 ∷ c ∷ cs
-withOption (suc (suc zero)) c cs = syncWord 0x28 ∷ c ∷ cs
-withOption (suc (suc (suc a))) c cs = syncWord 0x27 ∷ c ∷ cs
+withOption (suc a) c cs = syncWord (syncOf (suc a)) ∷ c ∷ cs
 
 -- an option before a command: the cycles from there to the end of the list, and the hazards after the command
 pub record Choice : Type 0 where

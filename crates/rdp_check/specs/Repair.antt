@@ -67,4 +67,7 @@ pub record RepairIs (list work out : List ℕ) (r : Repaired) (work′ out′ : 
   pub answer : r ≡ repairOf list (length work) (length out)
   pub output : out′ ≡ outAfter r list out
   pub cleared : work′ ≡ workAfter r list work
+  -- what is written is the least repair
   pub repaired : r .number ≡ 0 → LeastRepair list (take (8 * r .place) out′) (r .cycles)
+  -- at 14 the place is the words of the least repair
+  pub needed : r .number ≡ 14 → (t : List ℕ) × (cycles : ℕ) × LeastRepair list t cycles × (length t ≡ 8 * r .place)

@@ -9,7 +9,7 @@ use Rattle.rdp_command.specs.Words.{overwrite, pasted}
 use Rattle.rdp_check.specs.Hazards.{nextOf, requiredOf}
 use Rattle.rdp_check.specs.Commands.{commandsOf, restOf}
 use Rattle.rdp_check.specs.Inserted.{syncWord, joined}
-use Rattle.rdp_check.specs.Plan.{Choice, chosen, best, plan, applied, numbersOf}
+use Rattle.rdp_check.specs.Plan.{Choice, chosen, best, plan, applied, numbersOf, syncOf}
 use Rattle.rdp_check.specs.declared.repairing.Planned.{Planned}
 
 -- f 0, f 1, .., f (n - 1)
@@ -23,21 +23,14 @@ tabulate (suc n) f = f 0 ∷ tabulate n (λ k. f (suc k))
 unfoldable pub packed : Choice → ℕ
 packed ch = 16 * ch .option + ch .next
 
--- a choice as one number, the smaller for the better choice: by the total, then by the option
-unfoldable pub rankOf : Choice → ℕ
-rankOf ch = 64 * ch .total + packed ch
-
--- the rank of nothing before command number n at hazards m, where the rest costs f; more than any other where a sync is missing
+-- a choice's rank: 64 times its total, and that byte, so that the smaller is the better choice, by the total and then by the option.
+-- The rank of nothing before command number n at hazards m, where the rest costs f; more than any other where a sync is missing
 unfoldable pub bareRank : ℕ → (ℕ → ℕ) → ℕ → ℕ
 bareRank n f m = 64 * f (nextOf m n) + nextOf m n + cond (eqb (requiredOf m n) 0) 0 0x1000000
 
 -- the least rank of Load, Tile and Pipe at hazards of which P and T are m, by the ranks of nothing: 64 times the cycles and 16 times the option are added
 unfoldable pub syncedRank : (ℕ → ℕ) → ℕ → ℕ
 syncedRank g m = min (g m + 1616) (min (g (m % 2) + 2144) (g 0 + 3248))
-
--- the least rank of nothing, Load, Tile and Pipe at hazards m
-unfoldable pub leastRank : (ℕ → ℕ) → ℕ → ℕ
-leastRank g m = min (g m) (syncedRank g (m % 4))
 
 -- the totals and the choices before command number n at each of the sixteen hazard states, where the rest costs f
 unfoldable pub totalsOf : ℕ → (ℕ → ℕ) → List ℕ
@@ -46,7 +39,7 @@ totalsOf n f = tabulate 16 (λ m. chosen n f m .total)
 unfoldable pub choicesOf : ℕ → (ℕ → ℕ) → List ℕ
 choicesOf n f = tabulate 16 (λ m. packed (chosen n f m))
 
--- totals of at most 2,048 commands, and ranks
+-- each element is at most b
 abbrev pub Bounded : ℕ → List ℕ → Type 0
 Bounded b xs = (k : ℕ) → getD xs k 0 ≤ b
 
@@ -77,13 +70,7 @@ unfoldable pub insertsOf : List ℕ → ℕ
 insertsOf [] = 0
 insertsOf (a ∷ p) = min a 1 + insertsOf p
 
--- the command number of an option's sync, and its bytes
-unfoldable pub syncOf : ℕ → ℕ
-syncOf zero = 0
-syncOf (suc zero) = 0x26
-syncOf (suc (suc zero)) = 0x28
-syncOf (suc (suc (suc a))) = 0x27
-
+-- the bytes of an option's sync
 unfoldable pub optionBytes : ℕ → List ℕ
 optionBytes zero = []
 optionBytes (suc a) = syncWord (syncOf (suc a))

@@ -8,7 +8,8 @@ ghost use Rattle.rdp_command.specs.Words.{wordAt, numberIn, overwrite, pasted};
 ghost use Rattle.rdp_check.specs.Commands.{commandsOf};
 ghost use Rattle.rdp_check.specs.Hazards.{Agrees};
 ghost use Rattle.rdp_check.specs.Check.{outcomeWithin};
-ghost use Rattle.rdp_check.specs.Work.{notedIn, optionsIn, insertsOf, Below, syncOf, optionBytes, dueBytes, WholeList, NotedIs, BackwardIs, PlannedIs, WrittenIs};
+ghost use Rattle.rdp_check.specs.Plan.{syncOf};
+ghost use Rattle.rdp_check.specs.Work.{notedIn, optionsIn, insertsOf, Below, optionBytes, dueBytes, WholeList, NotedIs, BackwardIs, PlannedIs, WrittenIs};
 ghost use Rattle.rdp_check.specs.Repair.{RepairIs};
 use crate::Repaired;
 use crate::plan;
@@ -22,6 +23,7 @@ fn number_at(list: &[u8], place: usize) -> u8
     list[8 * place] % 64
 }
 
+// How many commands a list has.
 pub fn count_commands(list: &[u8], words: usize) -> usize
     requires { ⌜ WholeList (now list) words ⌝ }
     ensures { λ r. ⌜ r ≡ length (commandsOf (now (list .entry))) ⌝ }

@@ -5,8 +5,8 @@ use native.Mathlib.Omega.{arith}
 use borrow.Author.Needs.{needs}
 use lib.ListN.{length, getD, length-set}
 use Rattle.rdp_check.specs.Plan.{chosen}
-use Rattle.rdp_check.specs.Work.{packed, rankOf, totalsOf, choicesOf, Bounded}
-use Rattle.rdp_check.proofs.RankLaws.{least-held, total-of, choice-of, bare-most}
+use Rattle.rdp_check.specs.Work.{packed, totalsOf, choicesOf, Bounded}
+use Rattle.rdp_check.proofs.RankLaws.{rankOf, least-held, total-of, choice-of, bare-most}
 use Rattle.rdp_check.proofs.TabulateLaws.{Holds, holds-more, holds-all, tabulate-same, tabulate-most}
 use Rattle.rdp_check.proofs.plan.row_before.Statement.{statement}
 use Rattle.rdp_check.proofs.plan.row_before.Tie as tie

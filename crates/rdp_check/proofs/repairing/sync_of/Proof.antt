@@ -1,6 +1,6 @@
 -- `rdp_check::repairing::sync_of` meets its contract: each arm is a clause of `syncOf`. Assumes nothing.
 use mathlib.Core.Path.{sym, ap}
-use Rattle.rdp_check.specs.Work.{syncOf}
+use Rattle.rdp_check.specs.Plan.{syncOf}
 use Rattle.rdp_check.proofs.WriteLaws.{sync-other}
 use Rattle.rdp_check.proofs.repairing.sync_of.Statement.{statement}
 use Rattle.rdp_check.proofs.repairing.sync_of.Tie as tie
