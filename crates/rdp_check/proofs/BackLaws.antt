@@ -10,7 +10,7 @@ use Rattle.rdp_check.specs.Hazards.{nextOf}
 use Rattle.rdp_check.specs.Plan.{Choice, waitOf, clearedBy, totalWith, choiceOf, prefer, chosen, best}
 use Rattle.rdp_check.specs.Work.{tabulate, packed, totalsOf, choicesOf, Bounded, Below, notedIn, workOf}
 use Rattle.rdp_check.proofs.HazardLaws.{next-small}
-use Rattle.rdp_check.proofs.SyncLaws.{required-idle}
+use Rattle.rdp_check.proofs.SyncLaws.{pipe-serves}
 use Rattle.rdp_check.proofs.ChoiceLaws.{right-chosen}
 use Rattle.rdp_check.proofs.TabulateLaws.{length-tabulate, getD-tabulate, tabulate-same, tabulate-most, length-noted, number-noted}
 
@@ -49,10 +49,10 @@ module _ (n : ℕ) (f : ℕ → ℕ) where
 -- ---- totals fit
 
 pub best-most : (ns : List ℕ) (m : ℕ) → best ns m ≤ 50 * length ns
-unfolding best totalWith clearedBy waitOf
+unfolding best totalWith waitOf
 best-most [] m = omega arith
 best-most (n ∷ ns) m =
-    omega (arith, right-chosen n (best ns) m .least 3 (omega arith) (required-idle n), best-most ns (nextOf 0 n))
+    omega (arith, right-chosen n (best ns) m .least 3 (omega arith) (pipe-serves 0 m n), best-most ns (nextOf (clearedBy 3 m) n))
 
 pub best-bounded : (ns : List ℕ) → length ns ≤ 2048 → Bounded 102400 (tabulate 16 (best ns))
 best-bounded ns h = tabulate-most 16 (best ns) 102400 (λ m. omega (arith, best-most ns m))

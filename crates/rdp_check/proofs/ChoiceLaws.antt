@@ -9,8 +9,8 @@ use native.Mathlib.Omega.{arith}
 use lib.Dec.{eqb, leb}
 use borrow.Author.Tests.{eqb-true, eqb-false, leb-true, leb-false}
 use Rattle.rdp_check.specs.Hazards.{requiredOf}
-use Rattle.rdp_check.specs.Plan.{Choice, waitOf, clearedBy, totalWith, choiceOf, prefer, chosen}
-use Rattle.rdp_check.proofs.SyncLaws.{required-idle}
+use Rattle.rdp_check.specs.Plan.{Choice, waitOf, syncOf, clearedBy, totalWith, choiceOf, prefer, chosen}
+use Rattle.rdp_check.proofs.SyncLaws.{pipe-serves}
 use Rattle.rdp_check.proofs.HazardLaws.{next-small}
 
 -- a choice that is right among the options from k on
@@ -27,9 +27,9 @@ from-here P a here more b h = elim (decLe (suc a) b) [ yes g ↦ more b g | no g
 
 module _ (n : ℕ) (f : ℕ → ℕ) (m : ℕ) where
   right-pipe : Right n f m 3 (choiceOf n f m 3)
-  unfolding clearedBy totalWith waitOf choiceOf
+  unfolding clearedBy syncOf totalWith waitOf choiceOf
   right-pipe = record {
-    serves = required-idle n;
+    serves = pipe-serves 0 m n;
     made = refl;
     within = omega arith;
     least = any-pipe (λ (b : ℕ). requiredOf (clearedBy b m) n ≡ 0 → totalWith n f m 3 ≤ totalWith n f m b) (λ b _. le-refl _);

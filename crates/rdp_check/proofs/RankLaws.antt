@@ -1,5 +1,5 @@
 -- The least rank is the rank of the choice: ranks compare as the totals do, and by the option where they are equal. Assumes nothing.
-use mathlib.Core.Path.{_≡_, refl, ap, _∙_}
+use mathlib.Core.Path.{_≡_, refl, sym, ap, _∙_}
 use mathlib.Core.Bool.{cond}
 use mathlib.Core.List.{List}
 use Prim.Native.Nat.{ℕ, suc, _+_, _*_, _/_, _%_, min, _<_, _≤_}
@@ -12,7 +12,7 @@ use Rattle.rdp_check.specs.Hazards.{nextOf, requiredOf, entryOf}
 use Rattle.rdp_check.specs.Plan.{Choice, waitOf, clearedBy, totalWith, choiceOf, prefer, chosen}
 use Rattle.rdp_check.specs.Work.{tabulate, packed, bareRank, syncedRank}
 use Rattle.rdp_check.proofs.HazardLaws.{next-small, entry-parts}
-use Rattle.rdp_check.proofs.SyncLaws.{required-idle, wait-most}
+use Rattle.rdp_check.proofs.SyncLaws.{required-idle, cleared-load, cleared-tile, cleared-pipe, wait-most}
 use Rattle.rdp_check.proofs.TabulateLaws.{getD-tabulate}
 
 -- ---- a command with nothing before it, by its entry of the table
@@ -85,8 +85,8 @@ module _ (n : ℕ) (f : ℕ → ℕ) (most : (k : ℕ) → f k ≤ 102400) (m : 
         (λ g. rw g (omega (arith, rw g at is-x, r .within, r .next, r .total)))
 
   rank-pipe : bareRank n f 0 + 3248 ≡ rankOf (choiceOf n f m 3)
-  unfolding bareRank rankOf packed choiceOf totalWith clearedBy waitOf
-  rank-pipe = rw (eq-eqb _ _ (required-idle n)) (omega arith)
+  unfolding bareRank rankOf packed choiceOf totalWith waitOf
+  rank-pipe = rw (cleared-pipe 0 m, eq-eqb _ _ (required-idle n)) (omega arith)
 
   least-is : min (bareRank n f m) (syncedRank (bareRank n f) (m % 4)) ≡ rankOf (chosen n f m)
   unfolding syncedRank chosen clearedBy waitOf
@@ -98,7 +98,7 @@ module _ (n : ℕ) (f : ℕ → ℕ) (most : (k : ℕ) → f k ≤ 102400) (m : 
       let r1 = prefer-ranked 1 (prefer n f m 2 (choiceOf n f m 3)) r2 in
       rw low
       (rank-prefer 0 _ r1 (g m) _ (omega arith)
-      (rank-prefer 1 _ r2 (g (m % 4) + 1616) _ refl (rank-prefer 2 _ r3 (g (m % 2) + 2144) _ refl rank-pipe)))
+      (rank-prefer 1 _ r2 (g (m % 4) + 1616) _ (ap (λ (k : ℕ). g k + 1616) (sym (cleared-load m))) (rank-prefer 2 _ r3 (g (m % 2) + 2144) _ (ap (λ (k : ℕ). g k + 2144) (sym (cleared-tile m))) rank-pipe)))
 
   chosen-ranked : Ranked 0 (chosen n f m)
   unfolding chosen

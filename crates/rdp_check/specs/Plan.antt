@@ -1,6 +1,6 @@
 -- Document 01, "Repair": a plan says what stands before each command; the least plan, found from the back of the list.
 -- An option is 0 nothing, 1 Load, 2 Tile, 3 Pipe (as is any larger number): the order of ties.
-use Prim.Native.Nat.{ℕ, zero, suc, _+_, _%_, _<_}
+use Prim.Native.Nat.{ℕ, zero, suc, _+_, _<_}
 use mathlib.Core.Bool.{cond}
 use mathlib.Core.List.{List, [], _∷_, map}
 use lib.Dec.{eqb, leb}
@@ -15,20 +15,19 @@ waitOf (suc zero) = 25
 waitOf (suc (suc zero)) = 33
 waitOf (suc (suc (suc a))) = 50
 
--- the hazards m, below 16, after an option: Load clears D and G, Tile T too, Pipe all
-unfoldable pub clearedBy : ℕ → ℕ → ℕ
-clearedBy zero m = m
-clearedBy (suc zero) m = m % 4
-clearedBy (suc (suc zero)) m = m % 2
-clearedBy (suc (suc (suc a))) m = 0
-
--- the command number of an option's sync, and a command and those after it with that sync before it
+-- the command number of an option's sync
 unfoldable pub syncOf : ℕ → ℕ
 syncOf zero = 0
 syncOf (suc zero) = 0x26
 syncOf (suc (suc zero)) = 0x28
 syncOf (suc (suc (suc a))) = 0x27
 
+-- the hazards m after an option
+unfoldable pub clearedBy : ℕ → ℕ → ℕ
+clearedBy zero m = m
+clearedBy (suc a) m = nextOf m (syncOf (suc a))
+
+-- a command, and those after it, with the option's sync before it
 unfoldable pub withOption : ℕ → List ℕ → List (List ℕ) → List (List ℕ)
 withOption zero c cs = c ∷ cs
 withOption (suc a) c cs = syncWord (syncOf (suc a)) ∷ c ∷ cs

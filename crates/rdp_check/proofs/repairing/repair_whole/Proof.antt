@@ -56,7 +56,7 @@ cast-place : tie.Need-cast-place
 cast-place c = omega (arith, needed (c .before .before .before) .1)
 
 clear-requires : tie.Need-clear-requires
-clear-requires c κs = room (c .before .before .before .before .before)
+clear-requires c κs = omega (arith, room (c .before .before .before .before .before))
 
 same-length : tie.Need-same-length
 same-length c = search needs
@@ -77,7 +77,7 @@ write-plan-requires c κs =
     )
 
 clear-requires-2 : tie.Need-clear-requires-2
-clear-requires-2 c κs = room (c .before .before .before .before .before .before .before .before .before .before)
+clear-requires-2 c κs = omega (arith, room (c .before .before .before .before .before .before .before .before .before .before))
 
 same-length-2 : tie.Need-same-length-2
 same-length-2 c = search needs
