@@ -80,17 +80,17 @@ abbrev withHazards : ℕ → State → State
 withHazards m s = record { hazards = m; ended = s .ended; registers = s .registers }
 
 -- a sync changes nothing but the hazards
-after-load : (s : State) → afterCommand s (syncWord 0x26) ≡ withHazards (nextOf (s .hazards) 0x26) s
-unfolding afterCommand decodeOf wholeWords wordAt halfOf wordsOf kindOf layout commandOf registersAfter
-after-load s = refl
+after-sync : (a : ℕ) (s : State) → afterCommand s (syncWord (syncOf (suc a))) ≡ withHazards (nextOf (s .hazards) (syncOf (suc a))) s
+unfolding syncOf afterCommand decodeOf wholeWords wordAt halfOf wordsOf kindOf layout commandOf registersAfter
+after-sync zero s = refl
+after-sync (suc zero) s = refl
+after-sync (suc (suc a)) s = refl
 
-after-tile : (s : State) → afterCommand s (syncWord 0x28) ≡ withHazards (nextOf (s .hazards) 0x28) s
-unfolding afterCommand decodeOf wholeWords wordAt halfOf wordsOf kindOf layout commandOf registersAfter
-after-tile s = refl
-
-after-pipe : (s : State) → afterCommand s (syncWord 0x27) ≡ withHazards (nextOf (s .hazards) 0x27) s
-unfolding afterCommand decodeOf wholeWords wordAt halfOf wordsOf kindOf layout commandOf registersAfter
-after-pipe s = refl
+sync-draws : (a : ℕ) → draws (firstNumber (syncWord (syncOf (suc a)))) ≡ false
+unfolding syncOf draws wordAt halfOf kindOf
+sync-draws zero = refl
+sync-draws (suc zero) = refl
+sync-draws (suc (suc a)) = refl
 
 -- without strictness the hazards do not count
 any-hazards : (m : ℕ) (s : State) (cs : List (List ℕ)) → Accepted false s cs → Accepted false (withHazards m s) cs
@@ -104,20 +104,13 @@ unfolding refusalOf
 sync-fits true draw ready fill e = absurd (omega arith)
 sync-fits false draw ready fill e = refl
 
-insert-sync :
-    (n : ℕ) (s : State) (c : List ℕ) (cs : List (List ℕ)) → draws (firstNumber (syncWord n)) ≡ false →
-    afterCommand s (syncWord n) ≡ withHazards (nextOf (s .hazards) n) s → Accepted false s (c ∷ cs) → Accepted false s (syncWord n ∷ c ∷ cs)
-insert-sync n s c cs d e h = (
-  rw d (sync-fits _ _ _ _ (h .0)),
-  subst (λ (x : State). Accepted false x (c ∷ cs)) (sym e) (any-hazards (nextOf (s .hazards) n) s (c ∷ cs) h),
-)
-
 with-accepted : (a : ℕ) (s : State) (c : List ℕ) (cs : List (List ℕ)) → Accepted false s (c ∷ cs) → Accepted false s (withOption a c cs)
-unfolding withOption syncOf draws wordAt halfOf kindOf
+unfolding withOption
 with-accepted zero s c cs h = h
-with-accepted (suc zero) s c cs h = insert-sync 0x26 s c cs refl (after-load s) h
-with-accepted (suc (suc zero)) s c cs h = insert-sync 0x28 s c cs refl (after-tile s) h
-with-accepted (suc (suc (suc a))) s c cs h = insert-sync 0x27 s c cs refl (after-pipe s) h
+with-accepted (suc a) s c cs h = (
+  rw (sync-draws a) (sync-fits _ _ _ _ (h .0)),
+  subst (λ (x : State). Accepted false x (c ∷ cs)) (sym (after-sync a s)) (any-hazards (nextOf (s .hazards) (syncOf (suc a))) s (c ∷ cs) h),
+)
 
 pub applied-accepted : (p : List ℕ) (s : State) (cs : List (List ℕ)) → Accepted false s cs → Accepted false s (applied p cs)
 unfolding applied

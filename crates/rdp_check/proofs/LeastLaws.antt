@@ -7,12 +7,11 @@ use native.Mathlib.Nat.{lt-of-not-le}
 use native.Mathlib.Decide.{decLe}
 use native.Mathlib.Omega.{arith}
 use lib.ListN.{length, length-map}
-use Rattle.rdp_command.specs.Words.{halfOf, wordAt}
 use Rattle.rdp_command.specs.Decode.{firstNumber}
 use Rattle.rdp_check.specs.Hazards.{nextOf, requiredOf}
 use Rattle.rdp_check.specs.Inserted.{syncWord, Inserted, end, keep, insertLoad, insertTile, insertPipe}
 use Rattle.rdp_check.specs.Plan.{syncOf, Choice, waitOf, clearedBy, withOption, totalWith, choiceOf, chosen, best, applied, cyclesOf, plan, planned, FirstOf, same, next, less}
-use Rattle.rdp_check.proofs.SyncLaws.{required-load, required-tile, required-pipe, next-load, next-tile, next-pipe, two-as-one, wait-some}
+use Rattle.rdp_check.proofs.SyncLaws.{sync-number, sync-requires, two-as-one, wait-some}
 use Rattle.rdp_check.proofs.ChoiceLaws.{Right, right-chosen}
 
 -- no sync is missing along the commands from hazards m on
@@ -36,19 +35,20 @@ passes-at ds e = subst (λ (k : ℕ). Passes k ds) e
 abbrev PassesAfter : ℕ → ℕ → List ℕ → List (List ℕ) → Type 0
 PassesAfter m a c ds = Passes (clearedBy a m) (c ∷ ds)
 
+passes-sync : (a m : ℕ) (ds : List (List ℕ)) → Passes m (syncWord (syncOf (suc a)) ∷ ds) → Passes (clearedBy (suc a) m) ds
+unfolding clearedBy
+passes-sync a m ds h = passes-at ds (ap (nextOf m) (sync-number a)) (h .1)
+
 with-passes : (a m : ℕ) (c : List ℕ) (ds : List (List ℕ)) → PassesAfter m a c ds → Passes m (withOption a c ds)
-unfolding withOption syncOf clearedBy wordAt halfOf
+unfolding withOption clearedBy
 with-passes zero m c ds h = h
-with-passes (suc zero) m c ds h = (required-load m, passes-at (c ∷ ds) (sym (next-load m)) h)
-with-passes (suc (suc zero)) m c ds h = (required-tile m, passes-at (c ∷ ds) (sym (next-tile m)) h)
-with-passes (suc (suc (suc a))) m c ds h = (required-pipe m, passes-at (c ∷ ds) (sym (next-pipe m)) h)
+with-passes (suc a) m c ds h =
+    (ap (requiredOf m) (sync-number a) ∙ sync-requires a m, passes-at (c ∷ ds) (ap (nextOf m) (sym (sync-number a))) h)
 
 passes-with : (a m : ℕ) (c : List ℕ) (ds : List (List ℕ)) → Passes m (withOption a c ds) → PassesAfter m a c ds
-unfolding withOption syncOf clearedBy wordAt halfOf
+unfolding withOption clearedBy
 passes-with zero m c ds h = h
-passes-with (suc zero) m c ds h = passes-at (c ∷ ds) (next-load m) (h .1)
-passes-with (suc (suc zero)) m c ds h = passes-at (c ∷ ds) (next-tile m) (h .1)
-passes-with (suc (suc (suc a))) m c ds h = passes-at (c ∷ ds) (next-pipe m) (h .1)
+passes-with (suc a) m c ds h = passes-sync a m (c ∷ ds) h
 
 -- ---- plans
 
@@ -123,16 +123,16 @@ save (n ∷ ns) m a =
 
 -- any list made by inserting that passes waits at least as long
 pub least-from : {cs ds : List (List ℕ)} {k : ℕ} (m : ℕ) → Inserted cs ds k → Passes m ds → best (map firstNumber cs) m ≤ k
-unfolding best totalWith clearedBy waitOf wordAt halfOf
+unfolding best totalWith clearedBy waitOf syncOf
 least-from m end h = omega arith
 least-from m (keep {c = c} {cs = cs} s) h =
     omega (arith, right (firstNumber c) (map firstNumber cs) m .least 0 (omega arith) (h .0), least-from (nextOf m (firstNumber c)) s (h .1))
 least-from m (insertLoad {cs = cs} {ds = ds} s) h =
-    omega (arith, save (map firstNumber cs) m 1, least-from (clearedBy 1 m) s (passes-at ds (next-load m) (h .1)))
+    omega (arith, save (map firstNumber cs) m 1, least-from (clearedBy 1 m) s (passes-sync 0 m ds h))
 least-from m (insertTile {cs = cs} {ds = ds} s) h =
-    omega (arith, save (map firstNumber cs) m 2, least-from (clearedBy 2 m) s (passes-at ds (next-tile m) (h .1)))
+    omega (arith, save (map firstNumber cs) m 2, least-from (clearedBy 2 m) s (passes-sync 1 m ds h))
 least-from m (insertPipe {cs = cs} {ds = ds} s) h =
-    omega (arith, save (map firstNumber cs) m 3, least-from (clearedBy 3 m) s (passes-at ds (next-pipe m) (h .1)))
+    omega (arith, save (map firstNumber cs) m 3, least-from (clearedBy 3 m) s (passes-sync 2 m ds h))
 
 pub planned-least : {cs ds : List (List ℕ)} {k : ℕ} → Inserted cs ds k → Passes 0 ds → best (map firstNumber cs) 0 ≤ k
 planned-least = least-from 0
@@ -192,12 +192,6 @@ by-inserted (keep′ s) = keep (by-inserted s)
 by-inserted (insert′ zero s) = insertLoad (by-inserted s)
 by-inserted (insert′ (suc zero) s) = insertTile (by-inserted s)
 by-inserted (insert′ (suc (suc a)) s) = insertPipe (by-inserted s)
-
-passes-sync : (a m : ℕ) (ds : List (List ℕ)) → Passes m (syncWord (syncOf (suc a)) ∷ ds) → Passes (clearedBy (suc a) m) ds
-unfolding syncOf clearedBy wordAt halfOf
-passes-sync zero m ds h = passes-at ds (next-load m) (h .1)
-passes-sync (suc zero) m ds h = passes-at ds (next-tile m) (h .1)
-passes-sync (suc (suc a)) m ds h = passes-at ds (next-pipe m) (h .1)
 
 -- an option for each command makes the list
 pub record Single (cs ds : List (List ℕ)) (k : ℕ) : Type 0 where

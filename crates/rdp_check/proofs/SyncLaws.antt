@@ -6,8 +6,11 @@ use native.Mathlib.Nat.{mod-lt}
 use native.Mathlib.Omega.{arith}
 use lib.Dec.{eqb, eqb→eq, lit<}
 use Rattle.rdp_command.specs.Kinds.{Kind, noOperation, triangle, textureRectangle, fillRectangle, syncLoad, syncTile, syncPipe, syncFull, load, setTile, attribute, free, kindOf}
+use Rattle.rdp_command.specs.Words.{halfOf, wordAt}
+use Rattle.rdp_command.specs.Decode.{firstNumber}
 use Rattle.rdp_command.proofs.Tests.{below}
 use Rattle.rdp_check.specs.Hazards.{hazardsOf, requiredBy, nextOf, requiredOf}
+use Rattle.rdp_check.specs.Inserted.{syncWord}
 use Rattle.rdp_check.specs.Plan.{waitOf, syncOf, clearedBy}
 use Rattle.rdp_check.proofs.HazardLaws.{next-low}
 
@@ -29,29 +32,18 @@ pub required-idle : (n : ℕ) → requiredOf 0 n ≡ 0
 unfolding requiredOf
 required-idle n = idle-requires-none (kindOf n)
 
-pub required-load : (m : ℕ) → requiredOf m 0x26 ≡ 0
-unfolding requiredOf kindOf
-required-load m = refl
+-- a sync by its option: its number, and that it requires nothing
+pub sync-number : (a : ℕ) → firstNumber (syncWord (syncOf (suc a))) ≡ syncOf (suc a)
+unfolding syncOf wordAt halfOf
+sync-number zero = refl
+sync-number (suc zero) = refl
+sync-number (suc (suc a)) = refl
 
-pub required-tile : (m : ℕ) → requiredOf m 0x28 ≡ 0
-unfolding requiredOf kindOf
-required-tile m = refl
-
-pub required-pipe : (m : ℕ) → requiredOf m 0x27 ≡ 0
-unfolding requiredOf kindOf
-required-pipe m = refl
-
-pub next-load : (m : ℕ) → nextOf m 0x26 ≡ clearedBy 1 m
-unfolding clearedBy syncOf
-next-load m = refl
-
-pub next-tile : (m : ℕ) → nextOf m 0x28 ≡ clearedBy 2 m
-unfolding clearedBy syncOf
-next-tile m = refl
-
-pub next-pipe : (m : ℕ) → nextOf m 0x27 ≡ clearedBy 3 m
-unfolding clearedBy syncOf
-next-pipe m = refl
+pub sync-requires : (a m : ℕ) → requiredOf m (syncOf (suc a)) ≡ 0
+unfolding syncOf requiredOf kindOf
+sync-requires zero m = refl
+sync-requires (suc zero) m = refl
+sync-requires (suc (suc a)) m = refl
 
 -- what a sync leaves of the hazards: a Load P and T, a Tile P, a Pipe none
 pub cleared-load : (m : ℕ) → clearedBy 1 m ≡ m % 4
