@@ -30,7 +30,7 @@ low8 m = omega arith
 low-bits : (m : ℕ) → hazardsOf (m % 16) ≡ hazardsOf m
 low-bits m = rw (low1 m, low2 m, low4 m, low8 m)
 
-next-low : (m n : ℕ) → nextOf (m % 16) n ≡ nextOf m n
+pub next-low : (m n : ℕ) → nextOf (m % 16) n ≡ nextOf m n
 unfolding nextOf
 next-low m n = ap (λ (h : Hazards). codeOf (hazardsAfter (kindOf n) n h)) (low-bits m)
 

@@ -7,3 +7,15 @@ pub mod WalkLaws
 pub mod RegisterLaws
 pub mod ReplayLaws
 pub mod FirstLaws
+pub mod SyncLaws
+pub mod ChoiceLaws
+pub mod LeastLaws
+pub mod JudgeLaws
+pub mod RepairedLaws
+pub mod TabulateLaws
+pub mod RankLaws
+pub mod WriteLaws
+pub mod PassLaws
+pub mod BackLaws
+pub mod ForwardLaws
+pub mod RepairLaws

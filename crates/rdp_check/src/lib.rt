@@ -4,9 +4,12 @@ ghost use Prim.Native.Nat.{_%_};
 ghost use Rattle.rdp_check.specs.Hazards.{transitionOf};
 ghost use Rattle.rdp_check.specs.Check.{checkOf, listStateOf};
 ghost use Rattle.rdp_check.specs.View.{endOf};
+ghost use Rattle.rdp_check.specs.Repair.{RepairIs};
 
 mod hazards;
+mod plan;
 pub mod registers;
+mod repairing;
 mod table;
 mod walk;
 
@@ -27,6 +30,14 @@ pub struct ListState {
     pub place: u32,
     pub hazards: u8,
     pub registers: Registers,
+}
+
+// The number of the first refusal, 0 where the list is repaired; its place, or the words written; and the cycles of the inserted syncs, 0 at a refusal.
+#[repr(C)]
+pub struct Repaired {
+    pub number: u32,
+    pub place: u32,
+    pub cycles: u32,
 }
 
 // The hazards after a command, whether a sync is missing, and the sync that the command requires: 0 none, 1 Load, 2 Tile, 3 Pipe.
@@ -81,4 +92,35 @@ pub fn registers_after(list: &[u8]) -> ListState
         hazards: checked.hazards,
         registers,
     }
+}
+
+// Writes to out the list with the syncs that it misses inserted, at the least cycles. The work buffer lends sixteen bytes a command. Refusals 1 to 6 of
+// the list, where 7 to 9 are passed over, then 13 and 14 of the room; else 0, the words written and the cycles inserted.
+pub fn repair(list: &[u8], work: &mut [u8], out: &mut [u8]) -> Repaired
+    ensures { λ r. ⌜ RepairIs (now (list .entry)) (now (work .entry)) (now (out .entry)) r (now (work .exit)) (now (out .exit)) ⌝ }
+{
+    let checked = walk::check_within(list, 2048, false);
+    let number = checked.number;
+    if number != 0 {
+        return Repaired {
+            number,
+            place: checked.place,
+            cycles: 0,
+        };
+    }
+    let words = list.len() / 8;
+    let room = work.len() / 16;
+    if words <= room {
+        return repairing::repair_whole(list, words, work, out);
+    }
+    let commands = repairing::count_commands(list, words);
+    let place = commands as u32;
+    if room < commands {
+        return Repaired {
+            number: 13,
+            place,
+            cycles: 0,
+        };
+    }
+    repairing::repair_whole(list, words, work, out)
 }

@@ -1,0 +1,216 @@
+-- The repaired list is a least repair of the given one, and a list that passes is repaired into itself. Assumes nothing.
+use mathlib.Core.Path.{_≡_, refl, sym, ap, _∙_, subst}
+use mathlib.Core.Bool.{Bool, true, false}
+use mathlib.Core.List.{List, [], _∷_}
+use Prim.Native.Nat.{ℕ, zero, suc, _+_, _*_, _/_, _%_, min, _≤_}
+use native.Mathlib.Nat.{le-antisymm}
+use native.Mathlib.Omega.{arith}
+use lib.Dec.{eqb, ltb}
+use lib.ListN.{length, length-append, length-map}
+use borrow.Author.Tests.{le-ltb, ltb-false, eq-eqb, eqb-true}
+use Rattle.rdp_command.specs.Words.{halfOf, wordAt}
+use Rattle.rdp_command.specs.Kinds.{kindOf, wordsOf}
+use Rattle.rdp_command.specs.Decode.{firstNumber}
+use Rattle.rdp_command.proofs.Tests.{by-test}
+use Rattle.rdp_check.specs.Commands.{commandsOf, restOf, joined}
+use Rattle.rdp_check.specs.Check.{start, judgeList, outcomeWithin, outcomeOf}
+use Rattle.rdp_check.specs.Inserted.{Inserted, end, keep, insertLoad, insertTile, insertPipe, MadeByInserting}
+use Rattle.rdp_check.specs.Plan.{syncOf, withOption, best, plan, applied, cyclesOf, numbersOf, planned}
+use Rattle.rdp_check.specs.Work.{insertsOf}
+use Rattle.rdp_check.specs.Repair.{Makes, LeastRepair, repairedBytes, repairAnswer, roomed, repairOf}
+use Rattle.rdp_check.proofs.SyncLaws.{wait-some}
+use Rattle.rdp_check.proofs.LeastLaws.{Passes, length-plan, cycles-plan, applied-inserted, planned-inserted, planned-passes, planned-least, plan-first, Single, least-single, first-unique}
+use Rattle.rdp_check.proofs.JoinLaws.{AllAlone, commands-joined, rest-joined, length-joined, count-joined, parsed, joined-whole}
+use Rattle.rdp_check.proofs.JudgeLaws.{Accepted, judge-accepted, accepted-judge, accepted-loose, accepted-passes, accepted-strict, applied-accepted}
+
+-- ---- a list with none of the refusals
+
+pub record Sound (strict : Bool) (s : List ℕ) : Type 0 where
+  pub short : length s ≤ 16384
+  pub words : length s % 8 ≡ 0
+  pub none : restOf s ≡ []
+  pub accepted : Accepted strict start (commandsOf s)
+
+pub sound : (strict : Bool) (s : List ℕ) → outcomeWithin 2048 strict s .number ≡ 0 → Sound strict s
+unfolding outcomeWithin
+sound strict s e =
+    by-test (ltb 16384 (length s)) (λ t. absurd (omega (arith, rw t at e)))
+    (λ f.
+    by-test (eqb (length s % 8) 0)
+    (λ t.
+    let r = judge-accepted strict start 0 (commandsOf s) (restOf s) (rw (f, t) at e) in
+    record { short = ltb-false _ _ f; words = eqb-true _ _ t; none = r .1; accepted = r .0 })
+    (λ g. absurd (omega (arith, rw (f, g) at e))))
+
+-- ---- inserting keeps commands whole
+
+pub alone-inserted : {cs ds : List (List ℕ)} {k : ℕ} → Inserted cs ds k → AllAlone cs → AllAlone ds
+unfolding wordAt halfOf wordsOf kindOf
+alone-inserted end h = tt
+alone-inserted (keep s) h = (h .0, alone-inserted s (h .1))
+alone-inserted (insertLoad s) h = (refl, alone-inserted s h)
+alone-inserted (insertTile s) h = (refl, alone-inserted s h)
+alone-inserted (insertPipe s) h = (refl, alone-inserted s h)
+
+-- ---- the length of the repaired list
+
+length-with : (a : ℕ) (c : List ℕ) (cs : List (List ℕ)) → length (joined (withOption a c cs)) ≡ 8 * min a 1 + (length c + length (joined cs))
+unfolding withOption syncOf
+length-with zero c cs = omega (arith, length-append c (joined cs))
+length-with (suc zero) c cs = omega (arith, length-append c (joined cs))
+length-with (suc (suc zero)) c cs = omega (arith, length-append c (joined cs))
+length-with (suc (suc (suc a))) c cs = omega (arith, length-append c (joined cs))
+
+-- a plan inserts a word for each option that is not nothing
+length-applied : (p : List ℕ) (cs : List (List ℕ)) → length p ≡ length cs → length (joined (applied p cs)) ≡ 8 * insertsOf p + length (joined cs)
+unfolding applied insertsOf
+length-applied [] [] e = refl
+length-applied [] (c ∷ cs) e = absurd (omega arith)
+length-applied (a ∷ p) [] e = absurd (omega arith)
+length-applied (a ∷ p) (c ∷ cs) e =
+    omega (arith, length-with a c (applied p cs), length-applied p cs (omega arith), length-append c (joined cs))
+
+inserts-most : (p : List ℕ) → insertsOf p ≤ length p
+unfolding insertsOf
+inserts-most [] = omega arith
+inserts-most (a ∷ p) = omega (arith, inserts-most p)
+
+plan-long : (cs : List (List ℕ)) (m : ℕ) → length (plan (numbersOf cs) m) ≡ length cs
+plan-long cs m = length-plan (numbersOf cs) m ∙ length-map cs firstNumber
+
+module _ (s : List ℕ) (none : restOf s ≡ []) where
+  -- at most a command a word
+  pub count-most : 8 * length (commandsOf s) ≤ length s
+  count-most =
+      let a = parsed s .alone in
+      omega (arith, count-joined (commandsOf s) a, length-joined (commandsOf s) a, ap length (joined-whole s none))
+
+  pub length-repaired : length (repairedBytes s) ≡ 8 * insertsOf (plan (numbersOf (commandsOf s)) 0) + length s
+  unfolding repairedBytes planned
+  length-repaired =
+      let p = plan (numbersOf (commandsOf s)) 0 in
+      length-applied p (commandsOf s) (plan-long (commandsOf s) 0) ∙
+      ap (λ (l : List ℕ). 8 * insertsOf p + length l) (joined-whole s none)
+
+  -- at most a sync a command
+  pub repaired-most : length (repairedBytes s) ≤ 2 * length s
+  repaired-most =
+      omega
+      (arith, length-repaired, inserts-most (plan (numbersOf (commandsOf s)) 0), plan-long (commandsOf s) 0, count-most)
+
+  pub inserts-few : 8 * insertsOf (plan (numbersOf (commandsOf s)) 0) ≤ length s
+  inserts-few = omega (arith, inserts-most (plan (numbersOf (commandsOf s)) 0), plan-long (commandsOf s) 0, count-most)
+
+  -- a list made by inserting has the commands that it was made of
+  commands-made : {ds : List (List ℕ)} {k : ℕ} → Inserted (commandsOf s) ds k → commandsOf (joined ds) ≡ ds
+  commands-made {ds} i = commands-joined ds (alone-inserted i (parsed s .alone))
+
+  -- where it has none of refusals 3 to 9, no sync is missing
+  made-passes :
+      {ds : List (List ℕ)} {k : ℕ} (u : List ℕ) → Inserted (commandsOf s) ds k → joined ds ≡ u → judgeList true u .number ≡ 0 → Passes 0 ds
+  made-passes {ds} u i e h =
+      accepted-passes start ds
+      (subst (Accepted true start) (ap commandsOf (sym e) ∙ commands-made i) (judge-accepted true start 0 (commandsOf u) (restOf u) h .0))
+
+-- ---- the repaired list
+
+module _ (s : List ℕ) (given : Sound false s) where
+  abbrev cs : List (List ℕ)
+  cs = commandsOf s
+
+  abbrev none : restOf s ≡ []
+  none = given .none
+
+  planned-alone : AllAlone (planned cs)
+  planned-alone = alone-inserted (planned-inserted cs) (parsed s .alone)
+
+  planned-accepted : Accepted true start (planned cs)
+  unfolding planned
+  planned-accepted = accepted-strict start (planned cs) (applied-accepted (plan (numbersOf cs) 0) start cs (given .accepted)) (planned-passes cs)
+
+  repaired-judged : judgeList true (repairedBytes s) .number ≡ 0
+  unfolding repairedBytes
+  repaired-judged =
+      rw (commands-joined (planned cs) planned-alone, rest-joined (planned cs) planned-alone) (accepted-judge true start 0 (planned cs) planned-accepted)
+
+  repaired-passes : outcomeOf (repairedBytes s) .number ≡ 0
+  unfolding outcomeWithin
+  repaired-passes =
+      let short : length (repairedBytes s) ≤ 32768 = omega (arith, repaired-most s none, given .short) in
+      let whole : length (repairedBytes s) % 8 ≡ 0 = omega (arith, length-repaired s none, given .words) in
+      rw (le-ltb _ _ short, eq-eqb _ _ whole) repaired-judged
+
+  pub least-repair : LeastRepair s (repairedBytes s) (best (numbersOf cs) 0)
+  unfolding MadeByInserting Makes repairedBytes planned
+  least-repair =
+      record {
+        inserted = (planned cs, planned-inserted cs, refl);
+        passes = repaired-passes;
+        least = λ u k i h. planned-least (i .1) (made-passes s none u (i .1) (i .2) h);
+        planned =
+            λ u i h.
+            let r : Single cs (i .0) (best (numbersOf cs) 0) = least-single (i .1) (made-passes s none u (i .1) (i .2) h) refl in
+            (r .options, (r .one-each, ap joined (r .makes) ∙ i .2), r .waits);
+        first = (
+          plan (numbersOf cs) 0,
+          (plan-long cs 0, refl),
+          cycles-plan (numbersOf cs) 0,
+          (λ q u m h e. plan-first cs q (m .0) (made-passes s none u (applied-inserted q cs (m .0)) (m .1) h) e),
+        );
+      }
+
+-- ---- there is one least repair: that list, with those cycles
+
+passes-judged : (t : List ℕ) → outcomeOf t .number ≡ 0 → judgeList true t .number ≡ 0
+unfolding outcomeWithin
+passes-judged t e =
+    by-test (ltb 32768 (length t)) (λ a. absurd (omega (arith, rw a at e)))
+    (λ a. by-test (eqb (length t % 8) 0) (λ b. rw (a, b) at e) (λ b. absurd (omega (arith, rw (a, b) at e))))
+
+pub least-unique : {s t u : List ℕ} {k j : ℕ} → LeastRepair s t k → LeastRepair s u j → (t ≡ u) × (k ≡ j)
+unfolding Makes
+least-unique {s} {t} {u} {k} {j} a b =
+    let t-passes = passes-judged t (a .passes) in
+    let u-passes = passes-judged u (b .passes) in
+    let e : k ≡ j = le-antisymm (a .least u j (b .inserted) u-passes) (b .least t k (a .inserted) t-passes) in
+    let p = a .first in
+    let q = b .first in
+    let same : p .0 ≡ q .0 =
+    first-unique (p .3 (q .0) u (q .1) u-passes (q .2 ∙ sym e)) (q .3 (p .0) t (p .1) t-passes (p .2 ∙ e)) in
+    (sym (p .1 .1) ∙ ap (λ (l : List ℕ). joined (applied l (commandsOf s))) same ∙ q .1 .1, e)
+
+-- ---- a list that passes already
+
+kept : (cs : List (List ℕ)) → Inserted cs cs 0
+kept [] = end
+kept (c ∷ cs) = keep (kept cs)
+
+none-applied : (p : List ℕ) (cs : List (List ℕ)) → cyclesOf p ≡ 0 → applied p cs ≡ cs
+unfolding applied cyclesOf withOption syncOf
+none-applied p [] e = refl
+none-applied [] (c ∷ cs) e = refl
+none-applied (zero ∷ p) (c ∷ cs) e = ap (λ (x : List (List ℕ)). c ∷ x) (none-applied p cs (omega arith))
+none-applied (suc a ∷ p) (c ∷ cs) e = absurd (omega (arith, wait-some a))
+
+pub record RepairedToItself (s : List ℕ) (work out : ℕ) : Type 0 where
+  pub bytes : repairedBytes s ≡ s
+  pub answer : repairOf s work out ≡ repairAnswer 0 (length s / 8) 0
+
+-- a list of at most 2,048 words that the check accepts is repaired into itself, with 0 cycles
+pub passes-kept :
+    (s : List ℕ) (work out : ℕ) → outcomeWithin 2048 true s .number ≡ 0 → 16 * length (commandsOf s) ≤ work → length s ≤ out →
+    RepairedToItself s work out
+unfolding repairedBytes planned repairOf roomed outcomeWithin
+passes-kept s work out e enough room =
+    let cs = commandsOf s in
+    let t = sound true s e in
+    let zero-best : best (numbersOf cs) 0 ≡ 0 = omega (arith, planned-least (kept cs) (accepted-passes start cs (t .accepted))) in
+    let itself : joined (applied (plan (numbersOf cs) 0) cs) ≡ s =
+    ap joined (none-applied (plan (numbersOf cs) 0) cs (cycles-plan (numbersOf cs) 0 ∙ zero-best)) ∙ joined-whole s (t .none) in
+    let loose : judgeList false s .number ≡ 0 =
+    rw (t .none) (accepted-judge false start 0 cs (accepted-loose start cs (t .accepted))) in
+    record {
+      bytes = itself;
+      answer =
+          rw (le-ltb _ _ (t .short), eq-eqb _ _ (t .words), loose, itself, le-ltb _ _ enough, le-ltb _ _ room, zero-best);
+    }

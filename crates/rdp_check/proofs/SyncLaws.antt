@@ -1,0 +1,114 @@
+-- What the repair uses of the synchronisation rule: with no hazard nothing is required, a sync requires nothing and clears its hazards, and two syncs
+-- clear what the longer clears. Assumes nothing.
+use mathlib.Core.Path.{_≡_, refl, sym, ap, _∙_}
+use Prim.Native.Nat.{ℕ, zero, suc, max, _%_, _≤_}
+use native.Mathlib.Nat.{mod-lt}
+use native.Mathlib.Omega.{arith}
+use lib.Dec.{eqb, eqb→eq, lit<}
+use Rattle.rdp_command.specs.Kinds.{Kind, noOperation, triangle, textureRectangle, fillRectangle, syncLoad, syncTile, syncPipe, syncFull, load, setTile, attribute, free, kindOf}
+use Rattle.rdp_command.specs.Words.{halfOf, wordAt}
+use Rattle.rdp_command.specs.Decode.{firstNumber}
+use Rattle.rdp_command.proofs.Tests.{below}
+use Rattle.rdp_check.specs.Hazards.{hazardsOf, requiredBy, nextOf, requiredOf}
+use Rattle.rdp_check.specs.Inserted.{syncWord}
+use Rattle.rdp_check.specs.Plan.{waitOf, syncOf, clearedBy}
+use Rattle.rdp_check.proofs.HazardLaws.{next-low}
+
+idle-requires-none : (k : Kind) → requiredBy k (hazardsOf 0) ≡ 0
+idle-requires-none noOperation = refl
+idle-requires-none triangle = refl
+idle-requires-none textureRectangle = refl
+idle-requires-none fillRectangle = refl
+idle-requires-none syncLoad = refl
+idle-requires-none syncTile = refl
+idle-requires-none syncPipe = refl
+idle-requires-none syncFull = refl
+idle-requires-none load = refl
+idle-requires-none setTile = refl
+idle-requires-none attribute = refl
+idle-requires-none free = refl
+
+pub required-idle : (n : ℕ) → requiredOf 0 n ≡ 0
+unfolding requiredOf
+required-idle n = idle-requires-none (kindOf n)
+
+-- a sync by its option: its number, and that it requires nothing
+pub sync-number : (a : ℕ) → firstNumber (syncWord (syncOf (suc a))) ≡ syncOf (suc a)
+unfolding syncOf wordAt halfOf
+sync-number zero = refl
+sync-number (suc zero) = refl
+sync-number (suc (suc a)) = refl
+
+pub sync-requires : (a m : ℕ) → requiredOf m (syncOf (suc a)) ≡ 0
+unfolding syncOf requiredOf kindOf
+sync-requires zero m = refl
+sync-requires (suc zero) m = refl
+sync-requires (suc (suc a)) m = refl
+
+-- what a sync leaves of the hazards: a Load P and T, a Tile P, a Pipe none
+pub cleared-load : (m : ℕ) → clearedBy 1 m ≡ m % 4
+unfolding nextOf kindOf clearedBy syncOf
+cleared-load m =
+    let e : m % 16 % 4 ≡ m % 4 = omega arith in
+    sym (next-low m 0x26) ∙ eqb→eq _ _ (below 16 (λ k. eqb (nextOf k 0x26) (k % 4)) tt (m % 16) (mod-lt m (lit< tt))) ∙ e
+
+pub cleared-tile : (m : ℕ) → clearedBy 2 m ≡ m % 2
+unfolding nextOf kindOf clearedBy syncOf
+cleared-tile m =
+    let e : m % 16 % 2 ≡ m % 2 = omega arith in
+    sym (next-low m 0x28) ∙ eqb→eq _ _ (below 16 (λ k. eqb (nextOf k 0x28) (k % 2)) tt (m % 16) (mod-lt m (lit< tt))) ∙ e
+
+pub cleared-pipe : (a m : ℕ) → clearedBy (suc (suc (suc a))) m ≡ 0
+unfolding nextOf kindOf clearedBy syncOf
+cleared-pipe a m = refl
+
+pub pipe-serves : (a m n : ℕ) → requiredOf (clearedBy (suc (suc (suc a))) m) n ≡ 0
+pipe-serves a m n = ap (λ (k : ℕ). requiredOf k n) (cleared-pipe a m) ∙ required-idle n
+
+pub wait-some : (a : ℕ) → 25 ≤ waitOf (suc a)
+unfolding waitOf
+wait-some zero = omega arith
+wait-some (suc zero) = omega arith
+wait-some (suc (suc a)) = omega arith
+
+left : ℕ → ℕ → ℕ
+left zero m = m
+left (suc zero) m = m % 4
+left (suc (suc zero)) m = m % 2
+left (suc (suc (suc a))) m = 0
+
+cleared-left : (a m : ℕ) → clearedBy a m ≡ left a m
+unfolding clearedBy left
+cleared-left zero m = refl
+cleared-left (suc zero) m = cleared-load m
+cleared-left (suc (suc zero)) m = cleared-tile m
+cleared-left (suc (suc (suc a))) m = cleared-pipe a m
+
+two-left : (a b m : ℕ) → (d : ℕ) × (left b (left a m) ≡ left d m) × (waitOf d ≤ max (waitOf a) (waitOf b))
+unfolding left waitOf
+two-left zero b m = (b, refl, omega arith)
+two-left (suc zero) zero m = (1, refl, omega arith)
+two-left (suc zero) (suc zero) m = (1, omega arith, omega arith)
+two-left (suc zero) (suc (suc zero)) m = (2, omega arith, omega arith)
+two-left (suc zero) (suc (suc (suc b))) m = (3, refl, omega arith)
+two-left (suc (suc zero)) zero m = (2, refl, omega arith)
+two-left (suc (suc zero)) (suc zero) m = (2, omega arith, omega arith)
+two-left (suc (suc zero)) (suc (suc zero)) m = (2, omega arith, omega arith)
+two-left (suc (suc zero)) (suc (suc (suc b))) m = (3, refl, omega arith)
+two-left (suc (suc (suc a))) zero m = (3, refl, omega arith)
+two-left (suc (suc (suc a))) (suc zero) m = (3, refl, omega arith)
+two-left (suc (suc (suc a))) (suc (suc zero)) m = (3, refl, omega arith)
+two-left (suc (suc (suc a))) (suc (suc (suc b))) m = (3, refl, omega arith)
+
+-- two syncs in a row clear what the longer of them clears
+pub two-as-one : (a b m : ℕ) → (d : ℕ) × (clearedBy b (clearedBy a m) ≡ clearedBy d m) × (waitOf d ≤ max (waitOf a) (waitOf b))
+two-as-one a b m =
+    let t = two-left a b m in
+    (t .0, cleared-left b (clearedBy a m) ∙ ap (left b) (cleared-left a m) ∙ t .1 ∙ sym (cleared-left (t .0) m), t .2)
+
+pub wait-most : (a : ℕ) → waitOf a ≤ 50
+unfolding waitOf
+wait-most zero = omega arith
+wait-most (suc zero) = omega arith
+wait-most (suc (suc zero)) = omega arith
+wait-most (suc (suc (suc a))) = omega arith
