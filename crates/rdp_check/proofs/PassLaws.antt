@@ -1,14 +1,13 @@
 -- The loops over a list of whole commands: what holds at their heads, and what a turn does. Assumes nothing.
 use mathlib.Core.Path.{_≡_, refl, sym, ap, _∙_}
 use mathlib.Core.List.{List, [], _∷_, _++_, append-nil, append-assoc}
-use Prim.Native.Nat.{ℕ, _+_, _*_, _-_, _/_, _%_, _^_, _<_, _≤_}
-use native.Mathlib.Nat.{lt-of-not-le, add-zero}
+use Prim.Native.Nat.{ℕ, _+_, _*_, _-_, _/_, _%_, _<_, _≤_}
+use native.Mathlib.Nat.{lt-of-not-le}
 use native.Mathlib.Decide.{decLe}
 use native.Mathlib.Omega.{arith}
 use lib.ListN.{length, getD, take, drop, set, length-append, length-take, length-drop, length-set, drop-of-length-le}
-use lib.Seq.{getD-drop, append-snoc, drop-set-lt}
-use borrow.Author.Tests.{lt-ltb}
-use Rattle.rdp_command.specs.Words.{halfOf, wordAt, numberIn, overwrite, pasted}
+use lib.Seq.{append-snoc, drop-set-lt}
+use Rattle.rdp_command.specs.Words.{wordAt, numberIn, overwrite, pasted}
 use Rattle.rdp_command.specs.Kinds.{wordsOf}
 use Rattle.rdp_command.proofs.Bytes.{length-overwrite, pasted-after}
 use Rattle.rdp_check.specs.Commands.{commandsFrom, commandsOf, restOf, joined}
@@ -19,22 +18,6 @@ use Rattle.rdp_check.proofs.ListLaws.{commandAt, commands-at, rest-at, 
 use Rattle.rdp_check.proofs.RepairedLaws.{count-most}
 use Rattle.rdp_check.proofs.TabulateLaws.{noted-more}
 use Rattle.rdp_check.proofs.WriteLaws.{applied-next}
-
--- ---- the number of a command, from its first byte
-
-top-byte : (a b c d e f g h : ℕ) → b < 256 → c < 256 → d < 256 → e < 256 → f < 256 → g < 256 → h < 256 → ((a * 2 ^ 24 + b * 2 ^ 16 + c * 2 ^ 8 + d) * 2 ^ 32 + (e * 2 ^ 24 + f * 2 ^ 16 + g * 2 ^ 8 + h)) / 2 ^ 56 ≡ a
-top-byte a b c d e f g h hb hc hd he hf hg hh = omega arith
-
-pub number-byte : (list : List ℕ) (place : ℕ) → ((i : ℕ) → getD list i 0 < 256) → place < length list / 8 → getD list (8 * place) 0 % 64 ≡ numberIn (wordAt list place)
-unfolding wordAt halfOf
-number-byte list place bytes h =
-    let l : List ℕ = drop (8 * place) list in
-    let k : List ℕ = drop 4 l in
-    let b : (i : ℕ) → getD l i 0 < 256 = λ i. rw getD-drop (bytes (8 * place + i)) in
-    let d : (i : ℕ) → getD k i 0 < 256 = λ i. rw getD-drop (b (4 + i)) in
-    let first : getD list (8 * place) 0 ≡ getD l 0 0 = rw (getD-drop, add-zero) in
-    rw (lt-ltb _ _ h)
-    (ap (λ (x : ℕ). x % 64) (first ∙ sym (top-byte (getD l 0 0) _ _ _ _ _ _ _ (b 1) (b 2) (b 3) (d 0) (d 1) (d 2) (d 3))))
 
 -- ---- i commands are passed, and the others begin at a place
 

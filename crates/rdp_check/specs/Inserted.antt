@@ -1,6 +1,6 @@
 -- Document 01, "Repair": what it is to make a list from a given one by inserting syncs.
 use Prim.Native.Nat.{ℕ, _+_}
-use mathlib.Core.List.{List, [], _∷_, _++_}
+use mathlib.Core.List.{List, [], _∷_}
 use mathlib.Core.Path.{_≡_}
 use Rattle.rdp_check.specs.Commands.{commandsOf, joined}
 

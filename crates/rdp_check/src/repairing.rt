@@ -15,12 +15,12 @@ use crate::Repaired;
 use crate::plan;
 use crate::table;
 
-// The number of the command at a place, from its first byte.
+// The number of the command at a place.
 fn number_at(list: &[u8], place: usize) -> u8
-    requires { ⌜ place < length (now list) / 8 ⌝ }
     ensures { λ r. ⌜ r ≡ numberIn (wordAt (now (list .entry)) place) ⌝ }
 {
-    list[8 * place] % 64
+    let fields = rdp_command::read_at(list, place);
+    fields.number
 }
 
 // How many commands a list has.

@@ -16,7 +16,7 @@ loop-holds : tie.Need-loop-holds Inv-loop μ-loop
 loop-holds c = noting-first _ _ _ (c .before .before .pre .0) (c .before .before .pre .1)
 
 number-at-requires : tie.Need-number-at-requires Inv-loop μ-loop
-number-at-requires c κs = omega (arith, c .before .loop .inv .reached .whole .long)
+number-at-requires c κs = search needs
 
 mul-work : tie.Need-mul-work Inv-loop μ-loop
 mul-work c =

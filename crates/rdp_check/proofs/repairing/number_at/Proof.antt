@@ -1,18 +1,14 @@
--- `rdp_check::repairing::number_at` meets its contract: a command's number stands in its first byte. Assumes nothing.
-use native.Mathlib.Omega.{arith}
+-- `rdp_check::repairing::number_at` meets its contract, by that of `read_at`. Assumes nothing.
+use mathlib.Core.Path.{ap}
 use borrow.Author.Needs.{needs}
-use Rattle.rdp_check.proofs.PassLaws.{number-byte}
 use Rattle.rdp_check.proofs.repairing.number_at.Statement.{statement}
 use Rattle.rdp_check.proofs.repairing.number_at.Tie as tie
 
-mul-result : tie.Need-mul-result
-mul-result c = search needs
-
-shared-slice-read-result : tie.Need-shared-slice-read-result
-shared-slice-read-result c = search needs
+read-at-requires : tie.Need-read-at-requires
+read-at-requires c κs = search needs
 
 returns : tie.Need-returns
-returns c = number-byte (c .before .args .list .now) _ (λ i. let h = c .shared-slice-known .given i in omega arith) (c .before .pre)
+returns c = ap (λ f. f .number) (c .read-at .ensures)
 
 pub number-at-spec : {M : Type 1} → statement M
-number-at-spec = tie.close (tie.spec mul-result shared-slice-read-result returns)
+number-at-spec = tie.close (tie.spec read-at-requires returns)

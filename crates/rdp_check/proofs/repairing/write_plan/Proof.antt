@@ -38,7 +38,7 @@ shared-slice-read-choice c =
     omega (arith, choice-there w (t .loop-test .taken) _ refl _ refl, w .choices)
 
 number-at-requires : tie.Need-number-at-requires Inv-loop μ-loop
-number-at-requires c κs = omega (arith, c .before .before .loop .inv .reached .whole .long)
+number-at-requires c κs = search needs
 
 words-of-requires : tie.Need-words-of-requires Inv-loop μ-loop
 words-of-requires c κs = search needs
