@@ -11,13 +11,13 @@ use lib.ListN.{length, getD, drop, drop-of-length-le}
 use lib.Seq.{drop-cons}
 use Rattle.rdp_command.specs.Words.{wordAt, numberIn}
 use Rattle.rdp_command.specs.Kinds.{wordsOf}
-use Rattle.rdp_command.specs.Decode.{firstNumber}
+use Rattle.rdp_command.specs.Decode.{firstNumber, headOf}
 use Rattle.rdp_check.specs.Hazards.{requiredOf, entryOf}
 use Rattle.rdp_check.specs.Commands.{commandsFrom, restFrom, commandsOf, restOf}
 use Rattle.rdp_check.specs.Check.{State, start, afterCommand, refusalAt, Outcome, outcome, settle, judge, judgeList, checked}
-use Rattle.rdp_check.specs.View.{headOf, viewOf, Sound, viewAfter, refusalWith, viewRefusal, quiet}
+use Rattle.rdp_check.specs.View.{viewOf, Sound, viewAfter, refusalWith, viewRefusal, quiet}
 use Rattle.rdp_check.specs.declared.Checked.{Checked}
-use Rattle.rdp_check.specs.declared.walk.Head.{Head}
+use Rattle.rdp_command.specs.declared.command.Head.{Head}
 use Rattle.rdp_check.specs.declared.walk.Rest.{Rest}
 use Rattle.rdp_check.specs.declared.walk.View.{View}
 use Rattle.rdp_check.proofs.HazardLaws.{next-small, entry-parts}

@@ -5,18 +5,14 @@ use mathlib.Core.List.{List, [], _∷_}
 use mathlib.Core.Path.{_≡_}
 use lib.Dec.{eqb, ltb}
 use Rattle.rdp_command.specs.Kinds.{among, wordsOf}
-use Rattle.rdp_command.specs.Decode.{firstNumber, decodeOf, wordFields}
+use Rattle.rdp_command.specs.declared.command.Head.{Head}
+use Rattle.rdp_command.specs.Decode.{firstNumber, decodeOf}
 use Rattle.rdp_check.specs.Hazards.{nextOf, requiredOf}
 use Rattle.rdp_check.specs.Check.{State, draws, missing}
 use Rattle.rdp_check.specs.Registers.{afterDecoded}
 use Rattle.rdp_check.specs.declared.registers.Registers.{Registers}
-use Rattle.rdp_check.specs.declared.walk.Head.{Head}
 use Rattle.rdp_check.specs.declared.walk.View.{View}
 use Rattle.rdp_check.specs.declared.walk.Advanced.{Advanced}
-
--- what is read of a command's first word
-abbrev pub headOf : ℕ → Head
-headOf w = record { number = wordFields w .number; cycle = wordFields w .«cycle_type»; size = wordFields w .«color_image» .size }
 
 -- a register that a draw needs: 0 not set, 2 set to what the other must not meet, 1 set to anything else
 abbrev pub code : Bool → Bool → ℕ
@@ -53,8 +49,8 @@ pub record Sound (v : View) : Type 0 where
 unfoldable pub viewAfter : View → Head → View
 viewAfter v h =
     let n = h .number in
-    view (nextOf (v .hazards) n) (eqb n 0x29 || v .rest .ended) (cond (eqb n 0x2F) (code true (eqb (h .cycle) 3)) (v .rest .modes))
-    (cond (eqb n 0x3F) (code true (eqb (h .size) 0)) (v .rest .image)) (eqb n 0x2D || v .rest .scissor)
+    view (nextOf (v .hazards) n) (eqb n 0x29 || v .rest .ended) (cond (eqb n 0x2F) (code true (eqb (h .«cycle_type») 3)) (v .rest .modes))
+    (cond (eqb n 0x3F) (code true (eqb (h .«image_size») 0)) (v .rest .image)) (eqb n 0x2D || v .rest .scissor)
 
 -- of two refusals the first, where 0 is none
 abbrev pub orElse : ℕ → ℕ → ℕ

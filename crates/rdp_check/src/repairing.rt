@@ -19,8 +19,8 @@ use crate::table;
 fn number_at(list: &[u8], place: usize) -> u8
     ensures { λ r. ⌜ r ≡ numberIn (wordAt (now (list .entry)) place) ⌝ }
 {
-    let fields = rdp_command::read_at(list, place);
-    fields.number
+    let head = rdp_command::head_at(list, place);
+    head.number
 }
 
 // How many commands a list has.

@@ -7,17 +7,11 @@ ghost use Rattle.rdp_command.specs.Words.{wordAt, numberIn};
 ghost use Rattle.rdp_command.specs.Kinds.{wordsOf};
 ghost use Rattle.rdp_check.specs.Hazards.{Agrees, nextOf, entryOf};
 ghost use Rattle.rdp_check.specs.Check.{start, judgeList, outcomeWithin, checked};
-ghost use Rattle.rdp_check.specs.View.{headOf, code, view, viewOf, Sound, viewAfter, refusalWith, sets, quiet, stepOn, AdvancedIs};
+ghost use Rattle.rdp_check.specs.View.{code, view, viewOf, Sound, viewAfter, refusalWith, sets, quiet, stepOn, AdvancedIs};
 use crate::Checked;
 use crate::hazards;
 use crate::table;
-
-// What the walk reads of a command's first word: its number, the cycle type of a Set Other Modes, the size of a Set Color Image.
-pub struct Head {
-    pub number: u8,
-    pub cycle: u8,
-    pub size: u8,
-}
+use rdp_command::command::Head;
 
 // What few commands change of what the walk carries: whether a Sync Full has come; the refusal of a draw, or 0; and what gives it: modes (0 not set, 1
 // set, 2 set to FILL), colour image (0 not set, 1 set, 2 set to 4 bits) and scissor.
@@ -42,22 +36,11 @@ pub struct Advanced {
     pub view: View,
 }
 
-fn head_at(list: &[u8], place: usize) -> Head
-    ensures { λ r. ⌜ r ≡ headOf (wordAt (now (list .entry)) place) ⌝ }
-{
-    let fields = rdp_command::read_at(list, place);
-    Head {
-        number: fields.number,
-        cycle: fields.cycle_type,
-        size: fields.color_image.size,
-    }
-}
-
 // The words of the command at a place, by its number.
 pub fn words_at(list: &[u8], place: usize) -> usize
     ensures { λ r. ⌜ r ≡ wordsOf (numberIn (wordAt (now (list .entry)) place)) ⌝ }
 {
-    let head = head_at(list, place);
+    let head = rdp_command::head_at(list, place);
     rdp_command::words_of(head.number)
 }
 
@@ -148,11 +131,11 @@ fn after(v: View, next: u8, h: Head) -> View
         };
     }
     if number == 0x2F {
-        rest.modes = set_code(h.cycle == 3);
+        rest.modes = set_code(h.cycle_type == 3);
         return with_draw(next, rest);
     }
     if number == 0x3F {
-        rest.image = set_code(h.size == 0);
+        rest.image = set_code(h.image_size == 0);
         return with_draw(next, rest);
     }
     rest.scissor = true;
@@ -216,7 +199,7 @@ fn walk(table: &[u8; 1024], list: &[u8], words: usize, strict: bool) -> Checked
     let mut rest = no_rest();
     let mut at: usize = 0;
     while at < words {
-        let head = head_at(list, at);
+        let head = rdp_command::head_at(list, at);
         let e = hazards::entry(table, hazards, head.number);
         if (is_quiet(head.number) & (e < 16)) & !rest.ended {
             hazards = e;

@@ -12,6 +12,7 @@ use Rattle.rdp_command.specs.Groups.{natAt, scissorOf, otherModesOf, rec
 use Rattle.rdp_command.specs.Commands.{commandOf}
 use Rattle.rdp_command.specs.declared.command.Command.{Command}
 use Rattle.rdp_command.specs.declared.command.WordFields.{WordFields}
+use Rattle.rdp_command.specs.declared.command.Head.{Head}
 use Rattle.rdp_command.specs.declared.command.Decoded.{Decoded}
 use Rattle.rdp_command.specs.declared.command.Decoded.the-variants.{Whole, Refused}
 
@@ -47,6 +48,10 @@ wordFields w =
       «fill_color» = natAt (fieldsOf fillColorLines (w ∷ [])) 0;
       «color_image» = imageOf (fieldsOf colorImageLines (w ∷ []));
     }
+
+-- the part of these that the check reads
+abbrev pub headOf : ℕ → Head
+headOf w = record { number = wordFields w .number; «cycle_type» = wordFields w .«cycle_type»; «image_size» = wordFields w .«color_image» .size }
 
 -- what decoding answers: 3 at 0 where the words of the first command are not all there, else the command
 unfoldable pub decodeOf : List ℕ → Decoded

@@ -238,6 +238,14 @@ pub struct Image {
     pub address: u32,
 }
 
+// What the check reads of a word: its command number, the cycle type of a Set Other Modes and the size of a Set Color Image.
+#[repr(C)]
+pub struct Head {
+    pub number: u8,
+    pub cycle_type: u8,
+    pub image_size: u8,
+}
+
 // A word, its command number, and what the check and the drawing read of it, as each of the commands that they look into would have it.
 #[repr(C)]
 pub struct WordFields {

@@ -4,7 +4,7 @@ ghost use Prim.Native.Nat.{_+_};
 ghost use denote.Ref.{ptr};
 ghost use Rattle.rdp_command.specs.Words.{wordAt};
 ghost use Rattle.rdp_command.specs.Kinds.{wordsOf};
-ghost use Rattle.rdp_command.specs.Decode.{wordFields, decodeOf, suffixOf, suffixStart};
+ghost use Rattle.rdp_command.specs.Decode.{wordFields, headOf, decodeOf, suffixOf, suffixStart};
 ghost use Rattle.rdp_command.specs.Encode.{encodeAnswer, encodeOut};
 ghost use Rattle.rdp_command.specs.Numbers.{fieldsAnswer, fieldsOut, fromNumbers};
 
@@ -25,6 +25,13 @@ pub fn read_at(list: &[u8], place: usize) -> WordFields
     ensures { λ r. ⌜ r ≡ wordFields (wordAt (now (list .entry)) place) ⌝ }
 {
     read::word_fields(words::word_at(list, place))
+}
+
+// What the check reads of the word at a place: a part of what `read_at` gives, small enough for a loop over many commands.
+pub fn head_at(list: &[u8], place: usize) -> Head
+    ensures { λ r. ⌜ r ≡ headOf (wordAt (now (list .entry)) place) ⌝ }
+{
+    read::head(words::word_at(list, place))
 }
 
 // The words of a command, by its number.

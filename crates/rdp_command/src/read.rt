@@ -5,7 +5,7 @@ ghost use Prim.Native.Nat.{_*_, _<_, _≤_};
 ghost use Rattle.rdp_command.specs.Layout.{edgeLines, triangleBaseLines, textureStepLines, texturedRectangleLines, keyGbLines, keyRLines, convertLines, scissorLines, primitiveDepthLines, textureModesLines, blenderInputsLines, pixelModesLines, otherModesLines, tileAreaLines, blockLines, tileDescriptorLines, rectangleLines, colorLines, primitiveColorLines, imageLines, colorImageLines};
 ghost use Rattle.rdp_command.specs.Fields.{twosComplement, fieldsOf};
 ghost use Rattle.rdp_command.specs.Groups.{edgeOf, triangleBaseOf, textureStepOf, texturedRectangleOf, keyGbOf, keyROf, convertOf, scissorOf, primitiveDepthOf, textureModesOf, blenderInputsOf, pixelModesOf, otherModesOf, tileAreaOf, blockOf, tileDescriptorOf, rectangleOf, colorOf, primitiveColorOf, imageOf};
-ghost use Rattle.rdp_command.specs.Decode.{wordFields};
+ghost use Rattle.rdp_command.specs.Decode.{wordFields, headOf};
 use crate::command::*;
 use crate::words::number_in;
 
@@ -335,5 +335,18 @@ pub fn word_fields(w: u64) -> WordFields
         rectangle: rectangle(w),
         fill_color: (w % 0x100000000) as u32,
         color_image: color_image(w),
+    }
+}
+
+// What the check reads of a word.
+pub fn head(w: u64) -> Head
+    ensures { λ r. ⌜ r ≡ headOf w ⌝ }
+{
+    let mode = w >> 52;
+    let size = w >> 51;
+    Head {
+        number: number_in(w),
+        cycle_type: (mode % 0x4) as u8,
+        image_size: (size % 0x4) as u8,
     }
 }
