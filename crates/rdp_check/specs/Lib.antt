@@ -8,3 +8,4 @@ pub mod Inserted
 pub mod Plan
 pub mod Work
 pub mod Repair
+pub mod Examples
