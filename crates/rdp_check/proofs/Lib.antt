@@ -19,4 +19,3 @@ pub mod PassLaws
 pub mod BackLaws
 pub mod ForwardLaws
 pub mod RepairLaws
-pub mod ExampleLaws

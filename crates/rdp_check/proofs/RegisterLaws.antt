@@ -7,18 +7,18 @@ use mathlib.Core.Path.{_≡_, refl, sym, subst}
 use denote.Enum.Declared.{tagOf}
 use lib.Dec.{T, eqb}
 use types.Run.{OneOf}
-use Rattle.rdp_command.proofs.command.Command.{the-type}
+use Rattle.rdp_command.proofs.Command.{the-type}
 use Rattle.rdp_command.proofs.Tests.{by-test}
 use Rattle.rdp_command.specs.Kinds.{among}
-use Rattle.rdp_command.specs.declared.command.Command.{Command}
-use Rattle.rdp_command.specs.declared.command.Command.the-variants.{NoOperation, FillTriangle, TextureRectangle, TextureRectangleFlip, SyncLoad, SyncPipe, SyncTile, SyncFull, SetKeyGb, SetKeyR, SetConvert, SetScissor, SetPrimitiveDepth, SetOtherModes, LoadTlut, SetTileSize, LoadBlock, LoadTile, SetTile, FillRectangle, SetFillColor, SetFogColor, SetBlendColor, SetPrimitiveColor, SetEnvironmentColor, SetCombineMode, SetTextureImage, SetDepthImage, SetColorImage}
+use Rattle.rdp_command.specs.declared.Command.{Command}
+use Rattle.rdp_command.specs.declared.Command.the-variants.{NoOperation, FillTriangle, TextureRectangle, TextureRectangleFlip, SyncLoad, SyncPipe, SyncTile, SyncFull, SetKeyGb, SetKeyR, SetConvert, SetScissor, SetPrimitiveDepth, SetOtherModes, LoadTlut, SetTileSize, LoadBlock, LoadTile, SetTile, FillRectangle, SetFillColor, SetFogColor, SetBlendColor, SetPrimitiveColor, SetEnvironmentColor, SetCombineMode, SetTextureImage, SetDepthImage, SetColorImage}
 use Rattle.rdp_check.specs.Registers.{withColors, withCombiner, withModes, withImages, withTiles, registersAfter, colorsAfter, combinerAfter, modesAfter, imagesAfter, tilesAfter}
-use Rattle.rdp_check.specs.declared.registers.Tile.{Tile}
-use Rattle.rdp_check.specs.declared.registers.Colors.{Colors}
-use Rattle.rdp_check.specs.declared.registers.Combiner.{Combiner}
-use Rattle.rdp_check.specs.declared.registers.Modes.{Modes}
-use Rattle.rdp_check.specs.declared.registers.Images.{Images}
-use Rattle.rdp_check.specs.declared.registers.Registers.{Registers}
+use Rattle.rdp_check.specs.declared.Tile.{Tile}
+use Rattle.rdp_check.specs.declared.Colors.{Colors}
+use Rattle.rdp_check.specs.declared.Combiner.{Combiner}
+use Rattle.rdp_check.specs.declared.Modes.{Modes}
+use Rattle.rdp_check.specs.declared.Images.{Images}
+use Rattle.rdp_check.specs.declared.Registers.{Registers}
 
 -- the groups, each with a number from 1 on
 pub data Group : Type 0 where

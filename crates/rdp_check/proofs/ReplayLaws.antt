@@ -18,7 +18,7 @@ use Rattle.rdp_check.specs.Commands.{commandsOf, restOf}
 use Rattle.rdp_check.specs.Registers.{noRegisters, afterDecoded}
 use Rattle.rdp_check.specs.Check.{State, start, afterCommand, refusalOf, refusalAt, Outcome, atEnd, settle, judge, judgeList, outcomeWithin}
 use Rattle.rdp_check.specs.View.{registersUpTo, endOf}
-use Rattle.rdp_check.specs.declared.registers.Registers.{Registers}
+use Rattle.rdp_check.specs.declared.Registers.{Registers}
 use Rattle.rdp_command.proofs.PlaceLaws.{number-small, some-words}
 use Rattle.rdp_check.proofs.ListLaws.{commandAt, commands-at, command-number, decoded-at, commands-past}
 

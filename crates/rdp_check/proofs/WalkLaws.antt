@@ -17,7 +17,7 @@ use Rattle.rdp_check.specs.Commands.{commandsFrom, restFrom, commandsOf,
 use Rattle.rdp_check.specs.Check.{State, start, afterCommand, refusalAt, Outcome, outcome, settle, judge, judgeList, checked}
 use Rattle.rdp_check.specs.View.{viewOf, Sound, viewAfter, refusalWith, viewRefusal, quiet}
 use Rattle.rdp_check.specs.declared.Checked.{Checked}
-use Rattle.rdp_command.specs.declared.command.Head.{Head}
+use Rattle.rdp_command.specs.declared.Head.{Head}
 use Rattle.rdp_check.specs.declared.walk.Rest.{Rest}
 use Rattle.rdp_check.specs.declared.walk.View.{View}
 use Rattle.rdp_check.proofs.HazardLaws.{next-small, entry-parts}

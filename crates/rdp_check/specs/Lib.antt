@@ -8,4 +8,3 @@ pub mod Inserted
 pub mod Plan
 pub mod Work
 pub mod Repair
-pub mod Examples

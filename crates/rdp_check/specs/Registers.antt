@@ -3,32 +3,32 @@ use Prim.Native.Nat.{ℕ, _%_}
 use mathlib.Core.Bool.{true, false}
 use mathlib.Core.List.{List}
 use lib.ListN.{getD, set, replicate}
-use Rattle.rdp_command.specs.declared.command.Color.{Color}
-use Rattle.rdp_command.specs.declared.command.OtherModes.{OtherModes}
-use Rattle.rdp_command.specs.declared.command.TileDescriptor.{TileDescriptor}
-use Rattle.rdp_command.specs.declared.command.TexelCorner.{TexelCorner}
-use Rattle.rdp_command.specs.declared.command.Decoded.{Decoded}
-use Rattle.rdp_command.specs.declared.command.Decoded.the-variants.{Whole, Refused}
-use Rattle.rdp_command.specs.declared.command.Command.{Command}
-use Rattle.rdp_command.specs.declared.command.Command.the-variants.{NoOperation, FillTriangle, TextureRectangle, TextureRectangleFlip, SyncLoad, SyncPipe, SyncTile, SyncFull, SetKeyGb, SetKeyR, SetConvert, SetScissor, SetPrimitiveDepth, SetOtherModes, LoadTlut, SetTileSize, LoadBlock, LoadTile, SetTile, FillRectangle, SetFillColor, SetFogColor, SetBlendColor, SetPrimitiveColor, SetEnvironmentColor, SetCombineMode, SetTextureImage, SetDepthImage, SetColorImage}
-use Rattle.rdp_check.specs.declared.registers.FillColorRegister.{FillColorRegister}
-use Rattle.rdp_check.specs.declared.registers.ColorRegister.{ColorRegister}
-use Rattle.rdp_check.specs.declared.registers.PrimitiveColorRegister.{PrimitiveColorRegister}
-use Rattle.rdp_check.specs.declared.registers.CombineRegister.{CombineRegister}
-use Rattle.rdp_check.specs.declared.registers.KeyGbRegister.{KeyGbRegister}
-use Rattle.rdp_check.specs.declared.registers.KeyRRegister.{KeyRRegister}
-use Rattle.rdp_check.specs.declared.registers.ConvertRegister.{ConvertRegister}
-use Rattle.rdp_check.specs.declared.registers.OtherModesRegister.{OtherModesRegister}
-use Rattle.rdp_check.specs.declared.registers.PrimitiveDepthRegister.{PrimitiveDepthRegister}
-use Rattle.rdp_check.specs.declared.registers.ScissorRegister.{ScissorRegister}
-use Rattle.rdp_check.specs.declared.registers.ImageRegister.{ImageRegister}
-use Rattle.rdp_check.specs.declared.registers.DepthImageRegister.{DepthImageRegister}
-use Rattle.rdp_check.specs.declared.registers.Tile.{Tile}
-use Rattle.rdp_check.specs.declared.registers.Colors.{Colors}
-use Rattle.rdp_check.specs.declared.registers.Combiner.{Combiner}
-use Rattle.rdp_check.specs.declared.registers.Modes.{Modes}
-use Rattle.rdp_check.specs.declared.registers.Images.{Images}
-use Rattle.rdp_check.specs.declared.registers.Registers.{Registers}
+use Rattle.rdp_command.specs.declared.Color.{Color}
+use Rattle.rdp_command.specs.declared.OtherModes.{OtherModes}
+use Rattle.rdp_command.specs.declared.TileDescriptor.{TileDescriptor}
+use Rattle.rdp_command.specs.declared.TexelCorner.{TexelCorner}
+use Rattle.rdp_command.specs.declared.Decoded.{Decoded}
+use Rattle.rdp_command.specs.declared.Decoded.the-variants.{Whole, Refused}
+use Rattle.rdp_command.specs.declared.Command.{Command}
+use Rattle.rdp_command.specs.declared.Command.the-variants.{NoOperation, FillTriangle, TextureRectangle, TextureRectangleFlip, SyncLoad, SyncPipe, SyncTile, SyncFull, SetKeyGb, SetKeyR, SetConvert, SetScissor, SetPrimitiveDepth, SetOtherModes, LoadTlut, SetTileSize, LoadBlock, LoadTile, SetTile, FillRectangle, SetFillColor, SetFogColor, SetBlendColor, SetPrimitiveColor, SetEnvironmentColor, SetCombineMode, SetTextureImage, SetDepthImage, SetColorImage}
+use Rattle.rdp_check.specs.declared.FillColorRegister.{FillColorRegister}
+use Rattle.rdp_check.specs.declared.ColorRegister.{ColorRegister}
+use Rattle.rdp_check.specs.declared.PrimitiveColorRegister.{PrimitiveColorRegister}
+use Rattle.rdp_check.specs.declared.CombineRegister.{CombineRegister}
+use Rattle.rdp_check.specs.declared.KeyGbRegister.{KeyGbRegister}
+use Rattle.rdp_check.specs.declared.KeyRRegister.{KeyRRegister}
+use Rattle.rdp_check.specs.declared.ConvertRegister.{ConvertRegister}
+use Rattle.rdp_check.specs.declared.OtherModesRegister.{OtherModesRegister}
+use Rattle.rdp_check.specs.declared.PrimitiveDepthRegister.{PrimitiveDepthRegister}
+use Rattle.rdp_check.specs.declared.ScissorRegister.{ScissorRegister}
+use Rattle.rdp_check.specs.declared.ImageRegister.{ImageRegister}
+use Rattle.rdp_check.specs.declared.DepthImageRegister.{DepthImageRegister}
+use Rattle.rdp_check.specs.declared.Tile.{Tile}
+use Rattle.rdp_check.specs.declared.Colors.{Colors}
+use Rattle.rdp_check.specs.declared.Combiner.{Combiner}
+use Rattle.rdp_check.specs.declared.Modes.{Modes}
+use Rattle.rdp_check.specs.declared.Images.{Images}
+use Rattle.rdp_check.specs.declared.Registers.{Registers}
 
 -- the registers with one group of them, or one tile, replaced
 abbrev pub withColors : Registers → Colors → Registers

@@ -5,12 +5,12 @@ use mathlib.Core.List.{List, [], _∷_}
 use mathlib.Core.Path.{_≡_}
 use lib.Dec.{eqb, ltb}
 use Rattle.rdp_command.specs.Kinds.{among, wordsOf}
-use Rattle.rdp_command.specs.declared.command.Head.{Head}
+use Rattle.rdp_command.specs.declared.Head.{Head}
 use Rattle.rdp_command.specs.Decode.{firstNumber, decodeOf}
 use Rattle.rdp_check.specs.Hazards.{nextOf, requiredOf}
 use Rattle.rdp_check.specs.Check.{State, draws, missing}
 use Rattle.rdp_check.specs.Registers.{afterDecoded}
-use Rattle.rdp_check.specs.declared.registers.Registers.{Registers}
+use Rattle.rdp_check.specs.declared.Registers.{Registers}
 use Rattle.rdp_check.specs.declared.walk.View.{View}
 use Rattle.rdp_check.specs.declared.walk.Advanced.{Advanced}
 

@@ -11,7 +11,7 @@ ghost use Rattle.rdp_check.specs.View.{code, view, viewOf, Sound, viewAf
 use crate::Checked;
 use crate::hazards;
 use crate::table;
-use rdp_command::command::Head;
+use rdp_command::Head;
 
 // What few commands change of what the walk carries: whether a Sync Full has come; the refusal of a draw, or 0; and what gives it: modes (0 not set, 1
 // set, 2 set to FILL), colour image (0 not set, 1 set, 2 set to 4 bits) and scissor.

@@ -15,10 +15,10 @@ use Rattle.rdp_command.specs.Decode.{firstNumber, wholeWords, ownWord, o
 use Rattle.rdp_command.specs.Encode.{answerWith, outWith}
 use Rattle.rdp_command.specs.Numbers.{valuesFrom, numbersFit, flagsAgree, fromNumbers}
 use Rattle.rdp_command.specs.Steps.{decodedFrom}
-use Rattle.rdp_command.specs.declared.command.Answer.{Answer}
-use Rattle.rdp_command.specs.declared.command.Command.{Command}
-use Rattle.rdp_command.specs.declared.command.Decoded.{Decoded}
-use Rattle.rdp_command.specs.declared.command.Decoded.the-variants.{Whole, Refused}
+use Rattle.rdp_command.specs.declared.Answer.{Answer}
+use Rattle.rdp_command.specs.declared.Command.{Command}
+use Rattle.rdp_command.specs.declared.Decoded.{Decoded}
+use Rattle.rdp_command.specs.declared.Decoded.the-variants.{Whole, Refused}
 use Rattle.rdp_command.specs.declared.decoding.Base.{Base}
 
 abbrev pub answer : ℕ → ℕ → Answer

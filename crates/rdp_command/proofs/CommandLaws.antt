@@ -9,8 +9,8 @@ use Rattle.rdp_command.specs.Fields.{Value, fieldsOf}
 use Rattle.rdp_command.specs.Groups.{triangleBaseOf}
 use Rattle.rdp_command.specs.Commands.{commandOf}
 use Rattle.rdp_command.specs.Decode.{commandIn}
-use Rattle.rdp_command.specs.declared.command.Command.{Command}
-use Rattle.rdp_command.specs.declared.command.Command.the-variants.{NoOperation, FillTriangle}
+use Rattle.rdp_command.specs.declared.Command.{Command}
+use Rattle.rdp_command.specs.declared.Command.the-variants.{NoOperation, FillTriangle}
 use Rattle.rdp_command.proofs.Triangles.{layout-at}
 
 -- what is shown at a numeral holds at a number that equals it

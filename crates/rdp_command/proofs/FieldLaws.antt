@@ -20,10 +20,10 @@ use Rattle.rdp_command.specs.Groups.{triangleBaseOf}
 use Rattle.rdp_command.specs.Commands.{commandOf, numberOf, valuesOf}
 use Rattle.rdp_command.specs.Encode.{packedWord, numbersOf, numberFits}
 use Rattle.rdp_command.specs.Numbers.{valueFrom, valuesFrom, numbersFit, flagsAgree, fromNumbers}
-use Rattle.rdp_command.specs.declared.command.TriangleBase.{TriangleBase}
-use Rattle.rdp_command.specs.declared.command.Command.{Command}
-use Rattle.rdp_command.specs.declared.command.Command.the-variants.{FillTriangle}
-use Rattle.rdp_command.specs.declared.command.Decoded.the-variants.{Whole}
+use Rattle.rdp_command.specs.declared.TriangleBase.{TriangleBase}
+use Rattle.rdp_command.specs.declared.Command.{Command}
+use Rattle.rdp_command.specs.declared.Command.the-variants.{FillTriangle}
+use Rattle.rdp_command.specs.declared.Decoded.the-variants.{Whole}
 use Rattle.rdp_command.proofs.Tests.{both, by-test}
 use Rattle.rdp_command.proofs.Signed.{bool-le}
 use Rattle.rdp_command.proofs.TableLaws.{layout-readable}

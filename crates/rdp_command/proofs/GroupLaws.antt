@@ -15,12 +15,12 @@ use Rattle.rdp_command.specs.Groups.{scissorOf, scissorValues, otherMode
 use Rattle.rdp_command.specs.Commands.{commandOf, valuesOf, numberOf}
 use Rattle.rdp_command.specs.Decode.{commandIn}
 use Rattle.rdp_command.specs.Encode.{numberFits}
-use Rattle.rdp_command.specs.declared.command.Scissor.{Scissor}
-use Rattle.rdp_command.specs.declared.command.OtherModes.{OtherModes}
-use Rattle.rdp_command.specs.declared.command.TileDescriptor.{TileDescriptor}
-use Rattle.rdp_command.specs.declared.command.TriangleBase.{TriangleBase}
-use Rattle.rdp_command.specs.declared.command.Command.{Command}
-use Rattle.rdp_command.specs.declared.command.Command.the-variants.{NoOperation, FillTriangle, TextureRectangle, TextureRectangleFlip, SyncLoad, SyncPipe, SyncTile, SyncFull, SetKeyGb, SetKeyR, SetConvert, SetScissor, SetPrimitiveDepth, SetOtherModes, LoadTlut, SetTileSize, LoadBlock, LoadTile, SetTile, FillRectangle, SetFillColor, SetFogColor, SetBlendColor, SetPrimitiveColor, SetEnvironmentColor, SetCombineMode, SetTextureImage, SetDepthImage, SetColorImage}
+use Rattle.rdp_command.specs.declared.Scissor.{Scissor}
+use Rattle.rdp_command.specs.declared.OtherModes.{OtherModes}
+use Rattle.rdp_command.specs.declared.TileDescriptor.{TileDescriptor}
+use Rattle.rdp_command.specs.declared.TriangleBase.{TriangleBase}
+use Rattle.rdp_command.specs.declared.Command.{Command}
+use Rattle.rdp_command.specs.declared.Command.the-variants.{NoOperation, FillTriangle, TextureRectangle, TextureRectangleFlip, SyncLoad, SyncPipe, SyncTile, SyncFull, SetKeyGb, SetKeyR, SetConvert, SetScissor, SetPrimitiveDepth, SetOtherModes, LoadTlut, SetTileSize, LoadBlock, LoadTile, SetTile, FillRectangle, SetFillColor, SetFogColor, SetBlendColor, SetPrimitiveColor, SetEnvironmentColor, SetCombineMode, SetTextureImage, SetDepthImage, SetColorImage}
 use Rattle.rdp_command.proofs.Tests.{below, by-test}
 use Rattle.rdp_command.proofs.KindLaws.{no-operation-small, no-operation-lines}
 use Rattle.rdp_command.proofs.AnswerLaws.{and-true}

@@ -17,8 +17,8 @@ use Rattle.rdp_command.specs.Commands.{commandOf, numberOf, valuesOf}
 use Rattle.rdp_command.specs.Decode.{firstNumber, wholeWords, ownWord, ownWords, commandIn, decodeOf, suffixWords, suffixStart, suffixOf}
 use Rattle.rdp_command.specs.Encode.{packedWord, packedBytes, baseWords, numbersOf, numberFits, encodable, bytesWith, encodedBytes, fixedBits, hasRoom, verdictOf, answerWith, outWith, encodeAnswer, encodeOut}
 use Rattle.rdp_command.specs.Kept.{bytesKept, wordKept}
-use Rattle.rdp_command.specs.declared.command.Command.{Command}
-use Rattle.rdp_command.specs.declared.command.Decoded.the-variants.{Whole}
+use Rattle.rdp_command.specs.declared.Command.{Command}
+use Rattle.rdp_command.specs.declared.Decoded.the-variants.{Whole}
 use Rattle.rdp_command.proofs.Tests.{by-test}
 use Rattle.rdp_command.proofs.KindLaws.{words-pos}
 use Rattle.rdp_command.proofs.TableLaws.{layout-readable}

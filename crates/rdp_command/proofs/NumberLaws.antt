@@ -19,9 +19,9 @@ use Rattle.rdp_command.specs.Groups.{triangleBaseOf}
 use Rattle.rdp_command.specs.Decode.{commandIn}
 use Rattle.rdp_command.specs.Encode.{packedWord, numbersOf, numberFits}
 use Rattle.rdp_command.specs.Kept.{bitsKept}
-use Rattle.rdp_command.specs.declared.command.TriangleBase.{TriangleBase}
-use Rattle.rdp_command.specs.declared.command.Command.{Command}
-use Rattle.rdp_command.specs.declared.command.Command.the-variants.{NoOperation, FillTriangle, TextureRectangle, TextureRectangleFlip, SyncLoad, SyncPipe, SyncTile, SyncFull, SetKeyGb, SetKeyR, SetConvert, SetScissor, SetPrimitiveDepth, SetOtherModes, LoadTlut, SetTileSize, LoadBlock, LoadTile, SetTile, FillRectangle, SetFillColor, SetFogColor, SetBlendColor, SetPrimitiveColor, SetEnvironmentColor, SetCombineMode, SetTextureImage, SetDepthImage, SetColorImage}
+use Rattle.rdp_command.specs.declared.TriangleBase.{TriangleBase}
+use Rattle.rdp_command.specs.declared.Command.{Command}
+use Rattle.rdp_command.specs.declared.Command.the-variants.{NoOperation, FillTriangle, TextureRectangle, TextureRectangleFlip, SyncLoad, SyncPipe, SyncTile, SyncFull, SetKeyGb, SetKeyR, SetConvert, SetScissor, SetPrimitiveDepth, SetOtherModes, LoadTlut, SetTileSize, LoadBlock, LoadTile, SetTile, FillRectangle, SetFillColor, SetFogColor, SetBlendColor, SetPrimitiveColor, SetEnvironmentColor, SetCombineMode, SetTextureImage, SetDepthImage, SetColorImage}
 use Rattle.rdp_command.proofs.Tests.{below, by-test}
 use Rattle.rdp_command.proofs.Signed.{bool-le}
 use Rattle.rdp_command.proofs.KindLaws.{no-operation-small, no-operation-lines}

@@ -8,10 +8,10 @@ use Rattle.rdp_command.specs.Fields.{fieldsOf}
 use Rattle.rdp_command.specs.Groups.{otherModesOf}
 use Rattle.rdp_command.specs.Commands.{commandOf, numberOf}
 use Rattle.rdp_command.specs.Decode.{firstNumber, wholeWords, ownWords, commandIn, decodeOf, wordFields}
-use Rattle.rdp_command.specs.declared.command.Command.{Command}
-use Rattle.rdp_command.specs.declared.command.Command.the-variants.{SetOtherModes, SetScissor, SetColorImage, SetFillColor, FillRectangle}
-use Rattle.rdp_command.specs.declared.command.Decoded.the-variants.{Whole}
-use Rattle.rdp_command.specs.declared.command.OtherModes.{OtherModes}
+use Rattle.rdp_command.specs.declared.Command.{Command}
+use Rattle.rdp_command.specs.declared.Command.the-variants.{SetOtherModes, SetScissor, SetColorImage, SetFillColor, FillRectangle}
+use Rattle.rdp_command.specs.declared.Decoded.the-variants.{Whole}
+use Rattle.rdp_command.specs.declared.OtherModes.{OtherModes}
 use Rattle.rdp_command.proofs.AnswerLaws.{whole}
 use Rattle.rdp_command.proofs.Laws.{number-decoded}
 

@@ -17,7 +17,7 @@ use Rattle.rdp_command.specs.Decode.{suffixWords}
 use Rattle.rdp_command.specs.Numbers.{numbersFit}
 use Rattle.rdp_command.specs.Steps.{Spread, Usable}
 use Rattle.rdp_command.specs.declared.values.Numbers.{Numbers}
-use Rattle.rdp_command.specs.declared.command.Command.{Command}
+use Rattle.rdp_command.specs.declared.Command.{Command}
 use Rattle.rdp_command.proofs.Bytes.{length-overwrite}
 
 -- what is shown of a command's case holds of a command that equals it

@@ -5,8 +5,8 @@ use native.Mathlib.Omega.{arith}
 use borrow.Author.Tests.{eq-eqb}
 use Rattle.rdp_command.specs.Layout.{layout, triangleBaseLines}
 use Rattle.rdp_command.specs.Commands.{numberOf}
-use Rattle.rdp_command.specs.declared.command.TriangleBase.{TriangleBase}
-use Rattle.rdp_command.specs.declared.command.Command.the-variants.{FillTriangle}
+use Rattle.rdp_command.specs.declared.TriangleBase.{TriangleBase}
+use Rattle.rdp_command.specs.declared.Command.the-variants.{FillTriangle}
 use Rattle.rdp_command.proofs.Signed.{bool-le}
 
 pub layout-at : (n : ℕ) → n / 8 ≡ 1 → layout n ≡ triangleBaseLines

@@ -6,8 +6,8 @@ use lib.Dec.{eqb}
 use mir.Val.{boolByte}
 use Rattle.rdp_command.specs.Fields.{Value, unsigned}
 use Rattle.rdp_command.specs.Groups.{natAt, triangleBaseOf, triangleBaseValues, texturedRectangleOf, texturedRectangleValues, keyGbOf, keyGbValues, keyROf, keyRValues, convertOf, convertValues, scissorOf, scissorValues, primitiveDepthOf, primitiveDepthValues, otherModesOf, otherModesValues, tileAreaOf, tileAreaValues, blockOf, blockValues, tileDescriptorOf, tileDescriptorValues, rectangleOf, rectangleValues, colorOf, colorValues, primitiveColorOf, primitiveColorValues, imageOf, imageValues}
-use Rattle.rdp_command.specs.declared.command.Command.{Command}
-use Rattle.rdp_command.specs.declared.command.Command.the-variants.{NoOperation, FillTriangle, TextureRectangle, TextureRectangleFlip, SyncLoad, SyncPipe, SyncTile, SyncFull, SetKeyGb, SetKeyR, SetConvert, SetScissor, SetPrimitiveDepth, SetOtherModes, LoadTlut, SetTileSize, LoadBlock, LoadTile, SetTile, FillRectangle, SetFillColor, SetFogColor, SetBlendColor, SetPrimitiveColor, SetEnvironmentColor, SetCombineMode, SetTextureImage, SetDepthImage, SetColorImage}
+use Rattle.rdp_command.specs.declared.Command.{Command}
+use Rattle.rdp_command.specs.declared.Command.the-variants.{NoOperation, FillTriangle, TextureRectangle, TextureRectangleFlip, SyncLoad, SyncPipe, SyncTile, SyncFull, SetKeyGb, SetKeyR, SetConvert, SetScissor, SetPrimitiveDepth, SetOtherModes, LoadTlut, SetTileSize, LoadBlock, LoadTile, SetTile, FillRectangle, SetFillColor, SetFogColor, SetBlendColor, SetPrimitiveColor, SetEnvironmentColor, SetCombineMode, SetTextureImage, SetDepthImage, SetColorImage}
 
 -- the command of a number from the values of its fields; a number with no name of its own is a no operation
 unfoldable pub commandOf : ℕ → List Value → Command

@@ -10,11 +10,11 @@ use Rattle.rdp_command.specs.Layout.{layout, scissorLines, otherModesLin
 use Rattle.rdp_command.specs.Fields.{fieldsOf}
 use Rattle.rdp_command.specs.Groups.{natAt, scissorOf, otherModesOf, rectangleOf, imageOf}
 use Rattle.rdp_command.specs.Commands.{commandOf}
-use Rattle.rdp_command.specs.declared.command.Command.{Command}
-use Rattle.rdp_command.specs.declared.command.WordFields.{WordFields}
-use Rattle.rdp_command.specs.declared.command.Head.{Head}
-use Rattle.rdp_command.specs.declared.command.Decoded.{Decoded}
-use Rattle.rdp_command.specs.declared.command.Decoded.the-variants.{Whole, Refused}
+use Rattle.rdp_command.specs.declared.Command.{Command}
+use Rattle.rdp_command.specs.declared.WordFields.{WordFields}
+use Rattle.rdp_command.specs.declared.Head.{Head}
+use Rattle.rdp_command.specs.declared.Decoded.{Decoded}
+use Rattle.rdp_command.specs.declared.Decoded.the-variants.{Whole, Refused}
 
 -- the number of the first command
 abbrev pub firstNumber : List ℕ → ℕ

@@ -6,26 +6,26 @@ use lib.Dec.{eqb}
 use lib.IntN.{ℤ, pos}
 use lib.ListN.{getD, drop}
 use Rattle.rdp_command.specs.Fields.{Value, unsigned, signed, flag}
-use Rattle.rdp_command.specs.declared.command.Edge.{Edge}
-use Rattle.rdp_command.specs.declared.command.TriangleBase.{TriangleBase}
-use Rattle.rdp_command.specs.declared.command.TextureStep.{TextureStep}
-use Rattle.rdp_command.specs.declared.command.TexturedRectangle.{TexturedRectangle}
-use Rattle.rdp_command.specs.declared.command.KeyGb.{KeyGb}
-use Rattle.rdp_command.specs.declared.command.KeyR.{KeyR}
-use Rattle.rdp_command.specs.declared.command.Convert.{Convert}
-use Rattle.rdp_command.specs.declared.command.Scissor.{Scissor}
-use Rattle.rdp_command.specs.declared.command.PrimitiveDepth.{PrimitiveDepth}
-use Rattle.rdp_command.specs.declared.command.TextureModes.{TextureModes}
-use Rattle.rdp_command.specs.declared.command.BlenderInputs.{BlenderInputs}
-use Rattle.rdp_command.specs.declared.command.PixelModes.{PixelModes}
-use Rattle.rdp_command.specs.declared.command.OtherModes.{OtherModes}
-use Rattle.rdp_command.specs.declared.command.TileArea.{TileArea}
-use Rattle.rdp_command.specs.declared.command.Block.{Block}
-use Rattle.rdp_command.specs.declared.command.TileDescriptor.{TileDescriptor}
-use Rattle.rdp_command.specs.declared.command.Rectangle.{Rectangle}
-use Rattle.rdp_command.specs.declared.command.Color.{Color}
-use Rattle.rdp_command.specs.declared.command.PrimitiveColor.{PrimitiveColor}
-use Rattle.rdp_command.specs.declared.command.Image.{Image}
+use Rattle.rdp_command.specs.declared.Edge.{Edge}
+use Rattle.rdp_command.specs.declared.TriangleBase.{TriangleBase}
+use Rattle.rdp_command.specs.declared.TextureStep.{TextureStep}
+use Rattle.rdp_command.specs.declared.TexturedRectangle.{TexturedRectangle}
+use Rattle.rdp_command.specs.declared.KeyGb.{KeyGb}
+use Rattle.rdp_command.specs.declared.KeyR.{KeyR}
+use Rattle.rdp_command.specs.declared.Convert.{Convert}
+use Rattle.rdp_command.specs.declared.Scissor.{Scissor}
+use Rattle.rdp_command.specs.declared.PrimitiveDepth.{PrimitiveDepth}
+use Rattle.rdp_command.specs.declared.TextureModes.{TextureModes}
+use Rattle.rdp_command.specs.declared.BlenderInputs.{BlenderInputs}
+use Rattle.rdp_command.specs.declared.PixelModes.{PixelModes}
+use Rattle.rdp_command.specs.declared.OtherModes.{OtherModes}
+use Rattle.rdp_command.specs.declared.TileArea.{TileArea}
+use Rattle.rdp_command.specs.declared.Block.{Block}
+use Rattle.rdp_command.specs.declared.TileDescriptor.{TileDescriptor}
+use Rattle.rdp_command.specs.declared.Rectangle.{Rectangle}
+use Rattle.rdp_command.specs.declared.Color.{Color}
+use Rattle.rdp_command.specs.declared.PrimitiveColor.{PrimitiveColor}
+use Rattle.rdp_command.specs.declared.Image.{Image}
 
 -- value k as a number, as a signed number and as a flag
 abbrev pub natOf : Value → ℕ

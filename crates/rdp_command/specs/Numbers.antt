@@ -11,10 +11,10 @@ use Rattle.rdp_command.specs.Layout.{Line, layout}
 use Rattle.rdp_command.specs.Fields.{Value, unsigned, signed, allFit}
 use Rattle.rdp_command.specs.Commands.{commandOf}
 use Rattle.rdp_command.specs.Encode.{numbersOf}
-use Rattle.rdp_command.specs.declared.command.Answer.{Answer}
-use Rattle.rdp_command.specs.declared.command.Command.{Command}
-use Rattle.rdp_command.specs.declared.command.Decoded.{Decoded}
-use Rattle.rdp_command.specs.declared.command.Decoded.the-variants.{Whole, Refused}
+use Rattle.rdp_command.specs.declared.Answer.{Answer}
+use Rattle.rdp_command.specs.declared.Command.{Command}
+use Rattle.rdp_command.specs.declared.Decoded.{Decoded}
+use Rattle.rdp_command.specs.declared.Decoded.the-variants.{Whole, Refused}
 
 -- what writing a command's fields answers: 14 at the count needed, else 0 and the count
 unfoldable pub fieldsAnswer : Command → List ℕ → Answer

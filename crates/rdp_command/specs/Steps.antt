@@ -10,9 +10,9 @@ use Rattle.rdp_command.specs.Commands.{numberOf, valuesOf}
 use Rattle.rdp_command.specs.Decode.{commandIn}
 use Rattle.rdp_command.specs.Encode.{numbersOf, numberFits}
 use Rattle.rdp_command.specs.Numbers.{valuesFrom}
-use Rattle.rdp_command.specs.declared.command.Command.{Command}
-use Rattle.rdp_command.specs.declared.command.Decoded.{Decoded}
-use Rattle.rdp_command.specs.declared.command.Decoded.the-variants.{Whole, Refused}
+use Rattle.rdp_command.specs.declared.Command.{Command}
+use Rattle.rdp_command.specs.declared.Decoded.{Decoded}
+use Rattle.rdp_command.specs.declared.Decoded.the-variants.{Whole, Refused}
 use Rattle.rdp_command.specs.declared.decoding.Base.{Base}
 use Rattle.rdp_command.specs.declared.values.Four.{Four}
 use Rattle.rdp_command.specs.declared.values.Numbers.{Numbers}

@@ -3,9 +3,9 @@ ghost use mathlib.Core.Path.{_≡_};
 ghost use mathlib.Core.List.{[], _∷_};
 ghost use Rattle.rdp_command.specs.Decode.{commandIn, decodeOf};
 ghost use Rattle.rdp_command.specs.Steps.{decodedFrom};
-use crate::command::*;
 use crate::read;
 use crate::words;
+use crate::*;
 
 // The number of a command and its words before the suffix; those that it does not have are 0. Without ok there is no command.
 pub struct Base {

@@ -13,14 +13,14 @@ ghost use Rattle.rdp_command.specs.Decode.{suffixWords};
 ghost use Rattle.rdp_command.specs.Encode.{fixedBits, packedWord, packedBytes, baseWords, bytesWith, verdictOf, answerWith, outWith, encodeAnswer, encodeOut};
 ghost use Rattle.rdp_command.specs.Numbers.{numbersFit, flagsAgree, fromNumbers};
 ghost use Rattle.rdp_command.specs.Steps.{Spread, Usable, decodedFrom};
-ghost use Rattle.rdp_command.specs.declared.command.Command.{Command};
-use crate::command::*;
+ghost use Rattle.rdp_command.specs.declared.Command.{Command};
 use crate::decoding::Base;
 use crate::packing;
 use crate::table;
 use crate::values::Numbers;
 use crate::words;
 use crate::words_of;
+use crate::*;
 
 // Where the bit lines of a number stand in the table, and how many they are.
 pub struct Lines {

@@ -8,7 +8,6 @@ ghost use Rattle.rdp_command.specs.Decode.{wordFields, headOf, decodeOf,
 ghost use Rattle.rdp_command.specs.Encode.{encodeAnswer, encodeOut};
 ghost use Rattle.rdp_command.specs.Numbers.{fieldsAnswer, fieldsOut, fromNumbers};
 
-pub mod command;
 mod decoding;
 mod encoding;
 mod packing;
@@ -17,7 +16,312 @@ mod table;
 mod values;
 mod words;
 
-use command::*;
+// The commands, with their fields in the order of the wiki's bit lines.
+
+// A corner of a rectangle, in quarter pixels.
+#[repr(C)]
+pub struct Corner {
+    pub x: u16,
+    pub y: u16,
+}
+
+// A corner of an area of texels, in quarter texels.
+#[repr(C)]
+pub struct TexelCorner {
+    pub s: u16,
+    pub t: u16,
+}
+
+// A fixed-point number: its signed integer part and its 16-bit fraction.
+#[repr(C)]
+pub struct Fixed {
+    pub i: i16,
+    pub f: u16,
+}
+
+// An edge of a triangle: the x of a point on it, and the change in x per line.
+#[repr(C)]
+pub struct Edge {
+    pub x: Fixed,
+    pub dxdy: Fixed,
+}
+
+// The base of a triangle: what follows it, its tile, its heights in quarter pixels, and its edges.
+#[repr(C)]
+pub struct TriangleBase {
+    pub shade: bool,
+    pub texture: bool,
+    pub zbuffer: bool,
+    pub lmajor: bool,
+    pub level: u8,
+    pub tile: u8,
+    pub yl: i16,
+    pub ym: i16,
+    pub yh: i16,
+    pub l: Edge,
+    pub h: Edge,
+    pub m: Edge,
+}
+
+// Texture coordinates of a rectangle's upper left corner, and their change per pixel.
+#[repr(C)]
+pub struct TextureStep {
+    pub s: i16,
+    pub t: i16,
+    pub dsdx: i16,
+    pub dtdy: i16,
+}
+
+// A rectangle with its tile and its texture coordinates.
+#[repr(C)]
+pub struct TexturedRectangle {
+    pub lower_right: Corner,
+    pub tile: u8,
+    pub upper_left: Corner,
+    pub step: TextureStep,
+}
+
+// Chroma key of green and blue.
+#[repr(C)]
+pub struct KeyGb {
+    pub width_g: u16,
+    pub width_b: u16,
+    pub center_g: u8,
+    pub scale_g: u8,
+    pub center_b: u8,
+    pub scale_b: u8,
+}
+
+// Chroma key of red.
+#[repr(C)]
+pub struct KeyR {
+    pub width_r: u16,
+    pub center_r: u8,
+    pub scale_r: u8,
+}
+
+// Colour conversion constants.
+#[repr(C)]
+pub struct Convert {
+    pub k0: u16,
+    pub k1: u16,
+    pub k2: u16,
+    pub k3: u16,
+    pub k4: u16,
+    pub k5: u16,
+}
+
+// The scissor rectangle, and which lines are kept when field is set.
+#[repr(C)]
+pub struct Scissor {
+    pub upper_left: Corner,
+    pub field: bool,
+    pub odd: bool,
+    pub lower_right: Corner,
+}
+
+// Depth of a primitive.
+#[repr(C)]
+pub struct PrimitiveDepth {
+    pub z: u16,
+    pub dz: u16,
+}
+
+// The modes of texture sampling.
+#[repr(C)]
+pub struct TextureModes {
+    pub persp_tex_en: bool,
+    pub detail_tex_en: bool,
+    pub sharpen_tex_en: bool,
+    pub tex_lod_en: bool,
+    pub tlut_en: bool,
+    pub tlut_type: bool,
+    pub sample_type: bool,
+    pub mid_texel: bool,
+    pub bi_lerp_0: bool,
+    pub bi_lerp_1: bool,
+    pub convert_one: bool,
+}
+
+// The inputs of the blender, for the first and the second cycle.
+#[repr(C)]
+pub struct BlenderInputs {
+    pub bl_m1a_0: u8,
+    pub bl_m1a_1: u8,
+    pub bl_m1b_0: u8,
+    pub bl_m1b_1: u8,
+    pub bl_m2a_0: u8,
+    pub bl_m2a_1: u8,
+    pub bl_m2b_0: u8,
+    pub bl_m2b_1: u8,
+}
+
+// The modes of blending, coverage, depth and alpha compare.
+#[repr(C)]
+pub struct PixelModes {
+    pub force_blend: bool,
+    pub alpha_cvg_select: bool,
+    pub cvg_x_alpha: bool,
+    pub z_mode: u8,
+    pub cvg_dest: u8,
+    pub color_on_cvg: bool,
+    pub image_read_en: bool,
+    pub z_update_en: bool,
+    pub z_compare_en: bool,
+    pub antialias_en: bool,
+    pub z_source_sel: bool,
+    pub dither_alpha_en: bool,
+    pub alpha_compare_en: bool,
+}
+
+// The other modes. The cycle type is 0 one-cycle, 1 two-cycle, 2 COPY, 3 FILL.
+#[repr(C)]
+pub struct OtherModes {
+    pub atomic_prim: bool,
+    pub cycle_type: u8,
+    pub texture: TextureModes,
+    pub key_en: bool,
+    pub rgb_dither_sel: u8,
+    pub alpha_dither_sel: u8,
+    pub blender: BlenderInputs,
+    pub pixel: PixelModes,
+}
+
+// An area of texels of a tile.
+#[repr(C)]
+pub struct TileArea {
+    pub upper_left: TexelCorner,
+    pub tile: u8,
+    pub lower_right: TexelCorner,
+}
+
+// The texels of a block.
+#[repr(C)]
+pub struct Block {
+    pub upper_left: TexelCorner,
+    pub tile: u8,
+    pub lower_right_s: u16,
+    pub dxt: u16,
+}
+
+// A tile descriptor.
+#[repr(C)]
+pub struct TileDescriptor {
+    pub format: u8,
+    pub size: u8,
+    pub line: u16,
+    pub address: u16,
+    pub index: u8,
+    pub palette: u8,
+    pub clamp_t: bool,
+    pub mirror_t: bool,
+    pub mask_t: u8,
+    pub shift_t: u8,
+    pub clamp_s: bool,
+    pub mirror_s: bool,
+    pub mask_s: u8,
+    pub shift_s: u8,
+}
+
+// A rectangle by its corners.
+#[repr(C)]
+pub struct Rectangle {
+    pub lower_right: Corner,
+    pub upper_left: Corner,
+}
+
+// A colour.
+#[repr(C)]
+pub struct Color {
+    pub red: u8,
+    pub green: u8,
+    pub blue: u8,
+    pub alpha: u8,
+}
+
+// The primitive colour, with its level of detail.
+#[repr(C)]
+pub struct PrimitiveColor {
+    pub min_level: u8,
+    pub prim_lod_frac: u8,
+    pub color: Color,
+}
+
+// An image in memory. The width is one less than that of the image.
+#[repr(C)]
+pub struct Image {
+    pub format: u8,
+    pub size: u8,
+    pub width: u16,
+    pub address: u32,
+}
+
+// What the check reads of a word: its command number, the cycle type of a Set Other Modes and the size of a Set Color Image.
+#[repr(C)]
+pub struct Head {
+    pub number: u8,
+    pub cycle_type: u8,
+    pub image_size: u8,
+}
+
+// A word, its command number, and what the check and the drawing read of it, as each of the commands that they look into would have it.
+#[repr(C)]
+pub struct WordFields {
+    pub word: u64,
+    pub number: u8,
+    pub cycle_type: u8,
+    pub scissor: Scissor,
+    pub rectangle: Rectangle,
+    pub fill_color: u32,
+    pub color_image: Image,
+}
+
+// A decoded command.
+pub enum Command {
+    // A no operation keeps its number.
+    NoOperation(u8),
+    FillTriangle(TriangleBase),
+    TextureRectangle(TexturedRectangle),
+    TextureRectangleFlip(TexturedRectangle),
+    SyncLoad,
+    SyncPipe,
+    SyncTile,
+    SyncFull,
+    SetKeyGb(KeyGb),
+    SetKeyR(KeyR),
+    SetConvert(Convert),
+    SetScissor(Scissor),
+    SetPrimitiveDepth(PrimitiveDepth),
+    SetOtherModes(OtherModes),
+    LoadTlut(TileArea),
+    SetTileSize(TileArea),
+    LoadBlock(Block),
+    LoadTile(TileArea),
+    SetTile(TileDescriptor),
+    FillRectangle(Rectangle),
+    SetFillColor(u32),
+    SetFogColor(Color),
+    SetBlendColor(Color),
+    SetPrimitiveColor(PrimitiveColor),
+    SetEnvironmentColor(Color),
+    SetCombineMode(u64),
+    SetTextureImage(Image),
+    SetDepthImage(u32),
+    SetColorImage(Image),
+}
+
+// The number of a refusal, 0 for acceptance, and its place in words.
+#[repr(C)]
+pub struct Answer {
+    pub number: u32,
+    pub place: u32,
+}
+
+// What decoding answers: the command, or a refusal.
+pub enum Decoded {
+    Whole(Command),
+    Refused(Answer),
+}
 
 // The word at a place of a list, 0 where there is no whole word; its command number; and the fields that the check and the drawing read: those that the
 // word has as a Set Other Modes, a Set Scissor, a Fill Rectangle, a Set Fill Color and a Set Color Image. The caller takes what the number names.

@@ -6,8 +6,8 @@ ghost use Rattle.rdp_command.specs.Layout.{edgeLines, triangleBaseLines,
 ghost use Rattle.rdp_command.specs.Fields.{twosComplement, fieldsOf};
 ghost use Rattle.rdp_command.specs.Groups.{edgeOf, triangleBaseOf, textureStepOf, texturedRectangleOf, keyGbOf, keyROf, convertOf, scissorOf, primitiveDepthOf, textureModesOf, blenderInputsOf, pixelModesOf, otherModesOf, tileAreaOf, blockOf, tileDescriptorOf, rectangleOf, colorOf, primitiveColorOf, imageOf};
 ghost use Rattle.rdp_command.specs.Decode.{wordFields, headOf};
-use crate::command::*;
 use crate::words::number_in;
+use crate::*;
 
 // A two's complement number, where half is 2 to its bits less one.
 fn signed(raw: u32, half: u32) -> i16

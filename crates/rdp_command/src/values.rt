@@ -10,12 +10,12 @@ ghost use Rattle.rdp_command.specs.Words.{overwrite};
 ghost use Rattle.rdp_command.specs.Kinds.{isNoOperation};
 ghost use Rattle.rdp_command.specs.Layout.{edgeLines, textureStepLines, texturedRectangleLines};
 ghost use Rattle.rdp_command.specs.Fields.{numberOfValue};
-ghost use Rattle.rdp_command.specs.declared.command.Command.the-variants.{FillTriangle};
-ghost use Rattle.rdp_command.specs.declared.command.Command.{Command};
+ghost use Rattle.rdp_command.specs.declared.Command.the-variants.{FillTriangle};
+ghost use Rattle.rdp_command.specs.declared.Command.{Command};
 ghost use Rattle.rdp_command.specs.Numbers.{valuesFrom, fieldsAnswer, fieldsOut};
 ghost use Rattle.rdp_command.specs.Steps.{listed, numbered, Spread, Usable};
 ghost use Rattle.rdp_command.specs.Groups.{edgeValues, triangleBaseValues, textureStepValues, texturedRectangleValues, keyGbValues, keyRValues, convertValues, scissorValues, primitiveDepthValues, otherModesValues, tileAreaValues, blockValues, tileDescriptorValues, rectangleValues, colorValues, primitiveColorValues, imageValues};
-use crate::command::*;
+use crate::*;
 
 // A command's number, whether it is one that the command can have, and the numbers of its fields: their count, and the numbers with zeros after them.
 pub struct Numbers {

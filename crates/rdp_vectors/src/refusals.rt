@@ -1,7 +1,7 @@
 // Commands that can't be encoded or made, beside their neighbours that can. Each answer has a line.
 use crate::show::front;
 use crate::text;
-use rdp_command::command::*;
+use rdp_command::*;
 
 pub fn show_refusals() {
     fields_beyond_their_bits();

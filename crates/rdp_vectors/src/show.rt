@@ -1,6 +1,6 @@
 // A list, decoded and encoded.
 use crate::text;
-use rdp_command::command::*;
+use rdp_command::*;
 
 // Byte i of words, most significant byte first; 0 beyond them.
 fn byte_of(words: &[u64], i: usize) -> u8 {

@@ -1,6 +1,6 @@
 // What is printed on standard output.
 use libc::STDOUT_FILENO;
-use rdp_command::command::*;
+use rdp_command::*;
 
 pub fn print(bytes: &[u8]) {
     io::write_all(STDOUT_FILENO, bytes);

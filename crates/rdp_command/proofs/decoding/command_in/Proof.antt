@@ -4,7 +4,7 @@ use mathlib.Core.Path.{ap, refl, _∙_}
 use borrow.Author.Tests.{ne-eqb}
 use Rattle.rdp_command.specs.Layout.{layout}
 use Rattle.rdp_command.specs.Commands.{commandOf}
-use Rattle.rdp_command.specs.declared.command.Command.the-variants.{FillTriangle, TextureRectangle, TextureRectangleFlip, SetKeyGb, SetKeyR, SetConvert, SetScissor, SetPrimitiveDepth, SetOtherModes, LoadTlut, SetTileSize, LoadBlock, LoadTile, SetTile, FillRectangle, SetFogColor, SetBlendColor, SetPrimitiveColor, SetEnvironmentColor, SetTextureImage, SetColorImage}
+use Rattle.rdp_command.specs.declared.Command.the-variants.{FillTriangle, TextureRectangle, TextureRectangleFlip, SetKeyGb, SetKeyR, SetConvert, SetScissor, SetPrimitiveDepth, SetOtherModes, LoadTlut, SetTileSize, LoadBlock, LoadTile, SetTile, FillRectangle, SetFogColor, SetBlendColor, SetPrimitiveColor, SetEnvironmentColor, SetTextureImage, SetColorImage}
 use Rattle.rdp_command.specs.declared.decoding.Base.{Base}
 use Rattle.rdp_command.proofs.CommandLaws.{at-number, at-triangle}
 use borrow.Author.Needs.{needs}

@@ -1,7 +1,7 @@
 use borrow.Author.Needs.{needs}
 use mathlib.Core.Path.{ap}
 use Rattle.rdp_command.specs.Steps.{decodedFrom}
-use Rattle.rdp_command.specs.declared.command.Decoded.the-variants.{Whole}
+use Rattle.rdp_command.specs.declared.Decoded.the-variants.{Whole}
 use Rattle.rdp_command.proofs.decoding.decoded.Statement.{statement}
 use Rattle.rdp_command.proofs.decoding.decoded.Tie as tie
 

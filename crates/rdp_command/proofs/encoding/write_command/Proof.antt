@@ -11,7 +11,7 @@ use Rattle.rdp_command.specs.Kinds.{wordsOf}
 use Rattle.rdp_command.specs.Decode.{suffixWords}
 use Rattle.rdp_command.specs.Encode.{verdictOf, hasRoom, answerWith, outWith}
 use Rattle.rdp_command.specs.Numbers.{numbersFit}
-use Rattle.rdp_command.specs.declared.command.Answer.{Answer}
+use Rattle.rdp_command.specs.declared.Answer.{Answer}
 use Rattle.rdp_command.proofs.KindLaws.{words-most}
 use Rattle.rdp_command.proofs.AnswerLaws.{and-true, fit-parts}
 use borrow.Author.Needs.{needs}

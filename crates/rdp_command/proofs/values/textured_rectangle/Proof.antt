@@ -5,7 +5,7 @@ use Prim.Native.Nat.{ℕ}
 use lib.ListN.{getD}
 use Rattle.rdp_command.specs.Fields.{unsigned}
 use Rattle.rdp_command.specs.Steps.{numbered}
-use Rattle.rdp_command.specs.declared.command.TexturedRectangle.{TexturedRectangle}
+use Rattle.rdp_command.specs.declared.TexturedRectangle.{TexturedRectangle}
 use borrow.Author.Needs.{needs}
 use Rattle.rdp_command.proofs.values.textured_rectangle.Statement.{statement}
 use Rattle.rdp_command.proofs.values.textured_rectangle.Tie as tie

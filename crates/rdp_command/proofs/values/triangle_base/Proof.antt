@@ -10,8 +10,8 @@ use Rattle.rdp_command.specs.Fields.{unsigned, signed, flag}
 use Rattle.rdp_command.specs.Encode.{numbersOf}
 use Rattle.rdp_command.specs.Numbers.{valuesFrom}
 use Rattle.rdp_command.specs.Steps.{numbered}
-use Rattle.rdp_command.specs.declared.command.TriangleBase.{TriangleBase}
-use Rattle.rdp_command.specs.declared.command.Command.the-variants.{FillTriangle}
+use Rattle.rdp_command.specs.declared.TriangleBase.{TriangleBase}
+use Rattle.rdp_command.specs.declared.Command.the-variants.{FillTriangle}
 use Rattle.rdp_command.proofs.Signed.{given}
 use Rattle.rdp_command.proofs.Triangles.{triangle-layout, triangle-small}
 use borrow.Author.Needs.{needs}
