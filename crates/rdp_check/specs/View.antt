@@ -33,7 +33,7 @@ view hazards ended modes image scissor =
       rest = record { ended = ended; draw = drawRefusal modes image scissor; modes = modes; image = image; scissor = scissor };
     }
 
--- it is carried of the state
+-- the view of a state
 unfoldable pub viewOf : State → View
 viewOf s =
     let r = s .registers in
@@ -64,11 +64,11 @@ refusalWith ended draw required = cond ended 4 (orElse draw (missing required))
 abbrev pub viewRefusal : Bool → View → ℕ → ℕ
 viewRefusal strict v n = refusalWith (v .rest .ended) (cond (draws n) (v .rest .draw) 0) (cond strict (requiredOf (v .hazards) n) 0)
 
--- a command that changes nothing but the hazards: no Sync Full or setter of what is carried
+-- a Sync Full, or a command that sets a register of which something is carried
 unfoldable pub sets : ℕ → Bool
 sets n = among n (0x29 ∷ 0x2D ∷ 0x2F ∷ 0x3F ∷ [])
 
--- a command of one word that is no draw either
+-- any other command that is no draw: it has one word and changes nothing but the hazards
 unfoldable pub quiet : ℕ → Bool
 quiet n = not (draws n || sets n)
 

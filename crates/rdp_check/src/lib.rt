@@ -1,4 +1,4 @@
-// The check of a command list: hazards, refusals and registers.
+// The check of a command list: hazards, refusals and registers; and its repair.
 ghost use mathlib.Core.Path.{_≡_};
 ghost use Prim.Native.Nat.{_%_};
 ghost use Rattle.rdp_check.specs.Hazards.{transitionOf};
@@ -156,7 +156,7 @@ pub struct Registers {
     pub tiles: [Tile; 8],
 }
 
-// The same with the registers there.
+// The check's answer with the registers there.
 #[repr(C)]
 pub struct ListState {
     pub number: u32,
