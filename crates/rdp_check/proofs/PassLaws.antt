@@ -196,9 +196,6 @@ module _ {list : List ℕ} {words : ℕ} {work out₀ out : List ℕ} {at m i to
     abbrev turn : List ℕ
     turn = optionBytes (choice / 16) ++ take (8 * count) (drop (8 * at) list)
 
-    pub choice-small : choice < 64
-    choice-small = w .below (16 * i + m) choice-there
-
     due-next : dueFrom list work at i m ≡ turn ++ dueFrom list work (at + count) (i + 1) (choice % 16)
     due-next =
         let rest : List (List ℕ) = commandsOf (drop (8 * (at + count)) list) in
