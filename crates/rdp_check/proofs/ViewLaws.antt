@@ -12,7 +12,7 @@ use Rattle.rdp_command.specs.Commands.{numberOf}
 use Rattle.rdp_command.specs.Decode.{firstNumber, wholeWords, decodeOf, headOf}
 use Rattle.rdp_command.specs.declared.Command.{Command}
 use Rattle.rdp_command.specs.declared.Command.the-variants.{NoOperation, FillTriangle, TextureRectangle, TextureRectangleFlip, SyncLoad, SyncPipe, SyncTile, SyncFull, SetKeyGb, SetKeyR, SetConvert, SetScissor, SetPrimitiveDepth, SetOtherModes, LoadTlut, SetTileSize, LoadBlock, LoadTile, SetTile, FillRectangle, SetFillColor, SetFogColor, SetBlendColor, SetPrimitiveColor, SetEnvironmentColor, SetCombineMode, SetTextureImage, SetDepthImage, SetColorImage}
-use Rattle.rdp_command.proofs.Tests.{below, both, by-test, same, same-bool}
+use Rattle.rdp_command.proofs.Tests.{below, both, by-test, same, same-bool, true-of}
 use Rattle.rdp_check.specs.Hazards.{nextOf, requiredOf, entryOf}
 use Rattle.rdp_check.specs.Registers.{registersAfter, afterDecoded}
 use Rattle.rdp_check.specs.Check.{State, afterCommand, draws, refusalOf, refusalAt}
@@ -30,23 +30,36 @@ false-of : (b : Bool) → T (not b) → b ≡ false
 false-of true t = absurd t
 false-of false t = refl
 
-pub quiet-by : (n : ℕ) → n < 64 → eqb (0x8040_A230_0000_FF00 / 2 ^ n % 2) 0 ≡ quiet n
+-- the constants of the code
+abbrev quietMask : ℕ
+quietMask = 0x8040_A230_0000_FF00
+
+abbrev setterMask : ℕ
+setterMask = 0x8000_A200_0000_0000
+
+pub quiet-by : (n : ℕ) → n < 64 → eqb (quietMask / 2 ^ n % 2) 0 ≡ quiet n
 unfolding quiet sets draws kindOf
-quiet-by n h = same-bool _ _ (below 64 (λ k. same (eqb (0x8040_A230_0000_FF00 / 2 ^ k % 2) 0) (quiet k)) tt n h)
+quiet-by n h = same-bool _ _ (below 64 (λ k. same (eqb (quietMask / 2 ^ k % 2) 0) (quiet k)) tt n h)
 
-pub sets-by : (n : ℕ) → n < 64 → eqb (0x8000_A200_0000_0000 / 2 ^ n % 2) 1 ≡ sets n
+pub sets-by : (n : ℕ) → n < 64 → eqb (setterMask / 2 ^ n % 2) 1 ≡ sets n
 unfolding sets
-sets-by n h = same-bool _ _ (below 64 (λ k. same (eqb (0x8000_A200_0000_0000 / 2 ^ k % 2) 1) (sets k)) tt n h)
+sets-by n h = same-bool _ _ (below 64 (λ k. same (eqb (setterMask / 2 ^ k % 2) 1) (sets k)) tt n h)
 
--- a number is quiet, or sets something and is no draw of more words, or is a draw and sets nothing
-abbrev stepTest : ℕ → Bool
-stepTest n =
-    (not (quiet n) || (not (draws n) && (not (sets n) && eqb (wordsOf n) 1))) &&
-    ((not (sets n) || (not (draws n) && eqb (wordsOf n) 1)) && (quiet n || (sets n || draws n)))
+-- what holds of a quiet number, of a setter, and of any other
+abbrev quietTest : ℕ → Bool
+quietTest n = not (quiet n) || (not (draws n) && (not (sets n) && eqb (wordsOf n) 1))
 
-step-test : (n : ℕ) → n < 64 → T (stepTest n)
+abbrev setterTest : ℕ → Bool
+setterTest n = not (sets n) || (not (draws n) && eqb (wordsOf n) 1)
+
+abbrev otherTest : ℕ → Bool
+otherTest n = quiet n || (sets n || draws n)
+
+step-tests : (n : ℕ) → n < 64 → T (quietTest n) × (T (setterTest n) × T (otherTest n))
 unfolding quiet sets draws kindOf wordsOf
-step-test n h = below 64 stepTest tt n h
+step-tests n h =
+    let t = both (quietTest n) (setterTest n && otherTest n) (below 64 (λ k. quietTest k && (setterTest k && otherTest k)) tt n h) in
+    (t .0, both (setterTest n) (otherTest n) (t .1))
 
 -- a command that is no draw, sets nothing and has one word
 pub record Quiet (n : ℕ) : Type 0 where
@@ -56,27 +69,20 @@ pub record Quiet (n : ℕ) : Type 0 where
 
 pub quiet-is : (n : ℕ) → n < 64 → quiet n ≡ true → Quiet n
 quiet-is n h q =
-    let t0 = rw q at (both (not (quiet n) || (not (draws n) && (not (sets n) && eqb (wordsOf n) 1))) _ (step-test n h) .0) in
+    let t0 = rw q at (step-tests n h .0) in
     let t1 = both (not (draws n)) _ t0 in
     let t2 = both (not (sets n)) _ (t1 .1) in
     record { drawless = false-of _ (t1 .0); keeps = false-of _ (t2 .0); single = eqb→eq _ _ (t2 .1) }
 
 pub setter-is : (n : ℕ) → n < 64 → sets n ≡ true → (draws n ≡ false) × (wordsOf n ≡ 1)
 setter-is n h q =
-    let t = both (not (quiet n) || (not (draws n) && (not (sets n) && eqb (wordsOf n) 1))) _ (step-test n h) .1 in
-    let t0 = rw q at (both (not (sets n) || (not (draws n) && eqb (wordsOf n) 1)) _ t .0) in
+    let t0 = rw q at (step-tests n h .1 .0) in
     let t1 = both (not (draws n)) _ t0 in
     (false-of _ (t1 .0), eqb→eq _ _ (t1 .1))
 
-true-of : (b : Bool) → T b → b ≡ true
-true-of true t = refl
-true-of false t = absurd t
-
 pub draw-is : (n : ℕ) → n < 64 → quiet n ≡ false → sets n ≡ false → draws n ≡ true
 draw-is n h q s =
-    let t = both (not (quiet n) || (not (draws n) && (not (sets n) && eqb (wordsOf n) 1))) _ (step-test n h) .1 in
-    let u = both (not (sets n) || (not (draws n) && eqb (wordsOf n) 1)) _ t .1 in
-    true-of (draws n) (rw (q, s) at u)
+    true-of (draws n) (rw (q, s) at (step-tests n h .1 .1))
 
 -- which of the four a setter is
 or-false : (a b : Bool) → a || b ≡ false → (a ≡ false) × (b ≡ false)

@@ -21,7 +21,7 @@ use Rattle.rdp_command.specs.declared.TileDescriptor.{TileDescriptor}
 use Rattle.rdp_command.specs.declared.TriangleBase.{TriangleBase}
 use Rattle.rdp_command.specs.declared.Command.{Command}
 use Rattle.rdp_command.specs.declared.Command.the-variants.{NoOperation, FillTriangle, TextureRectangle, TextureRectangleFlip, SyncLoad, SyncPipe, SyncTile, SyncFull, SetKeyGb, SetKeyR, SetConvert, SetScissor, SetPrimitiveDepth, SetOtherModes, LoadTlut, SetTileSize, LoadBlock, LoadTile, SetTile, FillRectangle, SetFillColor, SetFogColor, SetBlendColor, SetPrimitiveColor, SetEnvironmentColor, SetCombineMode, SetTextureImage, SetDepthImage, SetColorImage}
-use Rattle.rdp_command.proofs.Tests.{below, by-test}
+use Rattle.rdp_command.proofs.Tests.{below, by-test, true-of}
 use Rattle.rdp_command.proofs.KindLaws.{no-operation-small, no-operation-lines}
 use Rattle.rdp_command.proofs.AnswerLaws.{and-true}
 use Rattle.rdp_command.proofs.Triangles.{layout-at, triangle-eighth}
@@ -45,10 +45,6 @@ unfolding Each
 pick P [] ps n e = absurd (false≢true e)
 pick P (k ∷ ks) ps n e =
     or-cases (eqb n k) (among n ks) e (λ f. subst P (sym (eqb-true n k f)) (ps .0)) (λ f. pick P ks (ps .1) n f)
-
-true-of : (b : Bool) → T b → b ≡ true
-true-of true t = refl
-true-of false t = absurd t
 
 cases-of : (n : ℕ) → n < 64 → (eqb (n / 8) 1 || among n named) || isNoOperation n ≡ true
 unfolding isNoOperation kindOf

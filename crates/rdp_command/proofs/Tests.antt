@@ -15,6 +15,10 @@ pub both-of : (a b : Bool) → T a → T b → T (a && b)
 both-of true b t u = u
 both-of false b t u = absurd t
 
+pub true-of : (b : Bool) → T b → b ≡ true
+true-of true t = refl
+true-of false t = absurd t
+
 -- the test f passes at each number below k
 abbrev pub each : (ℕ → Bool) → ℕ → Bool
 each f zero = true
