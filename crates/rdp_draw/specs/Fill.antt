@@ -1,0 +1,59 @@
+-- Document 01, "Fill": the bytes that a fill rectangle covers, pixel by pixel, and what it writes there.
+use Prim.Native.Nat.{ℕ, zero, suc, _+_, _-_, _*_, _/_, _%_, _^_}
+use mathlib.Core.Bool.{Bool, true, false, cond, not, _&&_, _||_}
+use mathlib.Core.List.{List}
+use lib.Dec.{leb, ltb, eqb}
+use Rattle.rdp_command.specs.declared.Image.{Image}
+use Rattle.rdp_command.specs.declared.Scissor.{Scissor}
+use Rattle.rdp_draw.specs.declared.Fill.{Fill}
+use Rattle.rdp_draw.specs.Overlay.{overlay, within}
+
+-- "the byte at address a is byte a mod 4 of the fill colour, most significant first"
+unfoldable pub colorByte : ℕ → ℕ → ℕ
+colorByte color a = color / 2 ^ (24 - 8 * (a % 4)) % 256
+
+-- the bytes of a pixel: sizes 1, 2, 3 are 8, 16, 32 bits. A pixel of 4 bits has no byte of its own; 6 refuses to fill such an image
+unfoldable pub bytesPerPixel : ℕ → ℕ
+bytesPerPixel size = cond (eqb size 1) 1 (cond (eqb size 2) 2 (cond (eqb size 3) 4 0))
+
+-- "colour address + (y·width + x)·bytes per pixel"; the field holds the width minus one
+unfoldable pub pixelAddress : Image → ℕ → ℕ → ℕ
+pixelAddress i x y = i .address + (y * (i .width + 1) + x) * bytesPerPixel (i .size)
+
+-- "with field set, when y mod 2 equals odd"
+unfoldable pub rowKept : Scissor → ℕ → Bool
+rowKept s y = cond (s .«field») (eqb (y % 2) (cond (s .odd) 1 0)) true
+
+-- "a pixel (x, y) is kept when 4x and 4y are at least the scissor's upper left and below its lower right"
+unfoldable pub kept : Scissor → ℕ → ℕ → Bool
+kept s x y =
+    (within (s .«upper_left» .x) (s .«lower_right» .x) (4 * x) && within (s .«upper_left» .y) (s .«lower_right» .y) (4 * y)) && rowKept s y
+
+-- one of the n numbers from k on passes the test
+unfoldable pub oneOf : ℕ → ℕ → (ℕ → Bool) → Bool
+oneOf k zero test = false
+oneOf k (suc n) test = test k || oneOf (suc k) n test
+
+-- one from the first to the last, both included, passes the test; none where the last is below the first
+abbrev pub oneThrough : ℕ → ℕ → (ℕ → Bool) → Bool
+oneThrough first last test = oneOf first (suc last - first) test
+
+-- the address of a byte of a kept pixel passes the test. "Columns run from floor(left/4) to floor(right/4), both included; rows likewise"
+unfoldable pub someByte : Fill → (ℕ → Bool) → Bool
+someByte f test =
+    let r = f .rectangle in
+    oneThrough (r .«upper_left» .y / 4) (r .«lower_right» .y / 4)
+    (λ y. oneThrough (r .«upper_left» .x / 4) (r .«lower_right» .x / 4)
+    (λ x. kept (f .scissor) x y && oneOf (pixelAddress (f .image) x y) (bytesPerPixel (f .image .size)) test))
+
+-- the fill covers address a: a kept pixel has a byte there
+abbrev pub covers : Fill → ℕ → Bool
+covers f a = someByte f (eqb a)
+
+-- a byte of a kept pixel is outside the memory of `len` bytes that starts at address `start`
+abbrev pub outside : Fill → ℕ → ℕ → Bool
+outside f start len = someByte f (λ a. not (within start (start + len) a))
+
+-- memory that starts at address `start`, after the fill is drawn
+abbrev pub painted : Fill → ℕ → List ℕ → List ℕ
+painted f start memory = overlay (covers f) (colorByte (f .color)) start memory

@@ -1,0 +1,3 @@
+pub mod Overlay
+pub mod Fill
+pub mod Runs

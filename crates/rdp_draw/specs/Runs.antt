@@ -1,0 +1,51 @@
+-- The kept pixels of a fill as runs of bytes, a run for each kept row. No public contract cites this.
+use Prim.Native.Nat.{ℕ, zero, suc, _+_, _-_, _*_, _/_, min, max}
+use mathlib.Core.Bool.{Bool, false, cond, _||_}
+use Rattle.rdp_draw.specs.declared.Area.{Area}
+use Rattle.rdp_draw.specs.declared.Fill.{Fill}
+use Rattle.rdp_draw.specs.Fill.{bytesPerPixel, pixelAddress, rowKept}
+use Rattle.rdp_draw.specs.Overlay.{within}
+
+-- i is in one of some runs of `size` numbers, the first of which begins at `from` and each next one `stride` on
+unfoldable pub inRuns : ℕ → ℕ → ℕ → ℕ → ℕ → Bool
+inRuns from size stride zero i = false
+inRuns from size stride (suc rows) i = within from (from + size) i || inRuns (from + stride) size stride rows i
+
+-- The columns, or the rows, of a rectangle inside a scissor, in quarter pixels: from the first up to, not including, the end.
+abbrev pub firstKept : ℕ → ℕ → ℕ
+firstKept near clip = max (near / 4) ((clip + 3) / 4)
+
+abbrev pub endKept : ℕ → ℕ → ℕ
+endKept far clip = min (far / 4 + 1) ((clip + 3) / 4)
+
+abbrev pub firstColumn : Fill → ℕ
+firstColumn f = firstKept (f .rectangle .«upper_left» .x) (f .scissor .«upper_left» .x)
+
+abbrev pub endColumn : Fill → ℕ
+endColumn f = endKept (f .rectangle .«lower_right» .x) (f .scissor .«lower_right» .x)
+
+abbrev pub firstRow : Fill → ℕ
+firstRow f = firstKept (f .rectangle .«upper_left» .y) (f .scissor .«upper_left» .y)
+
+abbrev pub endRow : Fill → ℕ
+endRow f = endKept (f .rectangle .«lower_right» .y) (f .scissor .«lower_right» .y)
+
+-- with field set every second row is kept, from the first that is
+abbrev pub firstKeptRow : Fill → ℕ
+firstKeptRow f = cond (rowKept (f .scissor) (firstRow f)) (firstRow f) (firstRow f + 1)
+
+abbrev pub keptRows : Fill → ℕ
+keptRows f = cond (f .scissor .«field») ((endRow f - firstKeptRow f + 1) / 2) (endRow f - firstKeptRow f)
+
+-- the bytes of a row of the image
+abbrev pub rowBytes : Fill → ℕ
+rowBytes f = (f .image .width + 1) * bytesPerPixel (f .image .size)
+
+unfoldable pub areaOf : Fill → Area
+areaOf f =
+    record {
+      first = pixelAddress (f .image) (firstColumn f) (firstKeptRow f);
+      size = (endColumn f - firstColumn f) * bytesPerPixel (f .image .size);
+      stride = cond (f .scissor .«field») (2 * rowBytes f) (rowBytes f);
+      rows = keptRows f;
+    }
