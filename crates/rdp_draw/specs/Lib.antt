@@ -1,3 +1,5 @@
 pub mod Overlay
 pub mod Fill
+pub mod Draw
 pub mod Runs
+pub mod Seen

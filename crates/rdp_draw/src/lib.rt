@@ -1,4 +1,6 @@
 // Drawing of fill rectangles into memory.
+mod walk;
+
 use rdp_command::Image;
 use rdp_command::Rectangle;
 use rdp_command::Scissor;

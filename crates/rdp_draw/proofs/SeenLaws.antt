@@ -1,0 +1,275 @@
+-- What the drawing's loops carry is a view of the registers, before and after each command, and leads them from draw to draw. Assumes nothing.
+use mathlib.Core.Bool.{Bool, true, false, cond, not, _&&_, _||_, true≢false}
+use mathlib.Core.List.{List, [], _∷_}
+use mathlib.Core.Path.{_≡_, refl, sym, _∙_, ap}
+use Prim.Native.Nat.{ℕ, suc, _+_, _*_, _/_, _%_, _^_, _≤_, _<_}
+use native.Mathlib.Omega.{arith}
+use borrow.Author.Tests.{ne-eqb, eqb-true, eqb-false, ltb-true, ltb-false}
+use lib.Dec.{T, eqb, ltb, eqb→eq}
+use lib.ListN.{length, drop, length-drop}
+use Rattle.rdp_command.specs.Words.{wordAt, numberIn}
+use Rattle.rdp_command.specs.Kinds.{kindOf, wordsOf}
+use Rattle.rdp_command.specs.Commands.{numberOf}
+use Rattle.rdp_command.specs.Decode.{firstNumber, wholeWords, decodeOf, wordFields}
+use Rattle.rdp_command.specs.declared.Command.{Command}
+use Rattle.rdp_command.specs.declared.Command.the-variants.{NoOperation, FillTriangle, TextureRectangle, TextureRectangleFlip, SyncLoad, SyncPipe, SyncTile, SyncFull, SetKeyGb, SetKeyR, SetConvert, SetScissor, SetPrimitiveDepth, SetOtherModes, LoadTlut, SetTileSize, LoadBlock, LoadTile, SetTile, FillRectangle, SetFillColor, SetFogColor, SetBlendColor, SetPrimitiveColor, SetEnvironmentColor, SetCombineMode, SetTextureImage, SetDepthImage, SetColorImage}
+use Rattle.rdp_command.proofs.Tests.{below, both, by-test, same, same-bool}
+use Rattle.rdp_command.proofs.PlaceLaws.{number-small, some-words}
+use Rattle.rdp_command.proofs.ReadLaws.{decoded, decodes, decoded-number, reads-other-modes, reads-scissor, reads-fill-color, reads-color-image}
+use Rattle.rdp_check.specs.Commands.{commandsOf, restOf}
+use Rattle.rdp_check.specs.Registers.{noRegisters, registersAfter, afterDecoded}
+use Rattle.rdp_check.specs.Check.{draws}
+use Rattle.rdp_check.specs.declared.Registers.{Registers}
+use Rattle.rdp_check.proofs.ListLaws.{commandAt, commands-at, rest-at, commands-past, rest-past, command-word, command-number, command-there}
+use Rattle.rdp_draw.specs.declared.walk.FillRegisters.{FillRegisters}
+use Rattle.rdp_draw.specs.declared.walk.Reached.{Reached}
+use Rattle.rdp_draw.specs.Draw.{Draw, drawAt, drawsFrom}
+use Rattle.rdp_command.specs.declared.WordFields.{WordFields}
+use Rattle.rdp_draw.specs.Seen.{seen, sets, seenAfter, Due, Next, Reaches}
+
+-- ---- the kinds of steps
+
+false-of : (b : Bool) → T (not b) → b ≡ false
+false-of true t = absurd t
+false-of false t = refl
+
+-- the constants of the code
+abbrev drawMask : ℕ
+drawMask = 0x0040_0030_0000_FF00
+
+abbrev setterMask : ℕ
+setterMask = 0x8080_A000_0000_0000
+
+pub draws-by : (n : ℕ) → n < 64 → eqb (drawMask / 2 ^ n % 2) 1 ≡ draws n
+unfolding draws kindOf
+draws-by n h = same-bool _ _ (below 64 (λ k. same (eqb (drawMask / 2 ^ k % 2) 1) (draws k)) tt n h)
+
+pub sets-by : (n : ℕ) → n < 64 → eqb (setterMask / 2 ^ n % 2) 1 ≡ sets n
+unfolding sets
+sets-by n h = same-bool _ _ (below 64 (λ k. same (eqb (setterMask / 2 ^ k % 2) 1) (sets k)) tt n h)
+
+-- a command that is no draw has one word; a draw sets none of the registers
+abbrev stepTest : ℕ → Bool
+stepTest n = cond (draws n) (not (sets n)) (eqb (wordsOf n) 1)
+
+step-test : (n : ℕ) → n < 64 → T (stepTest n)
+unfolding draws kindOf wordsOf sets
+step-test n h = below 64 stepTest tt n h
+
+one-word : (n : ℕ) → n < 64 → draws n ≡ false → wordsOf n ≡ 1
+one-word n h e = eqb→eq (wordsOf n) 1 (rw e at (step-test n h))
+
+draw-keeps : (n : ℕ) → n < 64 → draws n ≡ true → sets n ≡ false
+draw-keeps n h e = false-of (sets n) (rw e at (step-test n h))
+
+-- ---- the registers that are seen
+
+or-false : (a b : Bool) → a || b ≡ false → (a ≡ false) × (b ≡ false)
+or-false true b e = absurd (true≢false e)
+or-false false b e = (refl, e)
+
+-- a word of a command that sets none of them changes nothing
+pub seen-kept : (q : FillRegisters) (w : ℕ) → sets (numberIn w) ≡ false → seenAfter q (wordFields w) ≡ q
+unfolding sets seenAfter
+seen-kept q w e =
+    let n = numberIn w in
+    let a = or-false (eqb n 0x2D) _ e in
+    let b = or-false (eqb n 0x2F) _ (a .1) in
+    let c = or-false (eqb n 0x37) _ (b .1) in
+    let d = or-false (eqb n 0x3F) _ (c .1) in
+    rw (a .0, b .0, c .0, d .0)
+
+-- a command that sets none of them
+others :
+    (r : Registers) (c : Command) → (numberOf c ≡ 0x2D → ⊥) → (numberOf c ≡ 0x2F → ⊥) → (numberOf c ≡ 0x37 → ⊥) → (numberOf c ≡ 0x3F → ⊥) →
+    seen (registersAfter r c) ≡ seen r
+unfolding seen registersAfter
+others r (NoOperation n) s m f i = refl
+others r (FillTriangle g) s m f i = refl
+others r (TextureRectangle g) s m f i = refl
+others r (TextureRectangleFlip g) s m f i = refl
+others r SyncLoad s m f i = refl
+others r SyncPipe s m f i = refl
+others r SyncTile s m f i = refl
+others r SyncFull s m f i = refl
+others r (SetKeyGb g) s m f i = refl
+others r (SetKeyR g) s m f i = refl
+others r (SetConvert g) s m f i = refl
+others r (SetScissor g) s m f i = absurd (s refl)
+others r (SetPrimitiveDepth g) s m f i = refl
+others r (SetOtherModes g) s m f i = absurd (m refl)
+others r (LoadTlut g) s m f i = refl
+others r (SetTileSize g) s m f i = refl
+others r (LoadBlock g) s m f i = refl
+others r (LoadTile g) s m f i = refl
+others r (SetTile g) s m f i = refl
+others r (FillRectangle g) s m f i = refl
+others r (SetFillColor g) s m f i = absurd (f refl)
+others r (SetFogColor g) s m f i = refl
+others r (SetBlendColor g) s m f i = refl
+others r (SetPrimitiveColor g) s m f i = refl
+others r (SetEnvironmentColor g) s m f i = refl
+others r (SetCombineMode g) s m f i = refl
+others r (SetTextureImage g) s m f i = refl
+others r (SetDepthImage g) s m f i = refl
+others r (SetColorImage g) s m f i = absurd (i refl)
+
+module _ (r : Registers) (c : List ℕ) (there : wholeWords c ≡ 0 → ⊥) where
+  abbrev n : ℕ
+  n = firstNumber c
+
+  abbrev Result : Type 0
+  Result = seen (registersAfter r (decoded c there)) ≡ seenAfter (seen r) (wordFields (wordAt c 0))
+
+  of-scissor : n ≡ 0x2D → Result
+  unfolding seen seenAfter registersAfter
+  of-scissor e = ap (λ (x : Command). seen (registersAfter r x)) (reads-scissor c there e) ∙ rw e
+
+  of-modes : n ≡ 0x2F → Result
+  unfolding seen seenAfter registersAfter
+  of-modes e = ap (λ (x : Command). seen (registersAfter r x)) (reads-other-modes c there e) ∙ rw e
+
+  of-color : n ≡ 0x37 → Result
+  unfolding seen seenAfter registersAfter
+  of-color e = ap (λ (x : Command). seen (registersAfter r x)) (reads-fill-color c there e) ∙ rw e
+
+  of-image : n ≡ 0x3F → Result
+  unfolding seen seenAfter registersAfter
+  of-image e = ap (λ (x : Command). seen (registersAfter r x)) (reads-color-image c there e) ∙ rw e
+
+  of-others : (n ≡ 0x2D → ⊥) → (n ≡ 0x2F → ⊥) → (n ≡ 0x37 → ⊥) → (n ≡ 0x3F → ⊥) → Result
+  unfolding seenAfter
+  of-others s m f i =
+      let e = decoded-number c there in
+      others r (decoded c there) (λ x. s (sym e ∙ x)) (λ x. m (sym e ∙ x)) (λ x. f (sym e ∙ x)) (λ x. i (sym e ∙ x)) ∙
+      rw (ne-eqb _ _ s, ne-eqb _ _ m, ne-eqb _ _ f, ne-eqb _ _ i)
+
+  result : Result
+  result =
+      by-test (eqb n 0x2D) (λ t. of-scissor (eqb-true _ _ t))
+      (λ s.
+      by-test (eqb n 0x2F) (λ t. of-modes (eqb-true _ _ t))
+      (λ m.
+      by-test (eqb n 0x37) (λ t. of-color (eqb-true _ _ t))
+      (λ f.
+      by-test (eqb n 0x3F) (λ t. of-image (eqb-true _ _ t))
+      (λ i. of-others (eqb-false _ _ s) (eqb-false _ _ m) (eqb-false _ _ f) (eqb-false _ _ i)))))
+
+  pub seen-after : seen (afterDecoded r (decodeOf c)) ≡ seenAfter (seen r) (wordFields (wordAt c 0))
+  seen-after = ap (λ x. seen (afterDecoded r x)) (decodes c there) ∙ result
+
+-- ---- from draw to draw
+
+abbrev drawOf : FillRegisters → ℕ → ℕ → ℕ → Draw
+drawOf q at n w =
+    record {
+      place = at;
+      fills = eqb n 0x36 && eqb (q .«cycle_type») 3;
+      fill = record { rectangle = wordFields w .rectangle; scissor = q .scissor; image = q .image; color = q .color };
+    }
+
+draw-seen : (r : Registers) (at : ℕ) (c : List ℕ) → drawAt r at c ≡ drawOf (seen r) at (firstNumber c) (wordAt c 0)
+unfolding seen
+draw-seen r at c = refl
+
+pub start-due : (list : List ℕ) → restOf list ≡ [] → Due list 0 (seen noRegisters) (drawsFrom noRegisters 0 (commandsOf list))
+start-due list w = record { registers = noRegisters; sees = refl; draws = refl; whole = w }
+
+-- nothing is left
+pub due-none : {list : List ℕ} {at : ℕ} {q : FillRegisters} {ds : List Draw} → Due list at q ds → length list / 8 ≤ at → ds ≡ []
+unfolding drawsFrom
+due-none {list} {at} d h =
+    sym (d .draws) ∙ rw (commands-past list at _ refl (omega (arith, h, some-words list at _ refl)))
+
+module _ {list : List ℕ} {at : ℕ} {q : FillRegisters} {ds : List Draw} (d : Due list at q ds) (more : at < length list / 8) (n : ℕ) (is : n ≡ numberIn (wordAt list at)) where
+  whole-at : at + wordsOf n ≤ length list / 8
+  whole-at =
+      by-test (ltb (length list / 8) (at + wordsOf n))
+      (λ t.
+      let past = rest-past list at n is (ltb-true _ _ t) in
+      let none : drop (8 * at) list ≡ [] = sym past ∙ d .whole in
+      let short : length (drop (8 * at) list) ≡ 0 = ap length none in
+      absurd (omega (arith, short, length-drop (8 * at) list)))
+      (λ f. ltb-false _ _ f)
+
+  abbrev r : Registers
+  r = d .registers
+
+  abbrev c : List ℕ
+  c = commandAt list at n
+
+  abbrev r′ : Registers
+  r′ = afterDecoded r (decodeOf c)
+
+  small : n < 64
+  small = rw is (number-small (wordAt list at))
+
+  sees-after : seen r′ ≡ seenAfter q (wordFields (wordAt list at))
+  sees-after = seen-after r c (command-there list at n is whole-at) ∙ rw (d .sees, command-word list at n is whole-at)
+
+  abbrev rest : List Draw
+  rest = drawsFrom r′ (at + wordsOf n) (commandsOf (drop (8 * (at + wordsOf n)) list))
+
+  unrolled : ds ≡ cond (draws n) (drawAt r at c ∷ rest) rest
+  unfolding drawsFrom
+  unrolled = sym (d .draws) ∙ rw (commands-at list at n is whole-at, command-number list at n is whole-at)
+
+  rest-whole : restOf (drop (8 * (at + wordsOf n)) list) ≡ []
+  rest-whole = sym (rest-at list at n is whole-at) ∙ d .whole
+
+  -- past a command that is no draw
+  pub step : draws n ≡ false → (q′ : FillRegisters) → q′ ≡ seenAfter q (wordFields (wordAt list at)) → Due list (at + 1) q′ ds
+  step e q′ is-q =
+      let one : wordsOf n ≡ 1 = one-word n small e in
+      let onward : rest ≡ ds = sym (unrolled ∙ ap (λ (b : Bool). cond b (drawAt r at c ∷ rest) rest) e) in
+      record {
+        registers = r′;
+        sees = sees-after ∙ sym is-q;
+        draws = ap (λ (k : ℕ). drawsFrom r′ (at + k) (commandsOf (drop (8 * (at + k)) list))) (sym one) ∙ onward;
+        whole = rw one at rest-whole;
+      }
+
+  pub skip : draws n ≡ false → sets n ≡ false → Due list (at + 1) q ds
+  skip e k = step e q (sym (seen-kept q (wordAt list at) (rw is at k)))
+
+  pub reached : draws n ≡ true → Next list (record { place = at; number = n; registers = q }) ds
+  reached e =
+      record {
+        others = rest;
+        first =
+            unrolled ∙ rw (e, draw-seen r at c, d .sees, command-number list at n is whole-at, command-word list at n is whole-at);
+        due =
+            record {
+              registers = r′;
+              sees = sees-after ∙ seen-kept q (wordAt list at) (rw is at (draw-keeps n small e));
+              draws = refl;
+              whole = rest-whole;
+            };
+      }
+
+-- what holds at the head of the loop that looks for a draw: what was due at its start is due here
+pub record Walks (list : List ℕ) (from : ℕ) (q₀ : FillRegisters) (words : ℕ) (q : FillRegisters) (at : ℕ) : Type 0 where
+  pub count : words ≡ length list / 8
+  pub due : (ds : List Draw) → Due list from q₀ ds → Due list at q ds
+
+pub walk-first : (list : List ℕ) (from : ℕ) (q : FillRegisters) (words : ℕ) → words ≡ length list / 8 → Walks list from q words q from
+walk-first list from q words e = record { count = e; due = λ ds d. d }
+
+module _ {list : List ℕ} {from : ℕ} {q₀ : FillRegisters} {words : ℕ} {q : FillRegisters} {at : ℕ} (w : Walks list from q₀ words q at) where
+  pub walk-none : words ≤ at → (n : ℕ) → Reaches list from q₀ (record { place = at; number = n; registers = q })
+  walk-none h n ds d = record { some = λ l. absurd (omega (arith, w .count)); none = λ l. due-none (w .due ds d) l }
+
+  module _ (more : at < words) (n : ℕ) (is : n ≡ numberIn (wordAt list at)) (b : Bool) (is-b : b ≡ draws n) where
+    inside : at < length list / 8
+    inside = omega (arith, w .count)
+
+    pub walk-found : b ≡ true → Reaches list from q₀ (record { place = at; number = n; registers = q })
+    walk-found t ds d = record { some = λ l. reached (w .due ds d) inside n is (sym is-b ∙ t); none = λ l. absurd (omega arith) }
+
+    module _ (f : b ≡ false) (s : Bool) (is-s : s ≡ sets n) where
+      pub walk-skip : s ≡ false → Walks list from q₀ words q (at + 1)
+      walk-skip e = record { count = w .count; due = λ ds d. skip (w .due ds d) inside n is (sym is-b ∙ f) (sym is-s ∙ e) }
+
+      pub walk-set : (v : WordFields) → v ≡ wordFields (wordAt list at) → (q′ : FillRegisters) → q′ ≡ seenAfter q v → Walks list from q₀ words q′ (at + 1)
+      walk-set v is-v q′ is-q =
+          record { count = w .count; due = λ ds d. step (w .due ds d) inside n is (sym is-b ∙ f) q′ (is-q ∙ ap (seenAfter q) is-v) }

@@ -1,0 +1,81 @@
+-- Document 01, refusals 10 to 12 and "Fill": what drawing a list answers, and what it leaves in memory.
+use Prim.Native.Nat.{ℕ, zero, suc, _+_, _%_}
+use mathlib.Core.Bool.{Bool, cond, not, _&&_}
+use mathlib.Core.List.{List, [], _∷_}
+use lib.Dec.{eqb}
+use lib.ListN.{length}
+use Rattle.rdp_command.specs.Words.{wordAt}
+use Rattle.rdp_command.specs.Kinds.{wordsOf}
+use Rattle.rdp_command.specs.Decode.{firstNumber, wordFields, decodeOf}
+use Rattle.rdp_command.specs.declared.Answer.{Answer}
+use Rattle.rdp_check.specs.Commands.{commandsOf}
+use Rattle.rdp_check.specs.Registers.{noRegisters, afterDecoded}
+use Rattle.rdp_check.specs.Check.{draws, outcomeOf}
+use Rattle.rdp_check.specs.declared.Registers.{Registers}
+use Rattle.rdp_draw.specs.declared.Fill.{Fill}
+use Rattle.rdp_draw.specs.Fill.{outside, painted}
+
+-- a draw of a list: its place, whether it is a Fill Rectangle drawn in FILL mode (cycle type 3), and the fill that it then is
+pub record Draw : Type 0 where
+  pub place : ℕ
+  pub fills : Bool
+  pub fill : Fill
+
+-- a command as a draw, with the registers before it
+abbrev pub drawAt : Registers → ℕ → List ℕ → Draw
+drawAt r at c =
+    record {
+      place = at;
+      fills = eqb (firstNumber c) 0x36 && eqb (r .modes .other .modes .«cycle_type») 3;
+      fill =
+          record {
+            rectangle = wordFields (wordAt c 0) .rectangle;
+            scissor = r .modes .scissor .scissor;
+            image = r .images .color .image;
+            color = r .colors .fill .color;
+          };
+    }
+
+-- the draws among the commands from a place on
+unfoldable pub drawsFrom : Registers → ℕ → List (List ℕ) → List Draw
+drawsFrom r at [] = []
+drawsFrom r at (c ∷ cs) =
+    let next = drawsFrom (afterDecoded r (decodeOf c)) (at + wordsOf (firstNumber c)) cs in
+    cond (draws (firstNumber c)) (drawAt r at c ∷ next) next
+
+abbrev pub drawsOf : List ℕ → List Draw
+drawsOf list = drawsFrom noRegisters 0 (commandsOf list)
+
+-- the first refusal of a draw on memory of `len` bytes that starts at address `start`, or 0. 10: any draw but a Fill Rectangle drawn in FILL mode.
+-- 11: the colour image's address is no multiple of 64. 12: a byte of a kept pixel is outside memory
+unfoldable pub drawRefusal : ℕ → ℕ → Draw → ℕ
+drawRefusal start len d =
+    cond (not (d .fills)) 10 (cond (not (eqb (d .fill .image .address % 64) 0)) 11 (cond (outside (d .fill) start len) 12 0))
+
+abbrev pub answer : ℕ → ℕ → Answer
+answer number place = record { number = number; place = place }
+
+abbrev pub refusedAt : ℕ → ℕ → Answer → Answer
+refusedAt zero place next = next
+refusedAt (suc refusal) place next = answer (suc refusal) place
+
+-- the first refusal of draws in order, at its place; 0 at the number of words where there is none
+unfoldable pub firstRefusal : ℕ → ℕ → ℕ → List Draw → Answer
+firstRefusal start len words [] = answer 0 words
+firstRefusal start len words (d ∷ ds) = refusedAt (drawRefusal start len d) (d .place) (firstRefusal start len words ds)
+
+-- what drawing answers: the check's refusal, then the first of the draws
+unfoldable pub drawAnswer : List ℕ → ℕ → ℕ → Answer
+drawAnswer list start len =
+    let o = outcomeOf list in
+    cond (eqb (o .number) 0) (firstRefusal start len (o .place) (drawsOf list)) (answer (o .number) (o .place))
+
+-- memory after the draws, each painted over what the earlier ones left
+unfoldable pub paintedAll : ℕ → List Draw → List ℕ → List ℕ
+paintedAll start [] memory = memory
+paintedAll start (d ∷ ds) memory = paintedAll start ds (painted (d .fill) start memory)
+
+-- what drawing leaves in memory: a refusal leaves all as it was
+unfoldable pub drawMemory : List ℕ → ℕ → List ℕ → List ℕ
+drawMemory list start memory =
+    cond (eqb ((drawAnswer list start (length memory)) .number) 0) (paintedAll start (drawsOf list) memory) memory
