@@ -19,13 +19,13 @@ use Rattle.rdp_check.proofs.JoinLaws.{command-some, parsed, joined-whol
 -- ---- at one command
 
 -- a number is 0 where nothing holds, and else the least that holds
-record Least (P : ℕ → Type 0) (g : ℕ) : Type 0 where
-  none : g ≡ 0 → (n : ℕ) → P n → ⊥
-  some : (g ≡ 0 → ⊥) → P g
-  least : (n : ℕ) → P n → g ≤ n
+pub record Least (P : ℕ → Type 0) (g : ℕ) : Type 0 where
+  pub none : g ≡ 0 → (n : ℕ) → P n → ⊥
+  pub some : (g ≡ 0 → ⊥) → P g
+  pub least : (n : ℕ) → P n → g ≤ n
 
 -- a test for the number k, and else the least above it
-first-of :
+pub first-of :
     (P : ℕ → Type 0) (k : ℕ) (b : Bool) (g : ℕ) → 0 < k → (T b → P k) → ((n : ℕ) → P n → n ≡ k → T b) → ((n : ℕ) → P n → k ≤ n) →
     Least (λ (n : ℕ). P n × (k < n)) g → Least P (cond b k g)
 first-of P k true g h to of low l = record { none = λ z n p. omega arith; some = λ z. to tt; least = low }

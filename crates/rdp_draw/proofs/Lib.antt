@@ -1,1 +1,3 @@
 pub mod SeenLaws
+pub mod DrawLaws
+pub mod DrawnLaws

@@ -3,6 +3,7 @@ use mathlib.Core.Bool.{Bool, true, false, cond, not, _&&_, _||_, true≢false}
 use mathlib.Core.List.{List, [], _∷_}
 use mathlib.Core.Path.{_≡_, refl, sym, _∙_, ap}
 use Prim.Native.Nat.{ℕ, suc, _+_, _*_, _/_, _%_, _^_, _≤_, _<_}
+use native.Mathlib.Nat.{le-refl}
 use native.Mathlib.Omega.{arith}
 use borrow.Author.Tests.{ne-eqb, eqb-true, eqb-false, ltb-true, ltb-false}
 use lib.Dec.{T, eqb, ltb, eqb→eq}
@@ -235,6 +236,8 @@ module _ {list : List ℕ} {at : ℕ} {q : FillRegisters} {ds : List Draw} (d : 
   pub reached : draws n ≡ true → Next list (record { place = at; number = n; registers = q }) ds
   reached e =
       record {
+        some = some-words list at n is;
+        inside = whole-at;
         others = rest;
         first =
             unrolled ∙ rw (e, draw-seen r at c, d .sees, command-number list at n is whole-at, command-word list at n is whole-at);
@@ -250,26 +253,28 @@ module _ {list : List ℕ} {at : ℕ} {q : FillRegisters} {ds : List Draw} (d : 
 -- what holds at the head of the loop that looks for a draw: what was due at its start is due here
 pub record Walks (list : List ℕ) (from : ℕ) (q₀ : FillRegisters) (words : ℕ) (q : FillRegisters) (at : ℕ) : Type 0 where
   pub count : words ≡ length list / 8
+  pub onward : from ≤ at
   pub due : (ds : List Draw) → Due list from q₀ ds → Due list at q ds
 
 pub walk-first : (list : List ℕ) (from : ℕ) (q : FillRegisters) (words : ℕ) → words ≡ length list / 8 → Walks list from q words q from
-walk-first list from q words e = record { count = e; due = λ ds d. d }
+walk-first list from q words e = record { count = e; onward = le-refl from; due = λ ds d. d }
 
 module _ {list : List ℕ} {from : ℕ} {q₀ : FillRegisters} {words : ℕ} {q : FillRegisters} {at : ℕ} (w : Walks list from q₀ words q at) where
   pub walk-none : words ≤ at → (n : ℕ) → Reaches list from q₀ (record { place = at; number = n; registers = q })
-  walk-none h n ds d = record { some = λ l. absurd (omega (arith, w .count)); none = λ l. due-none (w .due ds d) l }
+  walk-none h n = (w .onward, λ ds d. record { some = λ l. absurd (omega (arith, w .count)); none = λ l. due-none (w .due ds d) l })
 
   module _ (more : at < words) (n : ℕ) (is : n ≡ numberIn (wordAt list at)) (b : Bool) (is-b : b ≡ draws n) where
     inside : at < length list / 8
     inside = omega (arith, w .count)
 
     pub walk-found : b ≡ true → Reaches list from q₀ (record { place = at; number = n; registers = q })
-    walk-found t ds d = record { some = λ l. reached (w .due ds d) inside n is (sym is-b ∙ t); none = λ l. absurd (omega arith) }
+    walk-found t =
+        (w .onward, λ ds d. record { some = λ l. reached (w .due ds d) inside n is (sym is-b ∙ t); none = λ l. absurd (omega arith) })
 
     module _ (f : b ≡ false) (s : Bool) (is-s : s ≡ sets n) where
       pub walk-skip : s ≡ false → Walks list from q₀ words q (at + 1)
-      walk-skip e = record { count = w .count; due = λ ds d. skip (w .due ds d) inside n is (sym is-b ∙ f) (sym is-s ∙ e) }
+      walk-skip e = record { count = w .count; onward = omega (arith, w .onward); due = λ ds d. skip (w .due ds d) inside n is (sym is-b ∙ f) (sym is-s ∙ e) }
 
       pub walk-set : (v : WordFields) → v ≡ wordFields (wordAt list at) → (q′ : FillRegisters) → q′ ≡ seenAfter q v → Walks list from q₀ words q′ (at + 1)
       walk-set v is-v q′ is-q =
-          record { count = w .count; due = λ ds d. step (w .due ds d) inside n is (sym is-b ∙ f) q′ (is-q ∙ ap (seenAfter q) is-v) }
+          record { count = w .count; onward = omega (arith, w .onward); due = λ ds d. step (w .due ds d) inside n is (sym is-b ∙ f) q′ (is-q ∙ ap (seenAfter q) is-v) }

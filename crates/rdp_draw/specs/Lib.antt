@@ -3,3 +3,4 @@ pub mod Fill
 pub mod Draw
 pub mod Runs
 pub mod Seen
+pub mod Refusals

@@ -59,6 +59,8 @@ pub record Due (list : List ℕ) (at : ℕ) (q : FillRegisters) (ds : List Draw)
 
 -- the next draw is the first of those due, and the others are due after it; or there is none
 pub record Next (list : List ℕ) (r : Reached) (ds : List Draw) : Type 0 where
+  pub some : 1 ≤ wordsOf (r .number)
+  pub inside : r .place + wordsOf (r .number) ≤ length list / 8
   pub others : List Draw
   pub first : ds ≡ drawWith (r .registers) list (r .place) (r .number) ∷ others
   pub due : Due list (r .place + wordsOf (r .number)) (r .registers) others
@@ -69,4 +71,4 @@ pub record ReachedIs (list : List ℕ) (r : Reached) (ds : List Draw) : Type 0 w
 
 -- what the search for the next draw gives, whatever is due
 abbrev pub Reaches : List ℕ → ℕ → FillRegisters → Reached → Type 0
-Reaches list from q r = (ds : List Draw) → Due list from q ds → ReachedIs list r ds
+Reaches list from q r = (from ≤ r .place) × ((ds : List Draw) → Due list from q ds → ReachedIs list r ds)

@@ -1,0 +1,180 @@
+-- The answer and the memory of drawing, as its two loops over the draws meet them. Assumes nothing.
+use mathlib.Core.Bool.{Bool, true, false}
+use mathlib.Core.List.{List, [], _∷_}
+use mathlib.Core.Path.{_≡_, refl, sym, _∙_, ap}
+use Prim.Native.Nat.{ℕ, zero, suc, _+_, _*_, _/_, _%_, _≤_, _<_}
+use native.Mathlib.Nat.{suc-ne-zero}
+use native.Mathlib.Omega.{arith}
+use borrow.Author.Tests.{eq-eqb, ne-eqb, ltb-true, ltb-false}
+use lib.Dec.{ltb}
+use lib.ListN.{length}
+use Rattle.rdp_command.specs.Kinds.{wordsOf}
+use Rattle.rdp_command.specs.declared.Answer.{Answer}
+use Rattle.rdp_command.proofs.Tests.{by-test}
+use Rattle.rdp_check.specs.Commands.{restOf}
+use Rattle.rdp_check.specs.Registers.{noRegisters}
+use Rattle.rdp_check.specs.Check.{checkOf}
+use Rattle.rdp_check.specs.Refusals.{Holds, tooLong, pastEnd}
+use Rattle.rdp_check.proofs.FirstLaws.{check-first}
+use Rattle.rdp_draw.specs.declared.walk.Reached.{Reached}
+use Rattle.rdp_draw.specs.Fill.{painted}
+use Rattle.rdp_draw.specs.Draw.{Draw, drawsOf, drawRefusal, answer, refusedAt, firstRefusal, drawAnswer, paintedAll, drawMemory}
+use Rattle.rdp_draw.specs.Seen.{seen, drawWith, Next, ReachedIs, Reaches}
+use Rattle.rdp_draw.proofs.SeenLaws.{start-due}
+
+-- ---- a list that the check accepts
+
+pub record Accepted (list : List ℕ) : Type 0 where
+  pub words : checkOf list .place ≡ length list / 8
+  pub few : length list ≤ 32768
+  pub whole : restOf list ≡ []
+
+empty : (xs : List ℕ) → ((xs ≡ [] → ⊥) → ⊥) → xs ≡ []
+empty [] h = refl
+empty (x ∷ xs) h = absurd (h (λ e. suc-ne-zero (length xs) (ap length e)))
+
+pub accepted : (list : List ℕ) → checkOf list .number ≡ 0 → Accepted list
+accepted list e =
+    let a = check-first list .accepted e in
+    record {
+      words = a .0;
+      few = by-test (ltb 32768 (length list)) (λ t. absurd (a .1 _ _ (tooLong (ltb-true _ _ t)))) (λ f. ltb-false _ _ f);
+      whole = empty (restOf list) (λ h. a .1 _ _ (pastEnd h));
+    }
+
+-- ---- the answer and the memory
+
+module _ (list : List ℕ) (start : ℕ) (memory : List ℕ) where
+  abbrev reply : Answer
+  reply = drawAnswer list start (length memory)
+
+  pub answer-checked : (checkOf list .number ≡ 0 → ⊥) → answer (checkOf list .number) (checkOf list .place) ≡ reply
+  unfolding drawAnswer
+  answer-checked h = rw (ne-eqb _ _ h)
+
+  pub answer-draws : checkOf list .number ≡ 0 → firstRefusal start (length memory) (length list / 8) (drawsOf list) ≡ reply
+  unfolding drawAnswer
+  answer-draws e = rw (eq-eqb _ _ e, accepted list e .words)
+
+  pub memory-kept : (r : Answer) → r ≡ reply → (r .number ≡ 0 → ⊥) → memory ≡ drawMemory list start memory
+  unfolding drawMemory
+  memory-kept r e h = rw (← e, ne-eqb _ _ h)
+
+  pub memory-painted : (r : Answer) → r ≡ reply → r .number ≡ 0 → paintedAll start (drawsOf list) memory ≡ drawMemory list start memory
+  unfolding drawMemory
+  memory-painted r e h = rw (← e, eq-eqb _ _ h)
+
+-- ---- one draw
+
+pub refused-first : (g place : ℕ) (next : Answer) → (g ≡ 0 → ⊥) → refusedAt g place next ≡ answer g place
+refused-first zero place next h = absurd (h refl)
+refused-first (suc g) place next h = refl
+
+pub refused-none : (g place : ℕ) (next : Answer) → refusedAt g place next .number ≡ 0 → (g ≡ 0) × (next .number ≡ 0)
+refused-none zero place next e = (refl, e)
+refused-none (suc g) place next e = absurd (suc-ne-zero g e)
+
+-- ---- the loop that tests
+
+-- the first refusal of the draws from the one that is reached on is that of the list
+pub record Tests (list : List ℕ) (start len words : ℕ) (r : Reached) : Type 0 where
+  pub count : words ≡ length list / 8
+  pub ds : List Draw
+  pub reached : ReachedIs list r ds
+  pub same : firstRefusal start len words ds ≡ firstRefusal start len words (drawsOf list)
+
+pub tests-first :
+    (list : List ℕ) (start len words : ℕ) (r : Reached) → words ≡ length list / 8 → restOf list ≡ [] → Reaches list 0 (seen noRegisters) r →
+    Tests list start len words r
+tests-first list start len words r e w h = record { count = e; ds = drawsOf list; reached = h .1 _ (start-due list w); same = refl }
+
+module _ {list : List ℕ} {start len words : ℕ} {r : Reached} (t : Tests list start len words r) where
+  pub tests-none : words ≤ r .place → answer 0 words ≡ firstRefusal start len words (drawsOf list)
+  unfolding firstRefusal
+  tests-none h = ap (firstRefusal start len words) (sym (t .reached .none (omega (arith, t .count)))) ∙ t .same
+
+  module _ (more : r .place < words) where
+    pub next : Next list r (t .ds)
+    next = t .reached .some (omega (arith, t .count))
+
+    abbrev d : Draw
+    d = drawWith (r .registers) list (r .place) (r .number)
+
+    unrolled : refusedAt (drawRefusal start len d) (r .place) (firstRefusal start len words (next .others)) ≡ firstRefusal start len words (drawsOf list)
+    unfolding firstRefusal
+    unrolled = ap (firstRefusal start len words) (sym (next .first)) ∙ t .same
+
+    module _ (g : ℕ) (is : g ≡ drawRefusal start len d) where
+      pub tests-refused : (g ≡ 0 → ⊥) → answer g (r .place) ≡ firstRefusal start len words (drawsOf list)
+      tests-refused h =
+          sym (refused-first g (r .place) (firstRefusal start len words (next .others)) h) ∙
+          ap (λ (k : ℕ). refusedAt k (r .place) (firstRefusal start len words (next .others))) is ∙ unrolled
+
+      pub tests-again :
+          g ≡ 0 → (k : ℕ) → k ≡ wordsOf (r .number) → (r′ : Reached) → Reaches list (r .place + k) (r .registers) r′ → Tests list start len words r′
+      tests-again e k is-k r′ h =
+          record {
+            count = t .count;
+            ds = next .others;
+            reached = h .1 _ (rw is-k (next .due));
+            same =
+                ap (λ (k : ℕ). refusedAt k (r .place) (firstRefusal start len words (next .others))) (sym e ∙ is) ∙ unrolled;
+          }
+
+    pub falls : (k : ℕ) → k ≡ wordsOf (r .number) → (r′ : Reached) → Reaches list (r .place + k) (r .registers) r′ → r .place < r′ .place
+    falls k is-k r′ h = omega (arith, h .0, next .some)
+
+-- ---- the loop that paints
+
+-- what the draws from the one that is reached on make of memory is what all make of it, and none of them is refused
+pub record Paints (list : List ℕ) (start words : ℕ) (memory₀ memory : List ℕ) (r : Reached) : Type 0 where
+  pub count : words ≡ length list / 8
+  pub ds : List Draw
+  pub reached : ReachedIs list r ds
+  pub long : length memory ≡ length memory₀
+  pub clear : firstRefusal start (length memory) words ds .number ≡ 0
+  pub same : paintedAll start ds memory ≡ paintedAll start (drawsOf list) memory₀
+
+pub paints-first :
+    (list : List ℕ) (start words : ℕ) (memory : List ℕ) (r : Reached) → words ≡ length list / 8 → restOf list ≡ [] →
+    firstRefusal start (length memory) words (drawsOf list) .number ≡ 0 → Reaches list 0 (seen noRegisters) r → Paints list start words memory memory r
+paints-first list start words memory r e w z h =
+    record { count = e; ds = drawsOf list; reached = h .1 _ (start-due list w); long = refl; clear = z; same = refl }
+
+module _ {list : List ℕ} {start words : ℕ} {memory₀ memory : List ℕ} {r : Reached} (t : Paints list start words memory₀ memory r) where
+  pub paints-none : words ≤ r .place → memory ≡ paintedAll start (drawsOf list) memory₀
+  unfolding paintedAll
+  paints-none h = ap (λ (x : List Draw). paintedAll start x memory) (sym (t .reached .none (omega (arith, t .count)))) ∙ t .same
+
+  module _ (more : r .place < words) where
+    pub next-painted : Next list r (t .ds)
+    next-painted = t .reached .some (omega (arith, t .count))
+
+    abbrev drawn : Draw
+    drawn = drawWith (r .registers) list (r .place) (r .number)
+
+    clears : (drawRefusal start (length memory) drawn ≡ 0) × (firstRefusal start (length memory) words (next-painted .others) .number ≡ 0)
+    unfolding firstRefusal
+    clears =
+        refused-none _ (r .place) _ (ap (λ (x : List Draw). firstRefusal start (length memory) words x .number) (sym (next-painted .first)) ∙ t .clear)
+
+    pub paints-clear : drawRefusal start (length memory) drawn ≡ 0
+    paints-clear = clears .0
+
+    pub paints-again :
+        (m : List ℕ) → m ≡ painted (drawn .fill) start memory → length m ≡ length memory → (k : ℕ) → k ≡ wordsOf (r .number) → (r′ : Reached) →
+        Reaches list (r .place + k) (r .registers) r′ → Paints list start words memory₀ m r′
+    unfolding paintedAll
+    paints-again m is-m same-length k is-k r′ h =
+        record {
+          count = t .count;
+          ds = next-painted .others;
+          reached = h .1 _ (rw is-k (next-painted .due));
+          long = same-length ∙ t .long;
+          clear = rw same-length (clears .1);
+          same =
+              ap (paintedAll start (next-painted .others)) is-m ∙ ap (λ (x : List Draw). paintedAll start x memory) (sym (next-painted .first)) ∙ t .same;
+        }
+
+    pub paints-falls : (k : ℕ) → k ≡ wordsOf (r .number) → (r′ : Reached) → Reaches list (r .place + k) (r .registers) r′ → r .place < r′ .place
+    paints-falls k is-k r′ h = omega (arith, h .0, next-painted .some)
