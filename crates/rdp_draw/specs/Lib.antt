@@ -1,3 +1,4 @@
 pub mod Overlay
 pub mod Fill
+pub mod Meaning
 pub mod Runs

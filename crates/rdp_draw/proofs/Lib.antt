@@ -1,0 +1,5 @@
+pub mod BoolLaws
+pub mod OverlayLaws
+pub mod PixelLaws
+pub mod RunLaws
+pub mod AreaLaws
