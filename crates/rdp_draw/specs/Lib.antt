@@ -1,6 +1,7 @@
 pub mod Overlay
 pub mod Fill
 pub mod Draw
+pub mod Meaning
 pub mod Runs
 pub mod Seen
 pub mod Refusals

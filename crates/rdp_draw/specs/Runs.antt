@@ -1,6 +1,7 @@
 -- The kept pixels of a fill as runs of bytes, a run for each kept row. No public contract cites this.
-use Prim.Native.Nat.{ℕ, zero, suc, _+_, _-_, _*_, _/_, min, max}
-use mathlib.Core.Bool.{Bool, false, cond, _||_}
+use Prim.Native.Nat.{ℕ, zero, suc, _+_, _-_, _*_, _/_, _≤_, min, max}
+use mathlib.Core.Bool.{Bool, false, cond, _&&_, _||_}
+use lib.Dec.{leb, eqb}
 use Rattle.rdp_draw.specs.declared.Area.{Area}
 use Rattle.rdp_draw.specs.declared.Fill.{Fill}
 use Rattle.rdp_draw.specs.Fill.{bytesPerPixel, pixelAddress, rowKept}
@@ -31,21 +32,45 @@ abbrev pub endRow : Fill → ℕ
 endRow f = endKept (f .rectangle .«lower_right» .y) (f .scissor .«lower_right» .y)
 
 -- with field set every second row is kept, from the first that is
-abbrev pub firstKeptRow : Fill → ℕ
+unfoldable pub firstKeptRow : Fill → ℕ
 firstKeptRow f = cond (rowKept (f .scissor) (firstRow f)) (firstRow f) (firstRow f + 1)
 
-abbrev pub keptRows : Fill → ℕ
+unfoldable pub keptRows : Fill → ℕ
 keptRows f = cond (f .scissor .«field») ((endRow f - firstKeptRow f + 1) / 2) (endRow f - firstKeptRow f)
 
--- the bytes of a row of the image
-abbrev pub rowBytes : Fill → ℕ
-rowBytes f = (f .image .width + 1) * bytesPerPixel (f .image .size)
+-- from a kept row to the next, in rows and in bytes
+unfoldable pub rowStep : Fill → ℕ
+rowStep f = cond (f .scissor .«field») 2 1
+
+abbrev pub strideOf : Fill → ℕ
+strideOf f = rowStep f * ((f .image .width + 1) * bytesPerPixel (f .image .size))
+
+-- the bytes of the kept pixels of a row
+abbrev pub runBytes : Fill → ℕ
+runBytes f = (endColumn f - firstColumn f) * bytesPerPixel (f .image .size)
 
 unfoldable pub areaOf : Fill → Area
 areaOf f =
     record {
       first = pixelAddress (f .image) (firstColumn f) (firstKeptRow f);
-      size = (endColumn f - firstColumn f) * bytesPerPixel (f .image .size);
-      stride = cond (f .scissor .«field») (2 * rowBytes f) (rowBytes f);
+      size = runBytes f;
+      stride = strideOf f;
       rows = keptRows f;
     }
+
+-- far below what a sum or a product of two could wrap at
+pub record Small (area : Area) : Type 0 where
+  pub first : area .first ≤ 17179869184
+  pub size : area .size ≤ 65536
+  pub stride : area .stride ≤ 1048576
+  pub rows : area .rows ≤ 16384
+
+-- no byte is in a run
+abbrev pub areaEmpty : Area → Bool
+areaEmpty area = eqb (area .size) 0 || eqb (area .rows) 0
+
+-- every run lies in the `len` bytes from address `start` on
+unfoldable pub areaInside : Area → ℕ → ℕ → Bool
+areaInside area start len =
+    areaEmpty area
+    || (leb start (area .first) && leb (area .first + (area .rows - 1) * area .stride + area .size) (start + len))

@@ -5,6 +5,8 @@ use rdp_command::Image;
 use rdp_command::Rectangle;
 use rdp_command::Scissor;
 
+mod areas;
+
 // A fill rectangle with the registers that it is drawn under.
 pub struct Fill {
     pub rectangle: Rectangle,

@@ -1,0 +1,35 @@
+-- `rdp_draw::areas::first_kept_row` meets its contract. Assumes nothing.
+use mathlib.Core.Path.{_≡_}
+use mathlib.Core.Bool.{true, false}
+use native.Mathlib.Omega.{arith}
+use borrow.Author.Needs.{needs}
+use Rattle.rdp_draw.specs.Fill.{rowKept}
+use Rattle.rdp_draw.specs.Runs.{firstKeptRow, firstRow}
+use Rattle.rdp_draw.proofs.areas.first_kept_row.Statement.{statement}
+use Rattle.rdp_draw.proofs.areas.first_kept_row.Tie as tie
+
+first-row-requires : tie.Need-first-row-requires
+first-row-requires c κs = search needs
+
+row-kept-requires : tie.Need-row-kept-requires
+row-kept-requires c κs = search needs
+
+add-result : tie.Need-add-result
+add-result c = search needs
+
+returns : tie.Need-returns
+unfolding firstKeptRow
+returns c =
+    let f = c .before .before .before .before .args .fill in
+    let kept : rowKept (f .scissor) (firstRow f) ≡ true = cc in
+    (rw kept (c .before .before .before .first-row .ensures .0), omega arith)
+
+returns-2 : tie.Need-returns-2
+unfolding firstKeptRow
+returns-2 c =
+    let f = c .before .before .before .before .args .fill in
+    let kept : rowKept (f .scissor) (firstRow f) ≡ false = cc in
+    (rw kept (cc), omega arith)
+
+pub first-kept-row-spec : {M : Type 1} → statement M
+first-kept-row-spec = tie.close (tie.spec first-row-requires row-kept-requires add-result returns returns-2)

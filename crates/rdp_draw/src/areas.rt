@@ -1,0 +1,157 @@
+// The bytes of a fill's kept pixels, as runs.
+use crate::Area;
+use crate::Fill;
+use rdp_command::Image;
+use rdp_command::Scissor;
+ghost use mathlib.Core.Path.{_≡_};
+ghost use Prim.Native.Nat.{_*_, _-_, _≤_};
+ghost use Rattle.rdp_draw.specs.Fill.{bytesPerPixel, pixelAddress, rowKept};
+ghost use Rattle.rdp_draw.specs.Runs.{Small, areaEmpty, areaInside, areaOf, endColumn, endKept, endRow, firstColumn, firstKept, firstKeptRow, firstRow, keptRows, runBytes, strideOf};
+
+// The bytes of some pixels.
+fn bytes_of(pixels: u64, size: u8) -> u64
+    requires { ⌜ pixels ≤ 4294967296 ⌝ }
+    ensures { λ r. ⌜ (r ≡ pixels * bytesPerPixel size) × (r ≤ 4 * pixels) ⌝ }
+{
+    match size {
+        1 => pixels,
+        2 => pixels * 2,
+        3 => pixels * 4,
+        _ => 0,
+    }
+}
+
+// The first kept column, or row.
+fn first_kept(near: u16, clip: u16) -> u64
+    ensures { λ r. ⌜ (r ≡ firstKept near clip) × (r ≤ 16384) ⌝ }
+{
+    let a = near as u64 / 4;
+    let b = (clip as u64 + 3) / 4;
+    if a < b { b } else { a }
+}
+
+// The column, or row, past the last kept one.
+fn end_kept(far: u16, clip: u16) -> u64
+    ensures { λ r. ⌜ (r ≡ endKept far clip) × (r ≤ 16384) ⌝ }
+{
+    let a = far as u64 / 4 + 1;
+    let b = (clip as u64 + 3) / 4;
+    if a < b { a } else { b }
+}
+
+// How many there are from the first up to the end.
+fn count(first: u64, end: u64) -> u64
+    ensures { λ r. ⌜ r ≡ end - first ⌝ }
+{
+    if first < end { end - first } else { 0 }
+}
+
+fn first_column(fill: Fill) -> u64
+    ensures { λ r. ⌜ (r ≡ firstColumn fill) × (r ≤ 16384) ⌝ }
+{
+    first_kept(fill.rectangle.upper_left.x, fill.scissor.upper_left.x)
+}
+
+fn end_column(fill: Fill) -> u64
+    ensures { λ r. ⌜ (r ≡ endColumn fill) × (r ≤ 16384) ⌝ }
+{
+    end_kept(fill.rectangle.lower_right.x, fill.scissor.lower_right.x)
+}
+
+fn first_row(fill: Fill) -> u64
+    ensures { λ r. ⌜ (r ≡ firstRow fill) × (r ≤ 16384) ⌝ }
+{
+    first_kept(fill.rectangle.upper_left.y, fill.scissor.upper_left.y)
+}
+
+fn end_row(fill: Fill) -> u64
+    ensures { λ r. ⌜ (r ≡ endRow fill) × (r ≤ 16384) ⌝ }
+{
+    end_kept(fill.rectangle.lower_right.y, fill.scissor.lower_right.y)
+}
+
+// Whether the scissor's field setting keeps row y.
+fn row_kept(scissor: Scissor, y: u64) -> bool
+    ensures { λ r. ⌜ r ≡ rowKept scissor y ⌝ }
+{
+    if !scissor.field {
+        return true;
+    }
+    if scissor.odd { y % 2 == 1 } else { y % 2 == 0 }
+}
+
+fn first_kept_row(fill: Fill) -> u64
+    ensures { λ r. ⌜ (r ≡ firstKeptRow fill) × (r ≤ 16385) ⌝ }
+{
+    let y = first_row(fill);
+    let scissor = fill.scissor;
+    if row_kept(scissor, y) { y } else { y + 1 }
+}
+
+fn kept_rows(fill: Fill) -> u64
+    ensures { λ r. ⌜ (r ≡ keptRows fill) × (r ≤ 16384) ⌝ }
+{
+    let rows = count(first_kept_row(fill), end_row(fill));
+    if fill.scissor.field {
+        (rows + 1) / 2
+    } else {
+        rows
+    }
+}
+
+// From a kept row to the next, in bytes.
+fn stride_of(fill: Fill) -> u64
+    ensures { λ r. ⌜ (r ≡ strideOf fill) × (r ≤ 1048576) ⌝ }
+{
+    let bytes = bytes_of(fill.image.width as u64 + 1, fill.image.size);
+    if fill.scissor.field { 2 * bytes } else { bytes }
+}
+
+// The bytes of the kept pixels of a row.
+fn run_bytes(fill: Fill) -> u64
+    ensures { λ r. ⌜ (r ≡ runBytes fill) × (r ≤ 65536) ⌝ }
+{
+    bytes_of(count(first_column(fill), end_column(fill)), fill.image.size)
+}
+
+// The address of pixel (x, y).
+fn pixel_address(image: Image, x: u64, y: u64) -> u64
+    requires { ⌜ (x ≤ 16384) × (y ≤ 16385) ⌝ }
+    ensures { λ r. ⌜ (r ≡ pixelAddress image x y) × (r ≤ 17179869184) ⌝ }
+{
+    let width = image.width as u64 + 1;
+    image.address as u64 + bytes_of(y * width + x, image.size)
+}
+
+pub fn area_of(fill: Fill) -> Area
+    ensures { λ r. ⌜ (r ≡ areaOf fill) × Small r ⌝ }
+{
+    let image = fill.image;
+    Area {
+        first: pixel_address(image, first_column(fill), first_kept_row(fill)),
+        size: run_bytes(fill),
+        stride: stride_of(fill),
+        rows: kept_rows(fill),
+    }
+}
+
+// Whether no byte is in a run.
+pub fn is_empty(area: Area) -> bool
+    ensures { λ r. ⌜ r ≡ areaEmpty area ⌝ }
+{
+    (area.size == 0) | (area.rows == 0)
+}
+
+// Whether every run lies in `len` bytes of memory that starts at address `start`.
+pub fn is_inside(area: Area, start: u64, len: usize) -> bool
+    requires { ⌜ Small area ⌝ }
+    ensures { λ r. ⌜ r ≡ areaInside area start len ⌝ }
+{
+    if is_empty(area) {
+        return true;
+    }
+    if area.first < start {
+        return false;
+    }
+    area.first - start + (area.rows - 1) * area.stride + area.size <= len as u64
+}
