@@ -1,5 +1,5 @@
 -- The answer and the memory of drawing, as its two loops over the draws meet them. Assumes nothing.
-use mathlib.Core.Bool.{Bool, true, false}
+use mathlib.Core.Bool.{Bool, true, false, not}
 use mathlib.Core.List.{List, [], _∷_}
 use mathlib.Core.Path.{_≡_, refl, sym, _∙_, ap}
 use Prim.Native.Nat.{ℕ, zero, suc, _+_, _*_, _/_, _%_, _≤_, _<_}
@@ -16,8 +16,12 @@ use Rattle.rdp_check.specs.Registers.{noRegisters}
 use Rattle.rdp_check.specs.Check.{checkOf}
 use Rattle.rdp_check.specs.Refusals.{Holds, tooLong, pastEnd}
 use Rattle.rdp_check.proofs.FirstLaws.{check-first}
+use Rattle.rdp_draw.specs.declared.walk.FillRegisters.{FillRegisters}
 use Rattle.rdp_draw.specs.declared.walk.Reached.{Reached}
-use Rattle.rdp_draw.specs.Fill.{painted}
+use Rattle.rdp_draw.specs.declared.Area.{Area}
+use Rattle.rdp_draw.specs.Fill.{outside, painted}
+use Rattle.rdp_draw.specs.Runs.{areaOf, areaInside}
+use Rattle.rdp_draw.proofs.AreaLaws.{outside-runs}
 use Rattle.rdp_draw.specs.Draw.{Draw, drawsOf, drawRefusal, answer, refusedAt, firstRefusal, drawAnswer, paintedAll, drawMemory}
 use Rattle.rdp_draw.specs.Seen.{seen, drawWith, Next, ReachedIs, Reaches}
 use Rattle.rdp_draw.proofs.SeenLaws.{start-due}
@@ -66,6 +70,29 @@ module _ (list : List ℕ) (start : ℕ) (memory : List ℕ) where
 
 -- ---- one draw
 
+module _ (start len : ℕ) (d : Draw) where
+  pub refusal-10 : not (d .fills) ≡ true → 10 ≡ drawRefusal start len d
+  unfolding drawRefusal
+  refusal-10 e = rw e
+
+  module _ (fills : not (d .fills) ≡ false) where
+    pub refusal-11 : (d .fill .image .address % 64 ≡ 0 → ⊥) → 11 ≡ drawRefusal start len d
+    unfolding drawRefusal
+    refusal-11 h = rw (fills, ne-eqb _ _ h)
+
+    -- an area of the fill, and whether it is inside memory
+    module _ (aligned : d .fill .image .address % 64 ≡ 0) (r : Area) (is-r : r ≡ areaOf (d .fill)) (b : Bool) (is-b : b ≡ areaInside r start len) where
+      outside-is : outside (d .fill) start len ≡ not b
+      outside-is = outside-runs (d .fill) start len ∙ ap (λ (x : Area). not (areaInside x start len)) (sym is-r) ∙ ap not (sym is-b)
+
+      pub refusal-12 : b ≡ false → 12 ≡ drawRefusal start len d
+      unfolding drawRefusal
+      refusal-12 e = rw (fills, eq-eqb _ _ aligned, outside-is, e)
+
+      pub refusal-0 : b ≡ true → 0 ≡ drawRefusal start len d
+      unfolding drawRefusal
+      refusal-0 e = rw (fills, eq-eqb _ _ aligned, outside-is, e)
+
 pub refused-first : (g place : ℕ) (next : Answer) → (g ≡ 0 → ⊥) → refusedAt g place next ≡ answer g place
 refused-first zero place next h = absurd (h refl)
 refused-first (suc g) place next h = refl
@@ -84,9 +111,9 @@ pub record Tests (list : List ℕ) (start len words : ℕ) (r : Reached) : Type 
   pub same : firstRefusal start len words ds ≡ firstRefusal start len words (drawsOf list)
 
 pub tests-first :
-    (list : List ℕ) (start len words : ℕ) (r : Reached) → words ≡ length list / 8 → restOf list ≡ [] → Reaches list 0 (seen noRegisters) r →
-    Tests list start len words r
-tests-first list start len words r e w h = record { count = e; ds = drawsOf list; reached = h .1 _ (start-due list w); same = refl }
+    (list : List ℕ) (start len words : ℕ) → words ≡ length list / 8 → restOf list ≡ [] → (q : FillRegisters) → q ≡ seen noRegisters → (r : Reached) →
+    Reaches list 0 q r → Tests list start len words r
+tests-first list start len words e w q is-q r h = record { count = e; ds = drawsOf list; reached = h .1 _ (start-due list w q is-q); same = refl }
 
 module _ {list : List ℕ} {start len words : ℕ} {r : Reached} (t : Tests list start len words r) where
   pub tests-none : words ≤ r .place → answer 0 words ≡ firstRefusal start len words (drawsOf list)
@@ -136,10 +163,11 @@ pub record Paints (list : List ℕ) (start words : ℕ) (memory₀ memory : List
   pub same : paintedAll start ds memory ≡ paintedAll start (drawsOf list) memory₀
 
 pub paints-first :
-    (list : List ℕ) (start words : ℕ) (memory : List ℕ) (r : Reached) → words ≡ length list / 8 → restOf list ≡ [] →
-    firstRefusal start (length memory) words (drawsOf list) .number ≡ 0 → Reaches list 0 (seen noRegisters) r → Paints list start words memory memory r
-paints-first list start words memory r e w z h =
-    record { count = e; ds = drawsOf list; reached = h .1 _ (start-due list w); long = refl; clear = z; same = refl }
+    (list : List ℕ) (start words : ℕ) (memory : List ℕ) → words ≡ length list / 8 → restOf list ≡ [] →
+    firstRefusal start (length memory) words (drawsOf list) .number ≡ 0 → (q : FillRegisters) → q ≡ seen noRegisters → (r : Reached) →
+    Reaches list 0 q r → Paints list start words memory memory r
+paints-first list start words memory e w z q is-q r h =
+    record { count = e; ds = drawsOf list; reached = h .1 _ (start-due list w q is-q); long = refl; clear = z; same = refl }
 
 module _ {list : List ℕ} {start words : ℕ} {memory₀ memory : List ℕ} {r : Reached} (t : Paints list start words memory₀ memory r) where
   pub paints-none : words ≤ r .place → memory ≡ paintedAll start (drawsOf list) memory₀

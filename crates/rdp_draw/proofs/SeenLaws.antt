@@ -24,7 +24,7 @@ use Rattle.rdp_check.specs.declared.Registers.{Registers}
 use Rattle.rdp_check.proofs.ListLaws.{commandAt, commands-at, rest-at, commands-past, rest-past, command-word, command-number, command-there}
 use Rattle.rdp_draw.specs.declared.walk.FillRegisters.{FillRegisters}
 use Rattle.rdp_draw.specs.declared.walk.Reached.{Reached}
-use Rattle.rdp_draw.specs.Draw.{Draw, drawAt, drawsFrom}
+use Rattle.rdp_draw.specs.Draw.{Draw, drawAt, drawsFrom, drawsOf}
 use Rattle.rdp_command.specs.declared.WordFields.{WordFields}
 use Rattle.rdp_draw.specs.Seen.{seen, sets, seenAfter, Due, Next, Reaches}
 
@@ -173,8 +173,8 @@ draw-seen : (r : Registers) (at : ℕ) (c : List ℕ) → drawAt r at c ≡ draw
 unfolding seen
 draw-seen r at c = refl
 
-pub start-due : (list : List ℕ) → restOf list ≡ [] → Due list 0 (seen noRegisters) (drawsFrom noRegisters 0 (commandsOf list))
-start-due list w = record { registers = noRegisters; sees = refl; draws = refl; whole = w }
+pub start-due : (list : List ℕ) → restOf list ≡ [] → (q : FillRegisters) → q ≡ seen noRegisters → Due list 0 q (drawsOf list)
+start-due list w q e = record { registers = noRegisters; sees = sym e; draws = refl; whole = w }
 
 -- nothing is left
 pub due-none : {list : List ℕ} {at : ℕ} {q : FillRegisters} {ds : List Draw} → Due list at q ds → length list / 8 ≤ at → ds ≡ []

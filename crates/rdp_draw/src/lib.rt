@@ -1,11 +1,11 @@
 // Drawing of fill rectangles into memory.
+mod areas;
+mod refusals;
 mod walk;
 
 use rdp_command::Image;
 use rdp_command::Rectangle;
 use rdp_command::Scissor;
-
-mod areas;
 
 // A fill rectangle with the registers that it is drawn under.
 pub struct Fill {
