@@ -6,3 +6,4 @@ pub mod OverlayLaws
 pub mod PixelLaws
 pub mod RunLaws
 pub mod AreaLaws
+pub mod ByteLaws
