@@ -23,7 +23,7 @@ use Rattle.rdp_draw.specs.Runs.{areaEmpty, areaInside, areaOf, endColumn
 use Rattle.rdp_draw.proofs.BoolLaws.{never, cond-true, cond-false, same-truth, other-truth}
 use Rattle.rdp_draw.proofs.OverlayLaws.{split, within-true, within-is, overlay-none, overlay-cong, overlay-from}
 use Rattle.rdp_draw.proofs.PixelLaws.{row-kept-is, row-kept-true, covers-sound, covers-complete, outside-sound, outside-complete}
-use Rattle.rdp_draw.proofs.RunLaws.{in-runs-is, in-runs-true, runs-from, empty-runs, inside-is, inside-sound, inside-complete}
+use Rattle.rdp_draw.proofs.InsideLaws.{in-runs-is, in-runs-true, runs-from, empty-runs, inside-is, inside-sound, inside-complete}
 
 -- ---- addresses
 

@@ -1,5 +1,5 @@
 pub mod BoolLaws
 pub mod OverlayLaws
 pub mod PixelLaws
-pub mod RunLaws
+pub mod InsideLaws
 pub mod AreaLaws
