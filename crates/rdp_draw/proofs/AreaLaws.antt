@@ -1,9 +1,10 @@
 -- The bytes of the kept pixels of a fill are the runs of its area.
---     covers-runs, outside-runs      the tests of `Fill` by the area
---     painted-runs, painted-empty    what a painter of runs leaves is `painted`
+--     covers-runs, outside-runs     the tests of `Fill` by the area
+--     painted-runs, runs-fit        what a painter of runs leaves is `painted`, and what it asks
+--     painted-empty                 nothing is painted where the area has no byte
 -- Assumes nothing.
 use mathlib.Core.Path.{_≡_, sym, ap, _∙_}
-use mathlib.Core.Bool.{Bool, true, false, cond, not}
+use mathlib.Core.Bool.{Bool, true, false, cond, not, Bool·not-not}
 use mathlib.Core.List.{List}
 use Prim.Native.Nat.{ℕ, suc, _+_, _-_, _*_, _/_, _%_, _≤_, _<_}
 use native.Mathlib.Nat.{add-mul, mul-assoc, mul-zero, mul-le-mul-right, suc-mul, not-suc-le-zero, div-lt-iff-lt-mul, div-mul-le-self, lt-div-mul-add}
@@ -22,7 +23,7 @@ use Rattle.rdp_draw.specs.Runs.{areaEmpty, areaInside, areaOf, endColumn
 use Rattle.rdp_draw.proofs.BoolLaws.{never, cond-true, cond-false, same-truth, other-truth}
 use Rattle.rdp_draw.proofs.OverlayLaws.{split, within-true, within-is, overlay-none, overlay-cong, overlay-from}
 use Rattle.rdp_draw.proofs.PixelLaws.{row-kept-is, row-kept-true, covers-sound, covers-complete, outside-sound, outside-complete}
-use Rattle.rdp_draw.proofs.RunLaws.{in-runs-is, in-runs-true, runs-from, empty-runs, inside-is, inside-sound, inside-complete}
+use Rattle.rdp_draw.proofs.InsideLaws.{in-runs-is, in-runs-true, runs-from, empty-runs, inside-is, inside-sound, inside-complete}
 
 -- ---- addresses
 
@@ -87,11 +88,11 @@ module _ (o first from end : ℕ) (after : first ≤ from) (near : from ≤ firs
 module _ (f : Fill) where
   -- with field set
   module _ (e : f .scissor .«field» ≡ true) where
-    step-two : rowStep f ≡ 2
+    pub step-two : rowStep f ≡ 2
     unfolding rowStep
     step-two = cond-true (f .scissor .«field») 2 1 e
 
-    rows-half : keptRows f ≡ (endRow f - firstKeptRow f + 1) / 2
+    pub rows-half : keptRows f ≡ (endRow f - firstKeptRow f + 1) / 2
     unfolding keptRows
     rows-half = cond-true (f .scissor .«field») ((endRow f - firstKeptRow f + 1) / 2) (endRow f - firstKeptRow f) e
 
@@ -107,11 +108,11 @@ module _ (f : Fill) where
     every-row : (y : ℕ) → rowKept (f .scissor) y ≡ true
     every-row y = row-kept-true (f .scissor) y (λ h. absurd (never (sym e ∙ h)))
 
-    step-one : rowStep f ≡ 1
+    pub step-one : rowStep f ≡ 1
     unfolding rowStep
     step-one = cond-false (f .scissor .«field») 2 1 e
 
-    rows-all : keptRows f ≡ endRow f - firstKeptRow f
+    pub rows-all : keptRows f ≡ endRow f - firstKeptRow f
     unfolding keptRows
     rows-all = cond-false (f .scissor .«field») ((endRow f - firstKeptRow f + 1) / 2) (endRow f - firstKeptRow f) e
 
@@ -249,25 +250,29 @@ module _ (f : Fill) where
       (λ late. absurd (never (sym none ∙ outside-complete f start len
       (a, covers-sound f a (covers-runs a ∙ h), λ w. never (sym late ∙ within-true start (start + len) a (w .0) (w .1))))))))
 
--- ---- painting
+-- ---- the area in a function
 
--- an area r of the fill, and memory m that starts at address `start`
-module _ (f : Fill) (r : Area) (same : r ≡ areaOf f) (start : ℕ) (m : List ℕ) where
+module _ (f : Fill) (r : Area) (same : r ≡ areaOf f) (start : ℕ) where
+  pub inside-area : (len : ℕ) → areaInside r start len ≡ not (outside f start len)
+  inside-area len = rw same (sym (ap not (outside-runs f start len) ∙ Bool·not-not (areaInside (areaOf f) start len)))
+
   covers-area : (a : ℕ) → covers f a ≡ inRuns (r .first) (r .size) (r .stride) (r .rows) a
   covers-area a = rw same (covers-runs f a)
 
-  -- no byte is covered
-  pub painted-empty : areaEmpty r ≡ true → m ≡ painted f start m
-  painted-empty e =
-      overlay-none (covers f) (colorByte (f .color)) start m (λ i _. covers-area (start + i) ∙ empty-runs r e (start + i))
+  -- memory that starts at address `start`, where no byte is covered
+  module _ (m : List ℕ) where
+    pub painted-empty : areaEmpty r ≡ true → m ≡ painted f start m
+    painted-empty e =
+        overlay-none (covers f) (colorByte (f .color)) start m (λ i _. covers-area (start + i) ∙ empty-runs r e (start + i))
 
-  module _ (some : areaEmpty r ≡ false) (inside : areaInside r start (length m) ≡ true) where
-    -- the runs by the indices of memory
-    pub runs-fit : (start ≤ r .first) × (r .first - start + (r .rows - 1) * r .stride + r .size ≤ length m)
-    runs-fit = let h = inside-is r start (length m) some inside in (omega arith, omega arith)
+    -- and where every covered byte is in memory: the runs by the indices of memory, and what they leave
+    module _ (some : areaEmpty r ≡ false) (inside : areaInside r start (length m) ≡ true) where
+      pub runs-fit : (start ≤ r .first) × (r .first - start + (r .rows - 1) * r .stride + r .size ≤ length m)
+      runs-fit = let h = inside-is r start (length m) some inside in (omega arith, omega arith)
 
-    pub painted-runs : overlay (inRuns (r .first - start) (r .size) (r .stride) (r .rows)) (λ i. colorByte (f .color) (start + i)) 0 m ≡ painted f start m
-    painted-runs =
-        overlay-cong (inRuns (r .first - start) (r .size) (r .stride) (r .rows)) (λ i. covers f (start + i)) (λ i. colorByte (f .color) (start + i)) 0 m
-        (λ i _. sym (covers-area (start + (0 + i)) ∙ runs-from start (r .first) (r .size) (r .stride) (r .rows) (0 + i) (runs-fit .0)))
-        ∙ sym (overlay-from (covers f) (colorByte (f .color)) start m)
+      pub painted-runs :
+          overlay (inRuns (r .first - start) (r .size) (r .stride) (r .rows)) (λ i. colorByte (f .color) (start + i)) 0 m ≡ painted f start m
+      painted-runs =
+          overlay-cong (inRuns (r .first - start) (r .size) (r .stride) (r .rows)) (λ i. covers f (start + i)) (λ i. colorByte (f .color) (start + i)) 0 m
+          (λ i _. sym (covers-area (start + (0 + i)) ∙ runs-from start (r .first) (r .size) (r .stride) (r .rows) (0 + i) (runs-fit .0)))
+          ∙ sym (overlay-from (covers f) (colorByte (f .color)) start m)

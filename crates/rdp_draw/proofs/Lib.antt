@@ -4,6 +4,6 @@ pub mod DrawnLaws
 pub mod BoolLaws
 pub mod OverlayLaws
 pub mod PixelLaws
-pub mod RunLaws
+pub mod InsideLaws
 pub mod AreaLaws
 pub mod ByteLaws

@@ -10,6 +10,7 @@ use borrow.Author.Tests.{le-leb, lt-leb, lt-ltb, le-ltb}
 use lib.ListN.{length, getD}
 use lib.Seq.{ext-getD}
 use Rattle.rdp_draw.specs.Overlay.{overlay, within}
+use Rattle.rdp_draw.proofs.BoolLaws.{never}
 
 -- one order or the other
 pub split {ℓ} : {X : Type ℓ} (a b : ℕ) → (a ≤ b → X) → (b < a → X) → X
@@ -32,9 +33,6 @@ module _ (first end a : ℕ) where
       split first a
       (λ l. split (suc a) end (λ m. (l, m)) (λ m. absurd (never (sym (within-late (le-of-suc-le-suc m)) ∙ h))))
       (λ l. absurd (never (sym (within-early l) ∙ h)))
-    where
-      never : _≡_ {A = Bool} false true → ⊥
-      never e = let z : _≡_ {A = ℕ} 0 1 = cc in omega arith
 
 -- ---- overlay
 

@@ -6,9 +6,9 @@ use rdp_command::Scissor;
 ghost use mathlib.Core.Path.{_≡_};
 ghost use Prim.Native.Nat.{_*_, _-_, _≤_};
 ghost use Rattle.rdp_draw.specs.Fill.{bytesPerPixel, pixelAddress, rowKept};
-ghost use Rattle.rdp_draw.specs.Runs.{Small, areaEmpty, areaInside, areaOf, endColumn, endKept, endRow, firstColumn, firstKept, firstKeptRow, firstRow, keptRows, runBytes, strideOf};
+ghost use Rattle.rdp_draw.specs.Runs.{Small, areaEmpty, areaInside, areaOf, endKept, firstKept, firstKeptRow, keptRows, runBytes, strideOf};
 
-// The bytes of some pixels.
+// The bytes of some pixels. The bounds below are those of fields of 16 bits; they keep every sum and product far from wrapping.
 fn bytes_of(pixels: u64, size: u8) -> u64
     requires { ⌜ pixels ≤ 4294967296 ⌝ }
     ensures { λ r. ⌜ (r ≡ pixels * bytesPerPixel size) × (r ≤ 4 * pixels) ⌝ }
@@ -21,7 +21,7 @@ fn bytes_of(pixels: u64, size: u8) -> u64
     }
 }
 
-// The first kept column, or row.
+// The first kept column, or row. Pixel p is kept where 4p is at least the scissor's edge, so the edge is rounded up.
 fn first_kept(near: u16, clip: u16) -> u64
     ensures { λ r. ⌜ (r ≡ firstKept near clip) × (r ≤ 16384) ⌝ }
 {
@@ -30,7 +30,7 @@ fn first_kept(near: u16, clip: u16) -> u64
     if a < b { b } else { a }
 }
 
-// The column, or row, past the last kept one.
+// The column, or row, past the last kept one: the rectangle's last is included, and 4p is below the scissor's edge.
 fn end_kept(far: u16, clip: u16) -> u64
     ensures { λ r. ⌜ (r ≡ endKept far clip) × (r ≤ 16384) ⌝ }
 {
@@ -46,30 +46,6 @@ fn count(first: u64, end: u64) -> u64
     if first < end { end - first } else { 0 }
 }
 
-fn first_column(fill: Fill) -> u64
-    ensures { λ r. ⌜ (r ≡ firstColumn fill) × (r ≤ 16384) ⌝ }
-{
-    first_kept(fill.rectangle.upper_left.x, fill.scissor.upper_left.x)
-}
-
-fn end_column(fill: Fill) -> u64
-    ensures { λ r. ⌜ (r ≡ endColumn fill) × (r ≤ 16384) ⌝ }
-{
-    end_kept(fill.rectangle.lower_right.x, fill.scissor.lower_right.x)
-}
-
-fn first_row(fill: Fill) -> u64
-    ensures { λ r. ⌜ (r ≡ firstRow fill) × (r ≤ 16384) ⌝ }
-{
-    first_kept(fill.rectangle.upper_left.y, fill.scissor.upper_left.y)
-}
-
-fn end_row(fill: Fill) -> u64
-    ensures { λ r. ⌜ (r ≡ endRow fill) × (r ≤ 16384) ⌝ }
-{
-    end_kept(fill.rectangle.lower_right.y, fill.scissor.lower_right.y)
-}
-
 // Whether the scissor's field setting keeps row y.
 fn row_kept(scissor: Scissor, y: u64) -> bool
     ensures { λ r. ⌜ r ≡ rowKept scissor y ⌝ }
@@ -80,18 +56,22 @@ fn row_kept(scissor: Scissor, y: u64) -> bool
     if scissor.odd { y % 2 == 1 } else { y % 2 == 0 }
 }
 
+// The first row that the rectangle has and the scissor keeps, if there is one.
 fn first_kept_row(fill: Fill) -> u64
     ensures { λ r. ⌜ (r ≡ firstKeptRow fill) × (r ≤ 16385) ⌝ }
 {
-    let y = first_row(fill);
+    let y = first_kept(fill.rectangle.upper_left.y, fill.scissor.upper_left.y);
     let scissor = fill.scissor;
     if row_kept(scissor, y) { y } else { y + 1 }
 }
 
+// The number of kept rows: with field set, every second one.
 fn kept_rows(fill: Fill) -> u64
     ensures { λ r. ⌜ (r ≡ keptRows fill) × (r ≤ 16384) ⌝ }
 {
-    let rows = count(first_kept_row(fill), end_row(fill));
+    let first = first_kept_row(fill);
+    let end = end_kept(fill.rectangle.lower_right.y, fill.scissor.lower_right.y);
+    let rows = count(first, end);
     if fill.scissor.field {
         (rows + 1) / 2
     } else {
@@ -111,7 +91,9 @@ fn stride_of(fill: Fill) -> u64
 fn run_bytes(fill: Fill) -> u64
     ensures { λ r. ⌜ (r ≡ runBytes fill) × (r ≤ 65536) ⌝ }
 {
-    bytes_of(count(first_column(fill), end_column(fill)), fill.image.size)
+    let first = first_kept(fill.rectangle.upper_left.x, fill.scissor.upper_left.x);
+    let end = end_kept(fill.rectangle.lower_right.x, fill.scissor.lower_right.x);
+    bytes_of(count(first, end), fill.image.size)
 }
 
 // The address of pixel (x, y).
@@ -123,12 +105,15 @@ fn pixel_address(image: Image, x: u64, y: u64) -> u64
     image.address as u64 + bytes_of(y * width + x, image.size)
 }
 
+// The kept pixels of a fill as runs of bytes, a run for each kept row.
 pub fn area_of(fill: Fill) -> Area
     ensures { λ r. ⌜ (r ≡ areaOf fill) × Small r ⌝ }
 {
     let image = fill.image;
+    let x = first_kept(fill.rectangle.upper_left.x, fill.scissor.upper_left.x);
+    let y = first_kept_row(fill);
     Area {
-        first: pixel_address(image, first_column(fill), first_kept_row(fill)),
+        first: pixel_address(image, x, y),
         size: run_bytes(fill),
         stride: stride_of(fill),
         rows: kept_rows(fill),
@@ -142,7 +127,7 @@ pub fn is_empty(area: Area) -> bool
     (area.size == 0) | (area.rows == 0)
 }
 
-// Whether every run lies in `len` bytes of memory that starts at address `start`.
+// Whether every run lies in `len` bytes of memory that starts at address `start`. Nothing is added to `start`, which could wrap.
 pub fn is_inside(area: Area, start: u64, len: usize) -> bool
     requires { ⌜ Small area ⌝ }
     ensures { λ r. ⌜ r ≡ areaInside area start len ⌝ }

@@ -4,8 +4,8 @@ use Rattle.rdp_draw.specs.Runs.{areaOf}
 use Rattle.rdp_draw.proofs.areas.area_of.Statement.{statement}
 use Rattle.rdp_draw.proofs.areas.area_of.Tie as tie
 
-first-column-requires : tie.Need-first-column-requires
-first-column-requires c κs = search needs
+first-kept-requires : tie.Need-first-kept-requires
+first-kept-requires c κs = search needs
 
 first-kept-row-requires : tie.Need-first-kept-row-requires
 first-kept-row-requires c κs = search needs
@@ -38,7 +38,7 @@ pub area-of-spec : {M : Type 1} → statement M
 area-of-spec =
     tie.close
     (tie.spec
-    first-column-requires
+    first-kept-requires
     first-kept-row-requires
     pixel-address-requires
     run-bytes-requires

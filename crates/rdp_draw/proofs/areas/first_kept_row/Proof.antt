@@ -8,8 +8,8 @@ use Rattle.rdp_draw.specs.Runs.{firstKeptRow, firstRow}
 use Rattle.rdp_draw.proofs.areas.first_kept_row.Statement.{statement}
 use Rattle.rdp_draw.proofs.areas.first_kept_row.Tie as tie
 
-first-row-requires : tie.Need-first-row-requires
-first-row-requires c κs = search needs
+first-kept-requires : tie.Need-first-kept-requires
+first-kept-requires c κs = search needs
 
 row-kept-requires : tie.Need-row-kept-requires
 row-kept-requires c κs = search needs
@@ -22,7 +22,7 @@ unfolding firstKeptRow
 returns c =
     let f = c .before .before .before .before .args .fill in
     let kept : rowKept (f .scissor) (firstRow f) ≡ true = cc in
-    (rw kept (c .before .before .before .first-row .ensures .0), omega arith)
+    (rw kept (c .before .before .before .first-kept .ensures .0), omega arith)
 
 returns-2 : tie.Need-returns-2
 unfolding firstKeptRow
@@ -32,4 +32,4 @@ returns-2 c =
     (rw kept (cc), omega arith)
 
 pub first-kept-row-spec : {M : Type 1} → statement M
-first-kept-row-spec = tie.close (tie.spec first-row-requires row-kept-requires add-result returns returns-2)
+first-kept-row-spec = tie.close (tie.spec first-kept-requires row-kept-requires add-result returns returns-2)

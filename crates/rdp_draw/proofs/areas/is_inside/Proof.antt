@@ -4,7 +4,7 @@ use mathlib.Core.Bool.{false}
 use native.Mathlib.Omega.{arith}
 use borrow.Author.Needs.{needs}
 use Rattle.rdp_draw.specs.Runs.{areaEmpty}
-use Rattle.rdp_draw.proofs.RunLaws.{not-empty, last-start, inside-empty, inside-early, inside-late}
+use Rattle.rdp_draw.proofs.InsideLaws.{not-empty, last-start, inside-empty, inside-early, inside-late}
 use Rattle.rdp_draw.proofs.areas.is_inside.Statement.{statement}
 use Rattle.rdp_draw.proofs.areas.is_inside.Tie as tie
 

@@ -4,11 +4,11 @@ use borrow.Author.Needs.{needs}
 use Rattle.rdp_draw.proofs.areas.run_bytes.Statement.{statement}
 use Rattle.rdp_draw.proofs.areas.run_bytes.Tie as tie
 
-first-column-requires : tie.Need-first-column-requires
-first-column-requires c κs = search needs
+first-kept-requires : tie.Need-first-kept-requires
+first-kept-requires c κs = search needs
 
-end-column-requires : tie.Need-end-column-requires
-end-column-requires c κs = search needs
+end-kept-requires : tie.Need-end-kept-requires
+end-kept-requires c κs = search needs
 
 count-requires : tie.Need-count-requires
 count-requires c κs = search needs
@@ -22,4 +22,4 @@ returns c = (cc, omega arith)
 pub run-bytes-spec : {M : Type 1} → statement M
 run-bytes-spec =
     tie.close
-    (tie.spec first-column-requires end-column-requires count-requires bytes-of-requires returns)
+    (tie.spec first-kept-requires end-kept-requires count-requires bytes-of-requires returns)
