@@ -1,12 +1,12 @@
 -- The answer and the memory of drawing, as its two loops over the draws meet them. Assumes nothing.
-use mathlib.Core.Bool.{Bool, true, false, not}
+use mathlib.Core.Bool.{Bool, true, false, cond, not}
 use mathlib.Core.List.{List, [], _∷_}
 use mathlib.Core.Path.{_≡_, refl, sym, _∙_, ap}
-use Prim.Native.Nat.{ℕ, zero, suc, _+_, _*_, _/_, _%_, _≤_, _<_}
+use Prim.Native.Nat.{ℕ, zero, suc, _+_, _/_, _%_, _≤_, _<_}
 use native.Mathlib.Nat.{suc-ne-zero}
 use native.Mathlib.Omega.{arith}
 use borrow.Author.Tests.{eq-eqb, ne-eqb, ltb-true, ltb-false}
-use lib.Dec.{ltb}
+use lib.Dec.{eqb, ltb}
 use lib.ListN.{length}
 use Rattle.rdp_command.specs.Kinds.{wordsOf}
 use Rattle.rdp_command.specs.declared.Answer.{Answer}
@@ -14,7 +14,7 @@ use Rattle.rdp_command.proofs.Tests.{by-test}
 use Rattle.rdp_check.specs.Commands.{restOf}
 use Rattle.rdp_check.specs.Registers.{noRegisters}
 use Rattle.rdp_check.specs.Check.{checkOf}
-use Rattle.rdp_check.specs.Refusals.{Holds, tooLong, pastEnd}
+use Rattle.rdp_check.specs.Refusals.{tooLong, pastEnd}
 use Rattle.rdp_check.proofs.FirstLaws.{check-first}
 use Rattle.rdp_draw.specs.declared.walk.FillRegisters.{FillRegisters}
 use Rattle.rdp_draw.specs.declared.walk.Reached.{Reached}
@@ -92,6 +92,17 @@ module _ (start len : ℕ) (d : Draw) where
       pub refusal-0 : b ≡ true → 0 ≡ drawRefusal start len d
       unfolding drawRefusal
       refusal-0 e = rw (fills, eq-eqb _ _ aligned, outside-is, e)
+
+-- a draw that is not refused has all its bytes in memory
+refusal-none : (start len : ℕ) (d : Draw) → drawRefusal start len d ≡ 0 → outside (d .fill) start len ≡ false
+unfolding drawRefusal
+refusal-none start len d e = third (d .fills) (eqb (d .fill .image .address % 64) 0) (outside (d .fill) start len) e
+  where
+    third : (f a o : Bool) → _≡_ {A = ℕ} (cond (not f) 10 (cond (not a) 11 (cond o 12 0))) 0 → o ≡ false
+    third f a false z = refl
+    third true true true z = absurd (suc-ne-zero 11 z)
+    third true false true z = absurd (suc-ne-zero 10 z)
+    third false a true z = absurd (suc-ne-zero 9 z)
 
 pub refused-first : (g place : ℕ) (next : Answer) → (g ≡ 0 → ⊥) → refusedAt g place next ≡ answer g place
 refused-first zero place next h = absurd (h refl)
@@ -186,8 +197,8 @@ module _ {list : List ℕ} {start words : ℕ} {memory₀ memory : List ℕ} {r 
     clears =
         refused-none _ (r .place) _ (ap (λ (x : List Draw). firstRefusal start (length memory) words x .number) (sym (next-painted .first)) ∙ t .clear)
 
-    pub paints-clear : drawRefusal start (length memory) drawn ≡ 0
-    paints-clear = clears .0
+    pub paints-clear : outside (drawn .fill) start (length memory) ≡ false
+    paints-clear = refusal-none start (length memory) drawn (clears .0)
 
     pub paints-again :
         (m : List ℕ) → m ≡ painted (drawn .fill) start memory → length m ≡ length memory → (k : ℕ) → k ≡ wordsOf (r .number) → (r′ : Reached) →

@@ -1,19 +1,19 @@
 -- Drawing accepts exactly where no refusal holds and else answers the first; each byte shows the last fill that covers it. Assumes nothing.
-use mathlib.Core.Bool.{Bool, true, false, cond, not, _||_}
+use mathlib.Core.Bool.{Bool, true, false, cond, not}
 use mathlib.Core.List.{List, [], _∷_, _++_}
 use mathlib.Core.Logic.{_⊎_, inl, inr, ⊎-elim}
 use mathlib.Core.Path.{_≡_, refl, sym, ap, subst, _∙_}
-use Prim.Native.Nat.{ℕ, zero, suc, _+_, _/_, _%_, _≤_, _<_}
-use native.Mathlib.Nat.{suc-ne-zero, le-refl}
+use Prim.Native.Nat.{ℕ, suc, _+_, _/_, _%_, _≤_, _<_}
+use native.Mathlib.Nat.{le-refl}
 use native.Mathlib.Omega.{arith}
 use borrow.Author.Tests.{eqb-true, eqb-false, eq-eqb, ne-eqb}
 use lib.Dec.{T, eqb}
-use lib.ListN.{length, getD}
+use lib.ListN.{length}
 use Rattle.rdp_command.specs.Words.{wordAt}
 use Rattle.rdp_command.specs.Kinds.{wordsOf}
 use Rattle.rdp_command.specs.Decode.{firstNumber, decodeOf}
 use Rattle.rdp_command.specs.declared.Answer.{Answer}
-use Rattle.rdp_command.proofs.Tests.{by-test, true-of}
+use Rattle.rdp_command.proofs.Tests.{by-test}
 use Rattle.rdp_command.proofs.KindLaws.{words-pos}
 use Rattle.rdp_command.proofs.PlaceLaws.{number-small}
 use Rattle.rdp_check.specs.Registers.{noRegisters, afterDecoded}
@@ -26,7 +26,7 @@ use Rattle.rdp_check.proofs.HazardLaws.{required-most}
 use Rattle.rdp_draw.specs.Fill.{outside}
 use Rattle.rdp_draw.specs.Draw.{Draw, drawAt, drawsFrom, drawsOf, drawRefusal, answer, refusedAt, firstRefusal, drawAnswer}
 use Rattle.rdp_draw.specs.Refusals.{Refuses, notFill, misaligned, outsideMemory, Holds, atCheck, atDraw, NotAfter, ofCheck, earlier, same, IsFirst}
-use Rattle.rdp_draw.proofs.DrawLaws.{Accepted, accepted, refused-first, refused-none}
+use Rattle.rdp_draw.proofs.DrawLaws.{accepted, refused-first, refused-none}
 
 -- ---- at one draw
 

@@ -7,3 +7,7 @@ pub mod PixelLaws
 pub mod InsideLaws
 pub mod AreaLaws
 pub mod ByteLaws
+pub mod ColorLaws
+pub mod PatternLaws
+pub mod RunLaws
+pub mod WidthLaws

@@ -2,7 +2,7 @@
 use mathlib.Core.Bool.{Bool, true, false, cond, not, _&&_, _||_, true≢false}
 use mathlib.Core.List.{List, [], _∷_}
 use mathlib.Core.Path.{_≡_, refl, sym, _∙_, ap}
-use Prim.Native.Nat.{ℕ, suc, _+_, _*_, _/_, _%_, _^_, _≤_, _<_}
+use Prim.Native.Nat.{ℕ, _+_, _*_, _/_, _%_, _^_, _≤_, _<_}
 use native.Mathlib.Nat.{le-refl}
 use native.Mathlib.Omega.{arith}
 use borrow.Author.Tests.{ne-eqb, eqb-true, eqb-false, ltb-true, ltb-false}
@@ -14,7 +14,7 @@ use Rattle.rdp_command.specs.Commands.{numberOf}
 use Rattle.rdp_command.specs.Decode.{firstNumber, wholeWords, decodeOf, wordFields}
 use Rattle.rdp_command.specs.declared.Command.{Command}
 use Rattle.rdp_command.specs.declared.Command.the-variants.{NoOperation, FillTriangle, TextureRectangle, TextureRectangleFlip, SyncLoad, SyncPipe, SyncTile, SyncFull, SetKeyGb, SetKeyR, SetConvert, SetScissor, SetPrimitiveDepth, SetOtherModes, LoadTlut, SetTileSize, LoadBlock, LoadTile, SetTile, FillRectangle, SetFillColor, SetFogColor, SetBlendColor, SetPrimitiveColor, SetEnvironmentColor, SetCombineMode, SetTextureImage, SetDepthImage, SetColorImage}
-use Rattle.rdp_command.proofs.Tests.{below, both, by-test, same, same-bool}
+use Rattle.rdp_command.proofs.Tests.{below, by-test, same, same-bool}
 use Rattle.rdp_command.proofs.PlaceLaws.{number-small, some-words}
 use Rattle.rdp_command.proofs.ReadLaws.{decoded, decodes, decoded-number, reads-other-modes, reads-scissor, reads-fill-color, reads-color-image}
 use Rattle.rdp_check.specs.Commands.{commandsOf, restOf}
@@ -23,7 +23,6 @@ use Rattle.rdp_check.specs.Check.{draws}
 use Rattle.rdp_check.specs.declared.Registers.{Registers}
 use Rattle.rdp_check.proofs.ListLaws.{commandAt, commands-at, rest-at, commands-past, rest-past, command-word, command-number, command-there}
 use Rattle.rdp_draw.specs.declared.walk.FillRegisters.{FillRegisters}
-use Rattle.rdp_draw.specs.declared.walk.Reached.{Reached}
 use Rattle.rdp_draw.specs.Draw.{Draw, drawAt, drawsFrom, drawsOf}
 use Rattle.rdp_command.specs.declared.WordFields.{WordFields}
 use Rattle.rdp_draw.specs.Seen.{seen, sets, seenAfter, Due, Next, Reaches}

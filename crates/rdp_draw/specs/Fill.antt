@@ -2,7 +2,7 @@
 use Prim.Native.Nat.{ℕ, zero, suc, _+_, _-_, _*_, _/_, _%_, _^_}
 use mathlib.Core.Bool.{Bool, true, false, cond, not, _&&_, _||_}
 use mathlib.Core.List.{List}
-use lib.Dec.{leb, ltb, eqb}
+use lib.Dec.{eqb}
 use Rattle.rdp_command.specs.declared.Image.{Image}
 use Rattle.rdp_command.specs.declared.Scissor.{Scissor}
 use Rattle.rdp_draw.specs.declared.Fill.{Fill}

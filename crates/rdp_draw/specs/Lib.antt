@@ -5,3 +5,5 @@ pub mod Meaning
 pub mod Runs
 pub mod Seen
 pub mod Refusals
+pub mod Pattern
+pub mod Width

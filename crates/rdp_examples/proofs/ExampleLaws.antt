@@ -1,6 +1,6 @@
--- The examples of the repair hold of its definitions, which antt computes. Assumes nothing.
+-- Examples A to O hold of the definitions, which antt computes. Assumes nothing.
 use lib.Dec.{T}
-use Rattle.rdp_command.specs.Words.{halfOf, wordAt}
+use Rattle.rdp_command.specs.Words.{halfOf, wordAt, overwrite}
 use Rattle.rdp_command.specs.Kinds.{kindOf, wordsOf}
 use Rattle.rdp_command.specs.Layout.{layout}
 use Rattle.rdp_command.specs.Commands.{commandOf}
@@ -10,9 +10,12 @@ use Rattle.rdp_check.specs.Commands.{commandsFrom, restFrom}
 use Rattle.rdp_check.specs.Registers.{noRegisters, registersAfter}
 use Rattle.rdp_check.specs.Check.{afterCommand, draws, refusalOf, judge, outcomeWithin}
 use Rattle.rdp_check.specs.Plan.{waitOf, syncOf, clearedBy, withOption, totalWith, choiceOf, prefer, chosen, best, plan, applied, planned}
-use Rattle.rdp_check.specs.Repair.{repairedBytes}
-use Rattle.rdp_examples.specs.Examples.{repairExamples, allRight}
+use Rattle.rdp_check.specs.Repair.{repairedBytes, roomed, repairOf, outAfter, workAfter}
+use Rattle.rdp_draw.specs.Overlay.{overlay}
+use Rattle.rdp_draw.specs.Fill.{colorByte, bytesPerPixel, pixelAddress, rowKept, kept, oneOf, someByte}
+use Rattle.rdp_draw.specs.Draw.{drawsFrom, drawRefusal, firstRefusal, drawAnswer, paintedAll, drawMemory}
+use Rattle.rdp_examples.specs.Examples.{examples, allRight}
 
-pub repair-examples : T (allRight repairExamples)
-unfolding repairExamples halfOf wordAt kindOf wordsOf layout commandOf wholeWords decodeOf nextOf requiredOf commandsFrom restFrom noRegisters registersAfter afterCommand draws refusalOf judge outcomeWithin waitOf syncOf clearedBy withOption totalWith choiceOf prefer chosen best plan applied planned repairedBytes
-repair-examples = tt
+pub examples-right : T (allRight examples)
+unfolding examples halfOf wordAt overwrite kindOf wordsOf layout commandOf wholeWords decodeOf nextOf requiredOf commandsFrom restFrom noRegisters registersAfter afterCommand draws refusalOf judge outcomeWithin waitOf syncOf clearedBy withOption totalWith choiceOf prefer chosen best plan applied planned repairedBytes roomed repairOf outAfter workAfter overlay colorByte bytesPerPixel pixelAddress rowKept kept oneOf someByte drawsFrom drawRefusal firstRefusal drawAnswer paintedAll drawMemory
+examples-right = tt

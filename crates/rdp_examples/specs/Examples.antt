@@ -1,21 +1,32 @@
--- Document 01, "Examples": those of the repair, as lists of words.
-use Prim.Native.Nat.{ℕ}
+-- Document 01, "Examples": A to O as one list of cases, each with all that must come out.
+use Prim.Native.Nat.{ℕ, _+_, _*_}
 use mathlib.Core.Bool.{Bool, true, false, _&&_}
 use mathlib.Core.List.{List, [], _∷_, _++_}
 use lib.Dec.{eqb}
+use lib.ListN.{length, replicate}
 use Rattle.rdp_command.specs.Words.{bytesOf}
 use Rattle.rdp_check.specs.Commands.{commandsOf}
-use Rattle.rdp_check.specs.Check.{outcomeWithin}
-use Rattle.rdp_check.specs.Plan.{best, numbersOf}
-use Rattle.rdp_check.specs.Repair.{repairedBytes}
+use Rattle.rdp_check.specs.Check.{checkOf}
+use Rattle.rdp_check.specs.Repair.{repairOf, outAfter, workAfter}
+use Rattle.rdp_draw.specs.Draw.{drawAnswer, drawMemory}
+
+-- ---- the paper's words
 
 -- S: FILL, 16 bits, width 8, address 0, scissor 8 by 4
 abbrev pub setup : List ℕ
 setup = 0x2F30000000000000 ∷ 0x3F10000700000000 ∷ 0x2D00000000020010 ∷ []
 
+-- the same with width 7
+abbrev pub setupOfWidth7 : List ℕ
+setupOfWidth7 = 0x2F30000000000000 ∷ 0x3F10000600000000 ∷ 0x2D00000000020010 ∷ []
+
 -- R: pixels (1,1) to (2,2)
 abbrev pub rectangle : ℕ
 rectangle = 0x3600800800004004
+
+-- pixel (0,1)
+abbrev pub onePixel : ℕ
+onePixel = 0x3600000400000004
 
 -- N
 abbrev pub noOperation : ℕ
@@ -29,32 +40,73 @@ fillColor = 0x37000000F801003F
 abbrev pub loadTile : ℕ
 loadTile = 0x3400000000000000
 
+abbrev pub textureRectangle : ℕ
+textureRectangle = 0x2400000000000000
+
+abbrev pub longestTriangle : ℕ
+longestTriangle = 0x0F00000000000000
+
 abbrev pub syncLoad : ℕ
 syncLoad = 0x2600000000000000
 
 abbrev pub syncPipe : ℕ
 syncPipe = 0x2700000000000000
 
--- a list, the list that its repair writes, and the cycles that it inserts
-pub record RepairExample : Type 0 where
-  pub given : List ℕ
-  pub repaired : List ℕ
-  pub cycles : ℕ
+abbrev pub syncTile : ℕ
+syncTile = 0x2800000000000000
 
-abbrev pub example : List ℕ → List ℕ → ℕ → RepairExample
-example given repaired cycles = record { given = given; repaired = repaired; cycles = cycles }
-
--- J: one Pipe before L, and not Load and Pipe. K: Load before L and before the second R. M: Pipe before C, not before N
-unfoldable pub repairExamples : List RepairExample
-repairExamples =
-    example (setup ++ rectangle ∷ loadTile ∷ fillColor ∷ []) (setup ++ rectangle ∷ syncPipe ∷ loadTile ∷ fillColor ∷ []) 50
-    ∷ example (setup ++ rectangle ∷ loadTile ∷ rectangle ∷ []) (setup ++ rectangle ∷ syncLoad ∷ loadTile ∷ syncLoad ∷ rectangle ∷ []) 50
-    ∷ example (setup ++ rectangle ∷ noOperation ∷ fillColor ∷ []) (setup ++ rectangle ∷ noOperation ∷ syncPipe ∷ fillColor ∷ []) 50
-    ∷ []
+abbrev pub syncFull : ℕ
+syncFull = 0x2900000000000000
 
 abbrev pub bytesIn : List ℕ → List ℕ
 bytesIn [] = []
 bytesIn (w ∷ ws) = bytesOf w ++ bytesIn ws
+
+-- ---- the cases
+
+pub data Case : Type 0 where
+  -- the check of a list of bytes gives number, place and hazards
+  checks : List ℕ → ℕ → ℕ → ℕ → Case
+  -- the repair of a list of words writes a list of words, and inserts so many cycles
+  repairs : List ℕ → List ℕ → ℕ → Case
+  -- drawing a list of words into memory, which starts at address 0, gives number and place, and leaves memory so
+  draws : List ℕ → List ℕ → ℕ → ℕ → List ℕ → Case
+
+-- the lower and the upper half of the fill colour
+abbrev pub halves : List ℕ
+halves = 0x00 ∷ 0x3F ∷ 0xF8 ∷ 0x01 ∷ []
+
+abbrev pub zeros : ℕ → List ℕ
+zeros n = replicate n 0
+
+-- H and I have the paper's two cases each. In I bytes 18-21 and 34-37 become 00 3F F8 01
+unfoldable pub examples : List Case
+examples =
+    -- A, B, C1
+    checks [] 0 0 0
+    ∷ checks (zeros 7) 2 0 0
+    ∷ checks (bytesIn (textureRectangle ∷ [])) 3 0 0
+    -- D, E: 0x0F with 21 words, and with 22
+    ∷ checks (bytesIn (longestTriangle ∷ []) ++ zeros 160) 3 0 0
+    ∷ checks (bytesIn (longestTriangle ∷ []) ++ zeros 168) 5 0 0
+    -- F
+    ∷ checks (bytesIn (syncFull ∷ noOperation ∷ [])) 4 1 0
+    -- G: after a draw the hazards are pipe and draw, 1 + 4
+    ∷ checks (bytesIn (setup ++ rectangle ∷ fillColor ∷ [])) 9 4 5
+    -- H: a Sync Tile leaves pipe
+    ∷ checks (bytesIn (setup ++ rectangle ∷ syncTile ∷ fillColor ∷ [])) 9 5 1
+    ∷ checks (bytesIn (setup ++ rectangle ∷ syncPipe ∷ fillColor ∷ [])) 0 6 0
+    -- I
+    ∷ draws (setup ++ fillColor ∷ rectangle ∷ []) (zeros 64) 0 5 (zeros 18 ++ halves ++ zeros 12 ++ halves ++ zeros 26)
+    -- J: one Pipe before L, and not Load and Pipe. K: Load before L and before the second R. M: Pipe before C, not before N
+    ∷ repairs (setup ++ rectangle ∷ loadTile ∷ fillColor ∷ []) (setup ++ rectangle ∷ syncPipe ∷ loadTile ∷ fillColor ∷ []) 50
+    ∷ repairs (setup ++ rectangle ∷ loadTile ∷ rectangle ∷ []) (setup ++ rectangle ∷ syncLoad ∷ loadTile ∷ syncLoad ∷ rectangle ∷ []) 50
+    ∷ repairs (setup ++ rectangle ∷ noOperation ∷ fillColor ∷ []) (setup ++ rectangle ∷ noOperation ∷ syncPipe ∷ fillColor ∷ []) 50
+    -- O: with width 7 pixel (0,1) is at address 14 and takes the lower half
+    ∷ draws (setupOfWidth7 ++ fillColor ∷ onePixel ∷ []) (zeros 64) 0 5 (zeros 14 ++ 0x00 ∷ 0x3F ∷ zeros 48)
+    ∷ []
+
+-- ---- what is right
 
 abbrev pub sameList : List ℕ → List ℕ → Bool
 sameList [] [] = true
@@ -62,13 +114,38 @@ sameList [] (y ∷ ys) = false
 sameList (x ∷ xs) [] = false
 sameList (x ∷ xs) (y ∷ ys) = eqb x y && sameList xs ys
 
--- no refusal of 1 to 6 holds; the repair writes that list, and answers those cycles
-abbrev pub right : RepairExample → Bool
-right e =
-    let s = bytesIn (e .given) in
-    (eqb (outcomeWithin 2048 false s .number) 0 && sameList (repairedBytes s) (bytesIn (e .repaired))) &&
-    eqb (best (numbersOf (commandsOf s)) 0) (e .cycles)
+-- bytes of a buffer that are to stay
+abbrev pub left : List ℕ
+left = replicate 8 0xFF
 
-abbrev pub allRight : List RepairExample → Bool
+abbrev pub checksRight : List ℕ → ℕ → ℕ → ℕ → Bool
+checksRight list number place hazards =
+    let r = checkOf list in
+    (eqb (r .number) number && eqb (r .place) place) && eqb (r .hazards) hazards
+
+-- the work buffer and the output have a word more than is needed, which stays
+abbrev pub repairsRight : List ℕ → List ℕ → ℕ → Bool
+repairsRight given repaired cycles =
+    let list : List ℕ = bytesIn given in
+    let written : List ℕ = bytesIn repaired in
+    let cleared : ℕ = 16 * length (commandsOf list) in
+    let work : List ℕ = replicate (cleared + 8) 0xFF in
+    let out : List ℕ = replicate (length written + 8) 0xFF in
+    let r = repairOf list (length work) (length out) in
+    ((eqb (r .number) 0 && eqb (r .place) (length repaired)) && eqb (r .cycles) cycles) &&
+    (sameList (outAfter r list out) (written ++ left) && sameList (workAfter r list work) (zeros cleared ++ left))
+
+abbrev pub drawsRight : List ℕ → List ℕ → ℕ → ℕ → List ℕ → Bool
+drawsRight words memory number place after =
+    let list : List ℕ = bytesIn words in
+    let r = drawAnswer list 0 (length memory) in
+    (eqb (r .number) number && eqb (r .place) place) && sameList (drawMemory list 0 memory) after
+
+abbrev pub right : Case → Bool
+right (checks list number place hazards) = checksRight list number place hazards
+right (repairs given repaired cycles) = repairsRight given repaired cycles
+right (draws words memory number place after) = drawsRight words memory number place after
+
+abbrev pub allRight : List Case → Bool
 allRight [] = true
 allRight (e ∷ es) = right e && allRight es
