@@ -79,6 +79,13 @@ module _ (first mid end : ℕ) {pattern before between after : List ℕ} where
             ∙ overlay-adjacent first mid end (colorByte color) 0 before l h;
       }
 
+-- a run, and the bytes that are left of it
+pub written-rest : (first mid end : ℕ) {pattern before between after : List ℕ} → Written (within first mid) pattern before between
+    → Written (within mid (mid + (end - mid))) pattern between after → first ≤ mid → mid ≤ end → Written (within first end) pattern before after
+written-rest first mid end w w′ l h =
+    let e : mid + (end - mid) ≡ end = omega arith in
+    written-joined first mid end w (rw e at w′) l h
+
 -- the first n bytes are the pattern's
 pub written-holds : (color n : ℕ) {pattern before after : List ℕ} → Written (within 0 n) pattern before after → Holds color (length pattern) pattern
     → n ≤ length before → Holds color n after

@@ -8,10 +8,10 @@ use native.Mathlib.Omega.{arith}
 use lib.ListN.{length}
 use Rattle.rdp_draw.specs.Fill.{colorByte}
 use Rattle.rdp_draw.specs.Overlay.{overlay, within}
-use Rattle.rdp_draw.specs.Pattern.{rotated, Holds, Written}
+use Rattle.rdp_draw.specs.Pattern.{rotated}
 use Rattle.rdp_draw.specs.Runs.{inRuns}
 use Rattle.rdp_draw.proofs.ColorLaws.{rotated-byte}
-use Rattle.rdp_draw.proofs.OverlayLaws.{within-false, within-joined, overlay-none, overlay-cong, overlay-values, overlay-overlay}
+use Rattle.rdp_draw.proofs.OverlayLaws.{within-false, within-joined, length-overlay, overlay-none, overlay-cong, overlay-values, overlay-overlay}
 
 module _ (from size stride : ℕ) (v : ℕ → ℕ) (m : List ℕ) where
   pub runs-none : m ≡ overlay (inRuns from size stride 0) v 0 m
@@ -38,40 +38,39 @@ runs-adjacent from size (suc n) i =
 
 -- ---- the loop over the runs
 
--- what is still to come, written to the memory so far, makes of it what was promised of the memory before
-pub record Due (test test′ : ℕ → Bool) (pattern before now : List ℕ) : Type 0 where
-  pub same : (color : ℕ) → Holds color (length pattern) pattern → overlay test (colorByte color) 0 before ≡ overlay test′ (colorByte color) 0 now
-
-module _ (at size stride left : ℕ) {test : ℕ → Bool} {pattern before now : List ℕ} where
-  pub due-next : {next : List ℕ} → Due test (inRuns at size stride left) pattern before now → 0 < left
-      → Written (within at (at + size)) pattern now next → Due test (inRuns (at + stride) size stride (left - 1)) pattern before next
-  due-next {next} d h w =
-      record {
-        same =
-            λ color holds.
-            let e : left ≡ suc (left - 1) = omega arith in
-            d .same color holds
-            ∙ ap (λ (n : ℕ). overlay (inRuns at size stride n) (colorByte color) 0 now) e
-            ∙ runs-first at size stride (colorByte color) now (left - 1)
-            ∙ ap (overlay (inRuns (at + stride) size stride (left - 1)) (colorByte color) 0) (sym (w .is color holds));
-      }
-
-  pub due-done : Due test (inRuns at size stride left) pattern before now → left ≡ 0 → Written test pattern before now
-  due-done d e =
-      record {
-        is =
-            λ color holds.
-            runs-none at size stride (colorByte color) now
-            ∙ ap (λ (n : ℕ). overlay (inRuns at size stride n) (colorByte color) 0 now) (sym e)
-            ∙ sym (d .same color holds);
-      }
+-- the runs that are left, from index `at` on, fit, and make of memory what was promised
+pub record RunsLeft (promised : List ℕ) (v : ℕ → ℕ) (size stride at left : ℕ) (memory : List ℕ) : Type 0 where
+  pub fits : 0 < left → at + (left - 1) * stride + size ≤ length memory
+  pub due : promised ≡ overlay (inRuns at size stride left) v 0 memory
 
 -- the runs after the first end where all do
-pub fits-next : (at size stride left len : ℕ) → at + (left - 1) * stride + size ≤ len → 0 < left - 1 → at + stride + (left - 1 - 1) * stride + size ≤ len
+fits-next : (at size stride left len : ℕ) → at + (left - 1) * stride + size ≤ len → 0 < left - 1
+    → at + stride + (left - 1 - 1) * stride + size ≤ len
 fits-next at size stride left len h more =
     let e : left - 1 ≡ suc (left - 1 - 1) = omega arith in
     let step : (left - 1) * stride ≡ (left - 1 - 1) * stride + stride = ap (λ (n : ℕ). n * stride) e ∙ suc-mul (left - 1 - 1) stride in
     omega arith
+
+module _ {promised : List ℕ} {v : ℕ → ℕ} {size stride at left : ℕ} {memory : List ℕ} (r : RunsLeft promised v size stride at left memory) where
+  pub runs-next : {next : List ℕ} → 0 < left → next ≡ overlay (within at (at + size)) v 0 memory
+      → RunsLeft promised v size stride (at + stride) (left - 1) next
+  runs-next {next} h w =
+      let more : left ≡ suc (left - 1) = omega arith in
+      let same : length memory ≡ length next = sym (ap length w ∙ length-overlay (within at (at + size)) v 0 memory) in
+      record {
+        fits = λ k. rw (← same) (fits-next at size stride left (length memory) (r .fits h) k);
+        due =
+            r .due
+            ∙ ap (λ (n : ℕ). overlay (inRuns at size stride n) v 0 memory) more
+            ∙ runs-first at size stride v memory (left - 1)
+            ∙ ap (overlay (inRuns (at + stride) size stride (left - 1)) v 0) (sym w);
+      }
+
+  pub runs-done : left ≡ 0 → memory ≡ promised
+  runs-done e =
+      runs-none at size stride v memory
+      ∙ ap (λ (n : ℕ). overlay (inRuns at size stride n) v 0 memory) (sym e)
+      ∙ sym (r .due)
 
 -- ---- runs that are adjacent
 
@@ -83,18 +82,21 @@ adjacent-fits from size stride (suc n) len e h =
     let fits = rw (last, ← e) at h in
     rw suc-mul (omega arith)
 
-pub adjacent-one : (from size stride rows : ℕ) (v : ℕ → ℕ) (m : List ℕ) → size ≡ stride
-    → overlay (inRuns from (rows * size) stride 1) v 0 m ≡ overlay (inRuns from size stride rows) v 0 m
+-- what is written as one run is written as all of them
+pub adjacent-one : (from size stride rows : ℕ) (v : ℕ → ℕ) (before : List ℕ) {after : List ℕ} → size ≡ stride
+    → after ≡ overlay (inRuns from (rows * size) stride 1) v 0 before → after ≡ overlay (inRuns from size stride rows) v 0 before
 unfolding inRuns
-adjacent-one from size stride rows v m e =
+adjacent-one from size stride rows v before e w =
     rw (← e)
-    (overlay-cong (inRuns from (rows * size) size 1) (inRuns from size size rows) v 0 m
+    (rw (← e) at w
+    ∙ overlay-cong (inRuns from (rows * size) size 1) (inRuns from size size rows) v 0 before
     (λ i h. or-false (within from (from + rows * size) (0 + i)) ∙ sym (runs-adjacent from size rows (0 + i))))
 
 -- ---- memory that starts at an address
 
--- written with the colour rotated to the start of memory
-pub rotated-values : (test : ℕ → Bool) (turned color start : ℕ) (m : List ℕ) → turned ≡ rotated color (start % 4) → color < 2 ^ 32
-    → overlay test (colorByte turned) 0 m ≡ overlay test (λ i. colorByte color (start + i)) 0 m
-rotated-values test turned color start m e h =
-    overlay-values test (colorByte turned) (λ i. colorByte color (start + i)) 0 m (λ i _. rw e (rotated-byte color start h (0 + i)))
+-- what is written with the colour rotated to the start of memory
+pub rotated-written : (test : ℕ → Bool) (turned color start : ℕ) (before : List ℕ) {after : List ℕ} → turned ≡ rotated color (start % 4)
+    → color < 2 ^ 32 → after ≡ overlay test (colorByte turned) 0 before → after ≡ overlay test (λ i. colorByte color (start + i)) 0 before
+rotated-written test turned color start before e h w =
+    w
+    ∙ overlay-values test (colorByte turned) (λ i. colorByte color (start + i)) 0 before (λ i _. rw e (rotated-byte color start h (0 + i)))

@@ -25,18 +25,18 @@ fn bytes_of(pixels: u64, size: u8) -> u64
 fn first_kept(near: u16, clip: u16) -> u64
     ensures { λ r. ⌜ (r ≡ firstKept near clip) × (r ≤ 16384) ⌝ }
 {
-    let a = near as u64 / 4;
-    let b = (clip as u64 + 3) / 4;
-    if a < b { b } else { a }
+    let first = near as u64 / 4;
+    let edge = (clip as u64 + 3) / 4;
+    if first < edge { edge } else { first }
 }
 
 // The column, or row, past the last kept one: the rectangle's last is included, and 4p is below the scissor's edge.
 fn end_kept(far: u16, clip: u16) -> u64
     ensures { λ r. ⌜ (r ≡ endKept far clip) × (r ≤ 16384) ⌝ }
 {
-    let a = far as u64 / 4 + 1;
-    let b = (clip as u64 + 3) / 4;
-    if a < b { a } else { b }
+    let past = far as u64 / 4 + 1;
+    let end = (clip as u64 + 3) / 4;
+    if past < end { past } else { end }
 }
 
 // How many there are from the first up to the end.

@@ -7,7 +7,7 @@ ghost use Rattle.rdp_draw.specs.Overlay.{overlay, within};
 ghost use Rattle.rdp_draw.specs.Pattern.{rotated, Holds, Written, ChunksAre};
 ghost use Rattle.rdp_draw.specs.Runs.{inRuns};
 
-// Copies n bytes of the pattern to an index, from the byte that belongs there on.
+// Copies n bytes of the pattern to index `at` and those after it, from the byte that belongs at `at` on.
 fn copy(memory: &mut [u8], at: usize, n: usize, pattern: &[u8])
     requires { ⌜ (at + n ≤ length (now memory)) × (at % 4 + n ≤ length (now pattern)) ⌝ }
     ensures { λ _. ⌜ Written (within at (at + n)) (now (pattern .entry)) (now (memory .entry)) (now (memory .exit)) ⌝ }
@@ -33,38 +33,36 @@ fn chunks(memory: &mut [u8], from: usize, to: usize, pattern: &[u8], chunk: usiz
     at
 }
 
-// Writes a run: large chunks, small chunks, and the bytes that are left.
-fn paint_run(memory: &mut [u8], from: usize, to: usize, pattern: &[u8], large: usize, small: usize)
-    requires { ⌜ (from ≤ to) × (to ≤ length (now memory)) × (0 < small) × (small ≤ large) × (large + 4 ≤ length (now pattern)) ⌝ }
-    ensures { λ _. ⌜ Written (within from to) (now (pattern .entry)) (now (memory .entry)) (now (memory .exit)) ⌝ }
+// As `chunks`, where at most one chunk fits.
+fn one_chunk(memory: &mut [u8], from: usize, to: usize, pattern: &[u8], chunk: usize) -> usize
+    requires { ⌜ (from ≤ to) × (to ≤ length (now memory)) × (to - from < 2 * chunk) × (chunk + 4 ≤ length (now pattern)) ⌝ }
+    ensures { λ r. ⌜ ChunksAre from to chunk (now (pattern .entry)) (now (memory .entry)) (now (memory .exit)) r ⌝ }
 {
-    let middle = chunks(memory, from, to, pattern, large);
-    let last = chunks(memory, middle, to, pattern, small);
-    copy(memory, last, to - last, pattern);
+    if to - from < chunk {
+        return from;
+    }
+    copy(memory, from, chunk, pattern);
+    from + chunk
 }
 
-// Writes `rows` runs, one after the other.
-fn each_run(
-    memory: &mut [u8],
-    from: usize,
-    size: usize,
-    stride: usize,
-    rows: usize,
-    pattern: &[u8],
-    large: usize,
-    small: usize,
-)
-    requires { ⌜ (stride ≤ 1048576) × (from + (rows - 1) * stride + size ≤ length (now memory)) ⌝ }
-    requires { ⌜ (0 < small) × (small ≤ large) × (large + 4 ≤ length (now pattern)) ⌝ }
-    ensures { λ _. ⌜ Written (inRuns from size stride rows) (now (pattern .entry)) (now (memory .entry)) (now (memory .exit)) ⌝ }
+// Writes a run of few bytes, most of them 16 at a time.
+fn short_run(memory: &mut [u8], from: usize, to: usize, pattern: &[u8])
+    requires { ⌜ (from ≤ to) × (to ≤ length (now memory)) × (20 ≤ length (now pattern)) ⌝ }
+    ensures { λ _. ⌜ Written (within from to) (now (pattern .entry)) (now (memory .entry)) (now (memory .exit)) ⌝ }
 {
-    let mut at = from;
-    let mut left = rows;
-    while 0 < left {
-        paint_run(memory, at, at + size, pattern, large, small);
-        at += stride;
-        left -= 1;
-    }
+    let first = chunks(memory, from, to, pattern, 16);
+    let second = one_chunk(memory, first, to, pattern, 8);
+    let third = one_chunk(memory, second, to, pattern, 4);
+    copy(memory, third, to - third, pattern);
+}
+
+// Writes a run of many bytes, most of them 2,048 at a time.
+fn long_run(memory: &mut [u8], from: usize, to: usize, pattern: &[u8])
+    requires { ⌜ (from ≤ to) × (to ≤ length (now memory)) × (2052 ≤ length (now pattern)) ⌝ }
+    ensures { λ _. ⌜ Written (within from to) (now (pattern .entry)) (now (memory .entry)) (now (memory .exit)) ⌝ }
+{
+    let last = chunks(memory, from, to, pattern, 2048);
+    copy(memory, last, to - last, pattern);
 }
 
 // The colour's four bytes, five times.
@@ -112,7 +110,13 @@ fn paint_short(memory: &mut [u8], from: usize, size: usize, stride: usize, rows:
     ensures { λ _. ⌜ now (memory .exit) ≡ overlay (inRuns from size stride rows) (colorByte color) 0 (now (memory .entry)) ⌝ }
 {
     let pattern = short_pattern(color);
-    each_run(memory, from, size, stride, rows, &pattern, 16, 4);
+    let mut at = from;
+    let mut left = rows;
+    while 0 < left {
+        short_run(memory, at, at + size, &pattern);
+        at += stride;
+        left -= 1;
+    }
 }
 
 // Writes runs of many bytes.
@@ -121,15 +125,21 @@ fn paint_long(memory: &mut [u8], from: usize, size: usize, stride: usize, rows: 
     ensures { λ _. ⌜ now (memory .exit) ≡ overlay (inRuns from size stride rows) (colorByte color) 0 (now (memory .entry)) ⌝ }
 {
     let pattern = long_pattern(color);
-    each_run(memory, from, size, stride, rows, &pattern, 2048, 2048);
+    let mut at = from;
+    let mut left = rows;
+    while 0 < left {
+        long_run(memory, at, at + size, &pattern);
+        at += stride;
+        left -= 1;
+    }
 }
 
-// Writes runs, with the pattern that suits their size.
+// Writes runs, with the pattern that suits them: to lay out the long one takes as long as to write a few thousand bytes with the short one.
 fn paint_sized(memory: &mut [u8], from: usize, size: usize, stride: usize, rows: usize, color: u32)
     requires { ⌜ (stride ≤ 1048576) × (from + (rows - 1) * stride + size ≤ length (now memory)) ⌝ }
     ensures { λ _. ⌜ now (memory .exit) ≡ overlay (inRuns from size stride rows) (colorByte color) 0 (now (memory .entry)) ⌝ }
 {
-    if size < 256 {
+    if (size < 1024) | ((size < 8192) & (rows < 8)) {
         paint_short(memory, from, size, stride, rows, color);
         return;
     }

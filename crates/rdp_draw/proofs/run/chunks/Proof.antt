@@ -2,11 +2,11 @@
 use mathlib.Core.Path.{_≡_, refl}
 use Prim.Native.Nat.{_+_, _-_, _≤_}
 use native.Mathlib.Omega.{arith}
+use borrow.Author.Needs.{needs}
 use lib.ListN.{length}
 use Rattle.rdp_draw.specs.Overlay.{within}
 use Rattle.rdp_draw.specs.Pattern.{Written}
 use Rattle.rdp_draw.proofs.PatternLaws.{written-none, written-joined}
-use borrow.Author.Needs.{needs}
 use Rattle.rdp_draw.proofs.run.chunks.Statement.{statement}
 use Rattle.rdp_draw.proofs.run.chunks.Tie as tie
 

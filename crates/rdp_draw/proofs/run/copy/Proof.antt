@@ -2,11 +2,11 @@
 use mathlib.Core.Path.{_≡_, refl}
 use Prim.Native.Nat.{_+_, _-_, _≤_}
 use native.Mathlib.Omega.{arith}
+use borrow.Author.Needs.{needs}
 use lib.ListN.{length, length-set}
 use Rattle.rdp_draw.specs.Overlay.{within}
 use Rattle.rdp_draw.specs.Pattern.{Written}
 use Rattle.rdp_draw.proofs.PatternLaws.{written-none, written-more}
-use borrow.Author.Needs.{needs}
 use Rattle.rdp_draw.proofs.run.copy.Statement.{statement}
 use Rattle.rdp_draw.proofs.run.copy.Tie as tie
 

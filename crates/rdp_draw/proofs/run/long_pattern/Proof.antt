@@ -2,10 +2,10 @@
 use mathlib.Core.Path.{_≡_}
 use Prim.Native.Nat.{_-_, _≤_}
 use native.Mathlib.Omega.{arith}
+use borrow.Author.Needs.{needs}
 use lib.ListN.{length, length-set}
 use Rattle.rdp_draw.specs.Pattern.{Holds}
 use Rattle.rdp_draw.proofs.PatternLaws.{holds-more, written-holds}
-use borrow.Author.Needs.{needs}
 use Rattle.rdp_draw.proofs.run.long_pattern.Statement.{statement}
 use Rattle.rdp_draw.proofs.run.long_pattern.Tie as tie
 

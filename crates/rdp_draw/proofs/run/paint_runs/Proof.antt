@@ -1,12 +1,11 @@
 -- `rdp_draw::run::paint_runs` meets its contract: with the rotated colour, byte i of memory takes byte i mod 4. Assumes nothing.
-use mathlib.Core.Path.{_∙_}
 use native.Mathlib.Nat.{zero-mul}
 use native.Mathlib.Omega.{arith}
+use borrow.Author.Needs.{needs}
 use lib.ListN.{length}
 use Rattle.rdp_draw.specs.Fill.{colorByte}
 use Rattle.rdp_draw.specs.Runs.{inRuns}
-use Rattle.rdp_draw.proofs.RunLaws.{adjacent-fits, adjacent-one, rotated-values}
-use borrow.Author.Needs.{needs}
+use Rattle.rdp_draw.proofs.RunLaws.{adjacent-fits, adjacent-one, rotated-written}
 use Rattle.rdp_draw.proofs.run.paint_runs.Statement.{statement}
 use Rattle.rdp_draw.proofs.run.paint_runs.Tie as tie
 
@@ -36,10 +35,11 @@ returns c =
     let turned = branch .before .rotated-color in
     let at-start = branch .before .before .before in
     let s = at-start .args in
-    let m = s .memory .now in
-    c .before .before .paint-sized .ensures
-    ∙ adjacent-one (s .from) (s .size) (s .stride) (s .rows) (colorByte (turned .result)) m (branch .if1 .taken)
-    ∙ rotated-values (inRuns (s .from) (s .size) (s .stride) (s .rows)) (turned .result) (s .color) (s .start) m (turned .ensures) (at-start .fits .color .fits)
+    rotated-written (inRuns (s .from) (s .size) (s .stride) (s .rows)) (turned .result) (s .color) (s .start) (s .memory .now)
+    (turned .ensures)
+    (at-start .fits .color .fits)
+    (adjacent-one (s .from) (s .size) (s .stride) (s .rows) (colorByte (turned .result)) (s .memory .now) (branch .if1 .taken)
+    (c .before .before .paint-sized .ensures))
 
 paint-sized-requires-2 : tie.Need-paint-sized-requires-2
 paint-sized-requires-2 c κs = search needs
@@ -52,9 +52,10 @@ returns-2 c =
     let turned = c .before .before .before .before .before .rotated-color in
     let at-start = c .before .before .before .before .before .before .before in
     let s = at-start .args in
-    c .before .before .paint-sized2 .ensures
-    ∙ rotated-values (inRuns (s .from) (s .size) (s .stride) (s .rows)) (turned .result) (s .color) (s .start) (s .memory .now) (turned .ensures)
+    rotated-written (inRuns (s .from) (s .size) (s .stride) (s .rows)) (turned .result) (s .color) (s .start) (s .memory .now)
+    (turned .ensures)
     (at-start .fits .color .fits)
+    (c .before .before .paint-sized2 .ensures)
 
 pub paint-runs-spec : {M : Type 1} → statement M
 paint-runs-spec =

@@ -2,8 +2,8 @@
 use mathlib.Core.Path.{_≡_}
 use Prim.Native.Nat.{_%_}
 use native.Mathlib.Omega.{arith}
-use Rattle.rdp_draw.specs.Pattern.{rotated}
 use borrow.Author.Needs.{needs}
+use Rattle.rdp_draw.specs.Pattern.{rotated}
 use Rattle.rdp_draw.proofs.run.rotated_color.Statement.{statement}
 use Rattle.rdp_draw.proofs.run.rotated_color.Tie as tie
 

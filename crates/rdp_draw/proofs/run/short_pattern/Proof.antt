@@ -2,10 +2,10 @@
 use mathlib.Core.Path.{refl, sym, ap}
 use Prim.Native.Nat.{ℕ, _%_}
 use native.Mathlib.Nat.{div-one}
+use borrow.Author.Needs.{needs}
 use lib.Pow.{shr-mod}
 use Rattle.rdp_draw.specs.Fill.{colorByte}
 use Rattle.rdp_draw.proofs.PatternLaws.{holds-twenty}
-use borrow.Author.Needs.{needs}
 use Rattle.rdp_draw.proofs.run.short_pattern.Statement.{statement}
 use Rattle.rdp_draw.proofs.run.short_pattern.Tie as tie
 
