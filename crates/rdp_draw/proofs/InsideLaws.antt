@@ -62,9 +62,6 @@ module _ (r : Area) where
   pub empty-not : 0 < r .size → 0 < r .rows → areaEmpty r ≡ false
   empty-not h k = simp (ne-eqb (r .size) 0 (λ e. omega arith), ne-eqb (r .rows) 0 (λ e. omega arith))
 
-  pub last-start : Small r → (r .rows - 1) * r .stride ≤ 17179869184
-  last-start s = let rows : r .rows - 1 ≤ 16384 = omega arith in mul-le-mul rows (s .stride)
-
   -- the address past the last run
   abbrev pub areaEnd : ℕ
   areaEnd = r .first + (r .rows - 1) * r .stride + r .size
@@ -124,10 +121,10 @@ module _ (r : Area) where
     inside-early some h =
         by-test (areaInside r start len) (λ e. let inside = inside-is some e in absurd (omega arith)) (λ e. e)
 
-    pub inside-late : areaEmpty r ≡ false → start ≤ r .first
-        → leb (r .first - start + (r .rows - 1) * r .stride + r .size) len ≡ areaInside r start len
-    inside-late some h =
-        let end : ℕ = r .first - start + (r .rows - 1) * r .stride + r .size in
+    pub inside-late : areaEmpty r ≡ false → start ≤ r .first → (extent : ℕ) → extent ≡ (r .rows - 1) * r .stride + r .size
+        → leb (r .first - start + extent) len ≡ areaInside r start len
+    inside-late some h extent is =
+        let end : ℕ = r .first - start + extent in
         same-truth (leb end len) (areaInside r start len)
         (λ e. let fits = leb-true end len e in inside-true h (omega arith))
         (λ e. let inside = inside-is some e in le-leb end len (omega arith))

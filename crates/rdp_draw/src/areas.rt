@@ -4,7 +4,7 @@ use crate::Fill;
 use rdp_command::Image;
 use rdp_command::Scissor;
 ghost use mathlib.Core.Path.{_≡_};
-ghost use Prim.Native.Nat.{_*_, _-_, _≤_};
+ghost use Prim.Native.Nat.{_+_, _*_, _-_, _≤_};
 ghost use Rattle.rdp_draw.specs.Fill.{bytesPerPixel, pixelAddress, rowKept};
 ghost use Rattle.rdp_draw.specs.Runs.{Small, areaEmpty, areaInside, areaOf, endKept, firstKept, firstKeptRow, keptRows, runBytes, strideOf};
 
@@ -127,6 +127,14 @@ pub fn is_empty(area: Area) -> bool
     (area.size == 0) | (area.rows == 0)
 }
 
+// The bytes from the first run's start to the last run's end, where so many runs follow the first.
+fn extent(later: u64, stride: u64, size: u64) -> u64
+    requires { ⌜ (later ≤ 16384) × ((stride ≤ 1048576) × (size ≤ 65536)) ⌝ }
+    ensures { λ r. ⌜ (r ≡ later * stride + size) × (r ≤ 17179934720) ⌝ }
+{
+    later * stride + size
+}
+
 // Whether every run lies in `len` bytes of memory that starts at address `start`. Nothing is added to `start`, which could wrap.
 pub fn is_inside(area: Area, start: u64, len: usize) -> bool
     requires { ⌜ Small area ⌝ }
@@ -138,5 +146,6 @@ pub fn is_inside(area: Area, start: u64, len: usize) -> bool
     if area.first < start {
         return false;
     }
-    area.first - start + (area.rows - 1) * area.stride + area.size <= len as u64
+    let rows = area.rows;
+    area.first - start + extent(rows - 1, area.stride, area.size) <= len as u64
 }

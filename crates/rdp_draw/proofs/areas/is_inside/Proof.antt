@@ -4,7 +4,7 @@ use mathlib.Core.Bool.{false}
 use native.Mathlib.Omega.{arith}
 use borrow.Author.Needs.{needs}
 use Rattle.rdp_draw.specs.Runs.{areaEmpty}
-use Rattle.rdp_draw.proofs.InsideLaws.{not-empty, last-start, inside-empty, inside-early, inside-late}
+use Rattle.rdp_draw.proofs.InsideLaws.{not-empty, inside-empty, inside-early, inside-late}
 use Rattle.rdp_draw.proofs.areas.is_inside.Statement.{statement}
 use Rattle.rdp_draw.proofs.areas.is_inside.Tie as tie
 
@@ -21,42 +21,25 @@ returns-2 c =
     let s = c .before .before .before .before .args in
     sym (inside-early (s .area) (s .start) (s .len) (sym (c .before .before .before .is-empty .ensures) ∙ c .before .before .if1 .left) (c .if2 .taken))
 
-sub-result : tie.Need-sub-result
-sub-result c =
-    let s = c .before .before .before .before .before .before .args in
-    let some : areaEmpty (s .area) ≡ false = sym (c .before .before .before .before .before .is-empty .ensures) ∙ c .before .before .before .before .if1 .left in
+sub-extent : tie.Need-sub-extent
+sub-extent c =
+    let at = c .before .before .before .before in
+    let s = at .before .args in
+    let some : areaEmpty (s .area) ≡ false = sym (at .is-empty .ensures) ∙ c .before .before .before .if1 .left in
     omega (arith, not-empty (s .area) some)
 
-mul-result : tie.Need-mul-result
-mul-result c =
-    let at = c .before .before .before .before .before .before .before in
-    omega (arith, last-start (at .args .area) (at .pre))
+extent-requires : tie.Need-extent-requires
+extent-requires c κs = search needs
 
 add-result : tie.Need-add-result
-add-result c =
-    let at = c .before .before .before .before .before .before .before in
-    omega (arith, last-start (at .args .area) (at .pre))
-
-add-result-2 : tie.Need-add-result-2
-add-result-2 c =
-    let at = c .before .before .before .before .before .before .before .before in
-    omega (arith, last-start (at .args .area) (at .pre))
+add-result c = search needs
 
 returns-3 : tie.Need-returns-3
 returns-3 c =
-    let at = c .before .before .before .before .before .before .before in
+    let at = c .before .before .before .before .before in
     let s = at .before .args in
-    inside-late (s .area) (s .start) (s .len) (sym (at .is-empty .ensures) ∙ c .before .before .before .before .before .before .if1 .left) (c .before .before .before .before .if2 .left)
+    inside-late (s .area) (s .start) (s .len) (sym (at .is-empty .ensures) ∙ c .before .before .before .before .if1 .left) (c .before .before .if2 .left) _
+    (c .extent .ensures .0)
 
 pub is-inside-spec : {M : Type 1} → statement M
-is-inside-spec =
-    tie.close
-    (tie.spec
-    is-empty-requires
-    returns
-    returns-2
-    sub-result
-    mul-result
-    add-result
-    add-result-2
-    returns-3)
+is-inside-spec = tie.close (tie.spec is-empty-requires returns returns-2 sub-extent extent-requires add-result returns-3)
