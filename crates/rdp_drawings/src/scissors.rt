@@ -1,0 +1,93 @@
+// Which pixels of an image of 8 by 4 the scissor keeps.
+use crate::show::picture;
+use crate::words::*;
+
+pub fn show_scissors() {
+    right_and_lower_edges();
+    left_and_upper_edges();
+    no_pixels();
+    changed_scissor();
+}
+
+fn right_and_lower_edges() {
+    picture(
+        b"scissor, right edge 8",
+        &[FILL, IMAGE, 0x2D_000_000_00_008_010, COLOR, WHOLE],
+    );
+    picture(
+        b"scissor, right edge 9",
+        &[FILL, IMAGE, 0x2D_000_000_00_009_010, COLOR, WHOLE],
+    );
+    picture(
+        b"scissor, lower edge 8",
+        &[FILL, IMAGE, 0x2D_000_000_00_020_008, COLOR, WHOLE],
+    );
+    picture(
+        b"scissor, lower edge 9",
+        &[FILL, IMAGE, 0x2D_000_000_00_020_009, COLOR, WHOLE],
+    );
+}
+
+fn left_and_upper_edges() {
+    picture(
+        b"scissor, left and upper edge 4",
+        &[FILL, IMAGE, 0x2D_004_004_00_020_010, COLOR, WHOLE],
+    );
+    picture(
+        b"scissor, left and upper edge 5",
+        &[FILL, IMAGE, 0x2D_005_005_00_020_010, COLOR, WHOLE],
+    );
+    picture(
+        b"scissor, left edge 7, upper edge 3",
+        &[FILL, IMAGE, 0x2D_007_003_00_020_010, COLOR, WHOLE],
+    );
+    // The first quarter of pixel (2, 1).
+    picture(
+        b"scissor of a quarter",
+        &[FILL, IMAGE, 0x2D_008_004_00_009_005, COLOR, WHOLE],
+    );
+}
+
+fn no_pixels() {
+    // The last three quarters of column 1.
+    picture(
+        b"scissor without the first quarter",
+        &[FILL, IMAGE, 0x2D_005_000_00_008_010, COLOR, WHOLE],
+    );
+    picture(
+        b"scissor, right edge 0",
+        &[FILL, IMAGE, 0x2D_000_000_00_000_010, COLOR, WHOLE],
+    );
+    picture(
+        b"scissor, lower edge 0",
+        &[FILL, IMAGE, 0x2D_000_000_00_020_000, COLOR, WHOLE],
+    );
+    picture(
+        b"scissor, right edge left of the left one",
+        &[FILL, IMAGE, 0x2D_010_000_00_008_010, COLOR, WHOLE],
+    );
+    picture(
+        b"scissor, lower edge above the upper one",
+        &[FILL, IMAGE, 0x2D_000_00C_00_020_004, COLOR, WHOLE],
+    );
+    picture(
+        b"scissor right of the rectangle",
+        &[FILL, IMAGE, 0x2D_00C_000_00_020_010, COLOR, RECTANGLE],
+    );
+}
+
+// It requires no sync.
+fn changed_scissor() {
+    picture(
+        b"two scissors",
+        &[
+            FILL,
+            IMAGE,
+            0x2D_000_000_00_008_004,
+            COLOR,
+            WHOLE,
+            0x2D_010_008_00_020_010,
+            WHOLE,
+        ],
+    );
+}
