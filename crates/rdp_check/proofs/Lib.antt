@@ -2,6 +2,7 @@ pub mod TableTests
 pub mod HazardLaws
 pub mod ListLaws
 pub mod JoinLaws
+pub mod KeptLaws
 pub mod ViewLaws
 pub mod WalkLaws
 pub mod RegisterLaws

@@ -11,7 +11,6 @@ use Rattle.rdp_command.specs.Kinds.{kindOf, wordsOf}
 use Rattle.rdp_command.specs.Commands.{numberOf}
 use Rattle.rdp_command.specs.Decode.{firstNumber, wholeWords, decodeOf, headOf}
 use Rattle.rdp_command.specs.declared.Command.{Command}
-use Rattle.rdp_command.specs.declared.Command.the-variants.{NoOperation, FillTriangle, TextureRectangle, TextureRectangleFlip, SyncLoad, SyncPipe, SyncTile, SyncFull, SetKeyGb, SetKeyR, SetConvert, SetScissor, SetPrimitiveDepth, SetOtherModes, LoadTlut, SetTileSize, LoadBlock, LoadTile, SetTile, FillRectangle, SetFillColor, SetFogColor, SetBlendColor, SetPrimitiveColor, SetEnvironmentColor, SetCombineMode, SetTextureImage, SetDepthImage, SetColorImage}
 use Rattle.rdp_command.proofs.Tests.{below, both, by-test, same, same-bool, true-of}
 use Rattle.rdp_check.specs.Hazards.{nextOf, requiredOf, entryOf}
 use Rattle.rdp_check.specs.Registers.{registersAfter, afterDecoded}
@@ -21,6 +20,7 @@ use Rattle.rdp_check.specs.declared.Registers.{Registers}
 use Rattle.rdp_command.specs.declared.Head.{Head}
 use Rattle.rdp_check.specs.declared.walk.View.{View}
 use Rattle.rdp_check.specs.declared.walk.Advanced.{Advanced}
+use Rattle.rdp_check.proofs.KeptLaws.{keeps}
 use Rattle.rdp_check.proofs.HazardLaws.{EntryParts, entry-parts, required-most}
 use Rattle.rdp_command.proofs.ReadLaws.{decoded, decodes, decoded-number, reads-other-modes, reads-scissor, reads-color-image}
 
@@ -205,36 +205,7 @@ seen r =
 
 -- a command that sets none of them
 others : (r : Registers) (c : Command) → (numberOf c ≡ 0x2F → ⊥) → (numberOf c ≡ 0x3F → ⊥) → (numberOf c ≡ 0x2D → ⊥) → seen (registersAfter r c) ≡ seen r
-unfolding registersAfter
-others r (NoOperation n) m i s = refl
-others r (FillTriangle g) m i s = refl
-others r (TextureRectangle g) m i s = refl
-others r (TextureRectangleFlip g) m i s = refl
-others r SyncLoad m i s = refl
-others r SyncPipe m i s = refl
-others r SyncTile m i s = refl
-others r SyncFull m i s = refl
-others r (SetKeyGb g) m i s = refl
-others r (SetKeyR g) m i s = refl
-others r (SetConvert g) m i s = refl
-others r (SetScissor g) m i s = absurd (s refl)
-others r (SetPrimitiveDepth g) m i s = refl
-others r (SetOtherModes g) m i s = absurd (m refl)
-others r (LoadTlut g) m i s = refl
-others r (SetTileSize g) m i s = refl
-others r (LoadBlock g) m i s = refl
-others r (LoadTile g) m i s = refl
-others r (SetTile g) m i s = refl
-others r (FillRectangle g) m i s = refl
-others r (SetFillColor g) m i s = refl
-others r (SetFogColor g) m i s = refl
-others r (SetBlendColor g) m i s = refl
-others r (SetPrimitiveColor g) m i s = refl
-others r (SetEnvironmentColor g) m i s = refl
-others r (SetCombineMode g) m i s = refl
-others r (SetTextureImage g) m i s = refl
-others r (SetDepthImage g) m i s = refl
-others r (SetColorImage g) m i s = absurd (i refl)
+others r c m i s = let k = keeps r c in rw (k .modes m, k .image i, k .scissor s)
 
 module _ (s : State) (c : List ℕ) (there : wholeWords c ≡ 0 → ⊥) where
   abbrev n : ℕ

@@ -4,7 +4,7 @@ use mathlib.Core.Bool.{Bool, true, false, cond, _&&_, _||_, not}
 use mathlib.Core.List.{List, [], _∷_}
 use lib.Dec.{ltb, eqb}
 use lib.ListN.{length}
-use Rattle.rdp_command.specs.Kinds.{Kind, noOperation, triangle, textureRectangle, fillRectangle, syncLoad, syncTile, syncPipe, syncFull, load, setTile, attribute, free, kindOf, wordsOf}
+use Rattle.rdp_command.specs.Kinds.{isDraw, kindOf, wordsOf}
 use Rattle.rdp_command.specs.Decode.{firstNumber, decodeOf}
 use Rattle.rdp_check.specs.Hazards.{nextOf, requiredOf}
 use Rattle.rdp_check.specs.Commands.{commandsOf, restOf}
@@ -31,20 +31,6 @@ afterCommand s c =
       ended = eqb (firstNumber c) 0x29 || s .ended;
       registers = afterDecoded (s .registers) (decodeOf c);
     }
-
-abbrev pub isDraw : Kind → Bool
-isDraw noOperation = false
-isDraw triangle = true
-isDraw textureRectangle = true
-isDraw fillRectangle = true
-isDraw syncLoad = false
-isDraw syncTile = false
-isDraw syncPipe = false
-isDraw syncFull = false
-isDraw load = false
-isDraw setTile = false
-isDraw attribute = false
-isDraw free = false
 
 -- a number is a draw's
 unfoldable pub draws : ℕ → Bool

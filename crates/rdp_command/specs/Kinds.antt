@@ -55,6 +55,21 @@ isNone setTile = false
 isNone attribute = false
 isNone free = false
 
+-- the rows that 01 calls draws
+abbrev pub isDraw : Kind → Bool
+isDraw noOperation = false
+isDraw triangle = true
+isDraw textureRectangle = true
+isDraw fillRectangle = true
+isDraw syncLoad = false
+isDraw syncTile = false
+isDraw syncPipe = false
+isDraw syncFull = false
+isDraw load = false
+isDraw setTile = false
+isDraw attribute = false
+isDraw free = false
+
 -- a number of the row of no operations
 unfoldable pub isNoOperation : ℕ → Bool
 isNoOperation n = ltb n 64 && isNone (kindOf n)

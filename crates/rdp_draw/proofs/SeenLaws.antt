@@ -13,7 +13,6 @@ use Rattle.rdp_command.specs.Kinds.{kindOf, wordsOf}
 use Rattle.rdp_command.specs.Commands.{numberOf}
 use Rattle.rdp_command.specs.Decode.{firstNumber, wholeWords, decodeOf, wordFields}
 use Rattle.rdp_command.specs.declared.Command.{Command}
-use Rattle.rdp_command.specs.declared.Command.the-variants.{NoOperation, FillTriangle, TextureRectangle, TextureRectangleFlip, SyncLoad, SyncPipe, SyncTile, SyncFull, SetKeyGb, SetKeyR, SetConvert, SetScissor, SetPrimitiveDepth, SetOtherModes, LoadTlut, SetTileSize, LoadBlock, LoadTile, SetTile, FillRectangle, SetFillColor, SetFogColor, SetBlendColor, SetPrimitiveColor, SetEnvironmentColor, SetCombineMode, SetTextureImage, SetDepthImage, SetColorImage}
 use Rattle.rdp_command.proofs.Tests.{below, by-test, same, same-bool}
 use Rattle.rdp_command.proofs.PlaceLaws.{number-small, some-words}
 use Rattle.rdp_command.proofs.ReadLaws.{decoded, decodes, decoded-number, reads-other-modes, reads-scissor, reads-fill-color, reads-color-image}
@@ -21,6 +20,7 @@ use Rattle.rdp_check.specs.Commands.{commandsOf, restOf}
 use Rattle.rdp_check.specs.Registers.{noRegisters, registersAfter, afterDecoded}
 use Rattle.rdp_check.specs.Check.{draws}
 use Rattle.rdp_check.specs.declared.Registers.{Registers}
+use Rattle.rdp_check.proofs.KeptLaws.{keeps}
 use Rattle.rdp_check.proofs.ListLaws.{commandAt, commands-at, rest-at, commands-past, rest-past, command-word, command-number, command-there}
 use Rattle.rdp_draw.specs.declared.walk.FillRegisters.{FillRegisters}
 use Rattle.rdp_draw.specs.Draw.{Draw, drawAt, drawsFrom, drawsOf}
@@ -83,36 +83,8 @@ seen-kept q w e =
 others :
     (r : Registers) (c : Command) → (numberOf c ≡ 0x2D → ⊥) → (numberOf c ≡ 0x2F → ⊥) → (numberOf c ≡ 0x37 → ⊥) → (numberOf c ≡ 0x3F → ⊥) →
     seen (registersAfter r c) ≡ seen r
-unfolding seen registersAfter
-others r (NoOperation n) s m f i = refl
-others r (FillTriangle g) s m f i = refl
-others r (TextureRectangle g) s m f i = refl
-others r (TextureRectangleFlip g) s m f i = refl
-others r SyncLoad s m f i = refl
-others r SyncPipe s m f i = refl
-others r SyncTile s m f i = refl
-others r SyncFull s m f i = refl
-others r (SetKeyGb g) s m f i = refl
-others r (SetKeyR g) s m f i = refl
-others r (SetConvert g) s m f i = refl
-others r (SetScissor g) s m f i = absurd (s refl)
-others r (SetPrimitiveDepth g) s m f i = refl
-others r (SetOtherModes g) s m f i = absurd (m refl)
-others r (LoadTlut g) s m f i = refl
-others r (SetTileSize g) s m f i = refl
-others r (LoadBlock g) s m f i = refl
-others r (LoadTile g) s m f i = refl
-others r (SetTile g) s m f i = refl
-others r (FillRectangle g) s m f i = refl
-others r (SetFillColor g) s m f i = absurd (f refl)
-others r (SetFogColor g) s m f i = refl
-others r (SetBlendColor g) s m f i = refl
-others r (SetPrimitiveColor g) s m f i = refl
-others r (SetEnvironmentColor g) s m f i = refl
-others r (SetCombineMode g) s m f i = refl
-others r (SetTextureImage g) s m f i = refl
-others r (SetDepthImage g) s m f i = refl
-others r (SetColorImage g) s m f i = absurd (i refl)
+unfolding seen
+others r c s m f i = let k = keeps r c in rw (k .scissor s, k .modes m, k .color f, k .image i)
 
 module _ (r : Registers) (c : List ℕ) (there : wholeWords c ≡ 0 → ⊥) where
   abbrev n : ℕ

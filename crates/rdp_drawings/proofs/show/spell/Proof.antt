@@ -1,6 +1,6 @@
 -- Safe, and ends: the index is within the bytes, and the text keeps its length, which has three characters for each byte.
 use mathlib.Core.Path.{_≡_}
-use Prim.Native.Nat.{_≤_, _-_, _*_}
+use Prim.Native.Nat.{_≤_, _-_}
 use native.Mathlib.Omega.{arith}
 use lib.ListN.{length, length-set}
 use borrow.Author.Needs.{needs}
