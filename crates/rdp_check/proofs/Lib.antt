@@ -19,3 +19,4 @@ pub mod PassLaws
 pub mod BackLaws
 pub mod ForwardLaws
 pub mod RepairLaws
+pub mod BoundLaws

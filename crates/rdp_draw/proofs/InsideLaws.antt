@@ -3,14 +3,14 @@ use mathlib.Core.Path.{_≡_, sym, _∙_}
 use mathlib.Core.Logic.{⊎-elim}
 use mathlib.Core.Bool.{true, false, _&&_}
 use Prim.Native.Nat.{ℕ, zero, suc, _+_, _-_, _*_, _≤_, _<_}
-use native.Mathlib.Nat.{suc-mul, mul-le-mul, mul-le-mul-right}
+use native.Mathlib.Nat.{suc-mul, mul-le-mul-right}
 use native.Mathlib.Omega.{arith}
 use borrow.Author.Tests.{eqb-false, le-leb, leb-true, ne-eqb}
 use lib.Dec.{eqb, leb}
 use Rattle.rdp_command.proofs.Tests.{by-test}
 use Rattle.rdp_draw.specs.declared.Area.{Area}
 use Rattle.rdp_draw.specs.Overlay.{within}
-use Rattle.rdp_draw.specs.Runs.{Small, areaEmpty, areaInside, inRuns}
+use Rattle.rdp_draw.specs.Runs.{areaEmpty, areaInside, inRuns}
 use Rattle.rdp_draw.proofs.BoolLaws.{never, or-is, or-left, or-right, or-not, and-is, and-true-of, same-truth}
 use Rattle.rdp_draw.proofs.OverlayLaws.{within-true, within-is}
 
