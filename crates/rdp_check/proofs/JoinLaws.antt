@@ -122,3 +122,9 @@ parsed bs = parsed-within (length bs) bs (le-refl _)
 pub joined-whole : (bs : List ℕ) → restOf bs ≡ [] → joined (commandsOf bs) ≡ bs
 joined-whole bs none =
     sym (append-nil (joined (commandsOf bs))) ∙ ap (λ (x : List ℕ). joined (commandsOf bs) ++ x) (sym none) ∙ parsed bs .joins
+
+-- the words of a list's commands lie in the list
+pub words-inside : (bs : List ℕ) → 8 * wordsIn (commandsOf bs) ≤ length bs
+words-inside bs =
+    let p = parsed bs in
+    omega (arith, ap length (p .joins), length-append (joined (commandsOf bs)) (restOf bs), length-joined (commandsOf bs) (p .alone))

@@ -20,3 +20,4 @@ pub mod PassLaws
 pub mod BackLaws
 pub mod ForwardLaws
 pub mod RepairLaws
+pub mod BoundLaws

@@ -18,3 +18,4 @@ pub mod Laws
 pub mod FieldLaws
 pub mod PlaceLaws
 pub mod ReadLaws
+pub mod BoundLaws

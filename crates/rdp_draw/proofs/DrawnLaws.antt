@@ -18,11 +18,11 @@ use Rattle.rdp_command.proofs.KindLaws.{words-pos}
 use Rattle.rdp_command.proofs.PlaceLaws.{number-small}
 use Rattle.rdp_check.specs.Registers.{noRegisters, afterDecoded}
 use Rattle.rdp_check.specs.Commands.{commandsOf}
-use Rattle.rdp_check.specs.Check.{State, start, draws, checkOf}
+use Rattle.rdp_check.specs.Check.{start, draws, checkOf}
 use Rattle.rdp_check.specs.Refusals as check
 use Rattle.rdp_check.specs.declared.Registers.{Registers}
 use Rattle.rdp_check.proofs.FirstLaws.{Least, first-of, check-first}
-use Rattle.rdp_check.proofs.HazardLaws.{required-most}
+use Rattle.rdp_check.proofs.BoundLaws.{holds-most}
 use Rattle.rdp_draw.specs.Fill.{outside}
 use Rattle.rdp_draw.specs.Draw.{Draw, drawAt, drawsFrom, drawsOf, drawRefusal, answer, refusedAt, firstRefusal, drawAnswer}
 use Rattle.rdp_draw.specs.Refusals.{Refuses, notFill, misaligned, outsideMemory, Holds, atCheck, atDraw, NotAfter, ofCheck, earlier, same, IsFirst}
@@ -203,19 +203,6 @@ module _ (start len words : ℕ) where
 
 -- ---- the whole list
 
--- the numbers of the check's refusals
-refuses-most : (s : State) (c : List ℕ) (n : ℕ) → check.Refuses s c n → n ≤ 9
-refuses-most s c n (check.afterSyncFull t) = omega arith
-refuses-most s c n (check.notSet t u) = omega arith
-refuses-most s c n (check.fillOnFourBits t u) = omega arith
-refuses-most s c n (check.syncMissing k e) = omega (arith, required-most (s .hazards) (firstNumber c) (number-small (wordAt c 0)))
-
-check-most : (list : List ℕ) (n p : ℕ) → check.Holds list n p → n ≤ 9
-check-most list n p (check.tooLong h) = omega arith
-check-most list n p (check.notWords h) = omega arith
-check-most list n p (check.pastEnd h) = omega arith
-check-most list n p (check.atCommand before c after m e r) = refuses-most (check.stateAfter start before) c n r
-
 module _ (list : List ℕ) (base len : ℕ) where
   abbrev ds : List Draw
   ds = drawsOf list
@@ -231,7 +218,7 @@ module _ (list : List ℕ) (base len : ℕ) where
   -- where the check refuses, its answer is the first
   of-check : (checkOf list .number ≡ 0 → ⊥) → (n p : ℕ) → Holds list base len n p → NotAfter (checkOf list .number) (checkOf list .place) n p
   of-check ne n p h =
-      ofCheck (check-most list _ _ (check-first list .refused ne .0)) (λ m. in-check ne n p m h)
+      ofCheck (holds-most list _ _ (check-first list .refused ne .0)) (λ m. in-check ne n p m h)
 
   -- where it accepts, the first of the draws
   of-draws :

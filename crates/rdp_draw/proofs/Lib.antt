@@ -11,3 +11,4 @@ pub mod ColorLaws
 pub mod PatternLaws
 pub mod RunLaws
 pub mod WidthLaws
+pub mod BoundLaws

@@ -1,0 +1,77 @@
+-- The answers that occur fit the bits that they are packed into, so that none loses a part. Assumes nothing.
+use Prim.Native.Nat.{ℕ, _^_, _<_}
+use mathlib.Core.Bool.{Bool, true, false, cond}
+use mathlib.Core.List.{List}
+use mathlib.Core.Path.{_≡_, refl}
+use native.Mathlib.Omega.{arith}
+use lib.Dec.{eqb}
+use Rattle.rdp_command.specs.Words.{wordAt}
+use Rattle.rdp_command.specs.Decode.{firstNumber, decodeOf}
+use Rattle.rdp_command.specs.Numbers.{fieldsAnswer, fromNumbers}
+use Rattle.rdp_command.specs.declared.Answer.{Answer}
+use Rattle.rdp_command.specs.declared.Decoded.{Decoded}
+use Rattle.rdp_command.specs.declared.Decoded.the-variants.{Whole, Refused}
+use Rattle.rdp_command.proofs.PlaceLaws.{number-small}
+use Rattle.rdp_command.proofs.BoundLaws.{decode-refused, fields-decoded, lines-most, fields-most, fields-place, from-refused, encode-most, encode-words}
+use Rattle.rdp_check.proofs.BoundLaws.{check-most, place-most, repair-bounds}
+use Rattle.rdp_draw.proofs.BoundLaws.{draw-most, draw-place}
+use Rattle.lanyardrove.specs.Replies.{Reply, packed, unpacked, plain, checkReply, repairReply, drawReply, decodedReply, decodeReply, madeReply, encodeReply, Occurs, ofCheck, ofRepair, ofDraw, ofDecode, ofEncode}
+use Rattle.lanyardrove.proofs.PackLaws.{Small, unpacked-packed, packed-fits}
+
+check-small : (list : List ℕ) → Small (checkReply list)
+check-small list = record { number = omega (arith, check-most list); third = omega arith; place = omega (arith, place-most 4096 true list) }
+
+repair-small : (list : List ℕ) (work out : ℕ) → Small (repairReply list work out)
+repair-small list work out =
+    let b = repair-bounds list work out in
+    record { number = omega (arith, b .number); third = omega (arith, b .cycles); place = omega (arith, b .place) }
+
+draw-small : (list : List ℕ) (start len : ℕ) → Small (drawReply list start len)
+draw-small list start len =
+    record { number = omega (arith, draw-most list start len); third = omega arith; place = omega (arith, draw-place list start len) }
+
+-- a refusal that is known
+plain-small : (a : Answer) (n : ℕ) → n < 2 ^ 8 → a ≡ record { number = n; place = 0 } → Small (plain a)
+plain-small a n h e = record { number = rw e h; third = omega arith; place = rw e (omega arith) }
+
+-- a number below 64, or 0
+cond-less : (b : Bool) (n : ℕ) → n < 64 → cond b n 0 < 2 ^ 24
+cond-less true n h = omega arith
+cond-less false n h = omega arith
+
+decoded-small : (list fields : List ℕ) (d : Decoded) → decodeOf list ≡ d → Small (decodedReply (firstNumber list) fields d)
+decoded-small list fields (Whole c) e =
+    let small : firstNumber list < 64 = number-small (wordAt list 0) in
+    record {
+      number = omega (arith, fields-most c fields);
+      third = cond-less (eqb (fieldsAnswer c fields .number) 0) (firstNumber list) small;
+      place = omega (arith, fields-place c fields, fields-decoded list e, lines-most (firstNumber list) small);
+    }
+decoded-small list fields (Refused a) e = plain-small a 3 (omega arith) (decode-refused list e)
+
+decode-small : (list fields : List ℕ) → Small (decodeReply list fields)
+decode-small list fields = decoded-small list fields (decodeOf list) refl
+
+made-small : (number : ℕ) (fields suffix out : List ℕ) (d : Decoded) → fromNumbers number fields ≡ d → Small (madeReply suffix out d)
+made-small number fields suffix out (Whole c) e =
+    record { number = omega (arith, encode-most c suffix out); third = omega arith; place = omega (arith, encode-words c suffix out) }
+made-small number fields suffix out (Refused a) e = plain-small a 15 (omega arith) (from-refused number fields e)
+
+encode-small : (number : ℕ) (fields suffix out : List ℕ) → Small (encodeReply number fields suffix out)
+encode-small number fields suffix out = made-small number fields suffix out (fromNumbers number fields) refl
+
+-- every answer that occurs fits its bits
+pub small : {r : Reply} → Occurs r → Small r
+small (ofCheck list) = check-small list
+small (ofRepair list work out) = repair-small list work out
+small (ofDraw list start len) = draw-small list start len
+small (ofDecode list fields) = decode-small list fields
+small (ofEncode number fields suffix out) = encode-small number fields suffix out
+
+-- and so the parts that are read back are the answer's, and the packed number is one of 64 bits
+pub replies-kept : {r : Reply} → Occurs r → (unpacked (packed r) ≡ r) × (packed r < 2 ^ 64)
+replies-kept {r} o = (unpacked-packed r (small o), packed-fits r (small o))
+
+-- what `pack` requires
+pub packs : (r : Reply) {s : Reply} → r ≡ s → Occurs s → (r .number < 2 ^ 8) × (r .third < 2 ^ 24)
+packs r e o = rw e (small o .number, small o .third)

@@ -1,0 +1,91 @@
+-- What the C functions answer: a number, a third number and a place, as one 64-bit number.
+use Prim.Native.Nat.{ℕ, _+_, _*_, _/_, _%_, _^_}
+use mathlib.Core.Bool.{cond}
+use mathlib.Core.List.{List}
+use lib.Dec.{eqb}
+use lib.ListN.{length}
+use Rattle.rdp_command.specs.Decode.{firstNumber, decodeOf}
+use Rattle.rdp_command.specs.Encode.{encodeAnswer, encodeOut}
+use Rattle.rdp_command.specs.Numbers.{fieldsAnswer, fieldsOut, fromNumbers}
+use Rattle.rdp_command.specs.declared.Answer.{Answer}
+use Rattle.rdp_command.specs.declared.Decoded.{Decoded}
+use Rattle.rdp_command.specs.declared.Decoded.the-variants.{Whole, Refused}
+use Rattle.rdp_check.specs.Check.{checkOf}
+use Rattle.rdp_check.specs.Repair.{repairOf, RepairIs}
+use Rattle.rdp_draw.specs.Draw.{drawAnswer}
+
+-- the number of the refusal, 0 for acceptance; a third number; and the place
+pub record Reply : Type 0 where
+  pub number : ℕ
+  pub third : ℕ
+  pub place : ℕ
+
+abbrev pub reply : ℕ → ℕ → ℕ → Reply
+reply number third place = record { number = number; third = third; place = place }
+
+-- as one number: the number in bits 63:56, the third number in bits 55:32, the place in bits 31:0
+unfoldable pub packed : Reply → ℕ
+packed r = r .number * 2 ^ 56 + r .third * 2 ^ 32 + r .place
+
+-- the parts of such a number
+abbrev pub unpacked : ℕ → Reply
+unpacked w = reply (w / 2 ^ 56) (w / 2 ^ 32 % 2 ^ 24) (w % 2 ^ 32)
+
+-- an answer that has no third number
+abbrev pub plain : Answer → Reply
+plain a = reply (a .number) 0 (a .place)
+
+abbrev pub checkReply : List ℕ → Reply
+checkReply list = reply (checkOf list .number) 0 (checkOf list .place)
+
+-- the repair, by the lengths of its buffers: the third number is the cycles
+abbrev pub repairReply : List ℕ → ℕ → ℕ → Reply
+repairReply list work out = let r = repairOf list work out in reply (r .number) (r .cycles) (r .place)
+
+-- what the repair leaves in its buffers
+abbrev pub RepairLeaves : List ℕ → List ℕ → List ℕ → List ℕ → List ℕ → Type 0
+RepairLeaves list work out work′ out′ = RepairIs list work out (repairOf list (length work) (length out)) work′ out′
+
+-- drawing on memory of `len` bytes that starts at address `start`
+abbrev pub drawReply : List ℕ → ℕ → ℕ → Reply
+drawReply list start len = plain (drawAnswer list start len)
+
+-- a decoded command of number n: the third number is n where its fields are written; the place is their count
+abbrev pub decodedReply : ℕ → List ℕ → Decoded → Reply
+decodedReply n fields (Whole c) = let a = fieldsAnswer c fields in reply (a .number) (cond (eqb (a .number) 0) n 0) (a .place)
+decodedReply n fields (Refused a) = plain a
+
+abbrev pub decodeReply : List ℕ → List ℕ → Reply
+decodeReply list fields = decodedReply (firstNumber list) fields (decodeOf list)
+
+-- the fields of a decoded command at the front; at a refusal, as it was
+abbrev pub decodedFields : List ℕ → Decoded → List ℕ
+decodedFields fields (Whole c) = fieldsOut c fields
+decodedFields fields (Refused a) = fields
+
+abbrev pub decodeFields : List ℕ → List ℕ → List ℕ
+decodeFields list fields = decodedFields fields (decodeOf list)
+
+-- a command that was made of a number and fields, encoded; or the refusal to make it
+abbrev pub madeReply : List ℕ → List ℕ → Decoded → Reply
+madeReply suffix out (Whole c) = plain (encodeAnswer c suffix out)
+madeReply suffix out (Refused a) = plain a
+
+abbrev pub encodeReply : ℕ → List ℕ → List ℕ → List ℕ → Reply
+encodeReply number fields suffix out = madeReply suffix out (fromNumbers number fields)
+
+-- the output after it; at a refusal, as it was
+abbrev pub madeBytes : List ℕ → List ℕ → Decoded → List ℕ
+madeBytes suffix out (Whole c) = encodeOut c suffix out
+madeBytes suffix out (Refused a) = out
+
+abbrev pub encodeBytes : ℕ → List ℕ → List ℕ → List ℕ → List ℕ
+encodeBytes number fields suffix out = madeBytes suffix out (fromNumbers number fields)
+
+-- the answers that there are
+pub data Occurs : Reply → Type 0 where
+  ofCheck : (list : List ℕ) → Occurs (checkReply list)
+  ofRepair : (list : List ℕ) (work out : ℕ) → Occurs (repairReply list work out)
+  ofDraw : (list : List ℕ) (start len : ℕ) → Occurs (drawReply list start len)
+  ofDecode : (list fields : List ℕ) → Occurs (decodeReply list fields)
+  ofEncode : (number : ℕ) (fields suffix out : List ℕ) → Occurs (encodeReply number fields suffix out)

@@ -1,0 +1,95 @@
+// The functions for callers in C. Every answer is one 64-bit number, returned in a register; include/lanyardrove.h declares them.
+ghost use mathlib.Core.Path.{_≡_};
+ghost use Prim.Native.Nat.{_<_, _^_};
+ghost use lib.ListN.{length};
+ghost use Rattle.rdp_draw.specs.Draw.{drawMemory};
+ghost use Rattle.lanyardrove.specs.Replies.{reply, packed, checkReply, repairReply, RepairLeaves, drawReply, decodeReply, decodeFields, encodeReply, encodeBytes};
+use rdp_command::Decoded;
+
+// An answer as one number: the number of the refusal in bits 63:56, a third number in bits 55:32, the place in bits 31:0.
+fn pack(number: u32, third: u32, place: u32) -> u64
+    requires { ⌜ (number < 2 ^ 8) × (third < 2 ^ 24) ⌝ }
+    ensures { λ r. ⌜ r ≡ packed (reply number third place) ⌝ }
+{
+    number as u64 * 0x0100_0000_0000_0000 + third as u64 * 0x1_0000_0000 + place as u64
+}
+
+// The version of this library: major, minor and patch number, eight bits each. The header has the same number.
+#[no_mangle]
+pub extern "C" fn lanyardrove_version() -> u32
+    ensures { λ r. ⌜ r ≡ 0x010000 ⌝ }
+{
+    0x010000
+}
+
+// The check of a list: the first of refusals 1 to 9, or 0 and the words of the list.
+#[no_mangle]
+pub extern "C" fn lanyardrove_check(list: &[u8]) -> u64
+    ensures { λ r. ⌜ r ≡ packed (checkReply (now (list .entry))) ⌝ }
+{
+    let checked = rdp_check::check(list);
+    pack(checked.number, 0, checked.place)
+}
+
+// The repair of a list: the first of refusals 1 to 6, 13 and 14, or 0, the cycles and the words written.
+#[no_mangle]
+pub extern "C" fn lanyardrove_repair(list: &[u8], work: &mut [u8], out: &mut [u8]) -> u64
+    ensures reply { λ r. ⌜ r ≡ packed (repairReply (now (list .entry)) (length (now (work .entry))) (length (now (out .entry)))) ⌝ }
+    ensures buffers { λ _. ⌜ RepairLeaves (now (list .entry)) (now (work .entry)) (now (out .entry)) (now (work .exit)) (now (out .exit)) ⌝ }
+{
+    let repaired = rdp_check::repair(list, work, out);
+    pack(repaired.number, repaired.cycles, repaired.place)
+}
+
+// Drawing the fill rectangles of a list into memory that starts at an address: the first of refusals 1 to 12, or 0 and the words of the list.
+#[no_mangle]
+pub extern "C" fn lanyardrove_draw(list: &[u8], memory: &mut [u8], start: u64) -> u64
+    ensures reply { λ r. ⌜ r ≡ packed (drawReply (now (list .entry)) start (length (now (memory .entry)))) ⌝ }
+    ensures memory { λ _. ⌜ now (memory .exit) ≡ drawMemory (now (list .entry)) start (now (memory .entry)) ⌝ }
+{
+    let drawn = rdp_draw::draw(list, memory, start);
+    pack(drawn.number, 0, drawn.place)
+}
+
+// The first command of a list: 0, its command number as the third number and the count of its fields, which are written in the order of the wiki's bit
+// lines; or 3 at 0, or 14 at the count needed.
+#[no_mangle]
+pub extern "C" fn lanyardrove_decode(list: &[u8], fields: &mut [u64]) -> u64
+    ensures reply { λ r. ⌜ r ≡ packed (decodeReply (now (list .entry)) (now (fields .entry))) ⌝ }
+    ensures fields { λ _. ⌜ now (fields .exit) ≡ decodeFields (now (list .entry)) (now (fields .entry)) ⌝ }
+{
+    let decoded = rdp_command::decode(list);
+    match decoded {
+        Decoded::Whole(command) => {
+            let written = rdp_command::fields(command, fields);
+            if written.number != 0 {
+                return pack(written.number, 0, written.place);
+            }
+            let head = rdp_command::head_at(list, 0);
+            return pack(0, head.number as u32, written.place);
+        }
+        Decoded::Refused(cut) => return pack(cut.number, 0, cut.place),
+    }
+}
+
+// Writes the words of a command, given by its number, its fields in the same order and the bytes that follow a triangle's base: 15 at 0, then 14 at the
+// words needed, or 0 and the words written.
+#[no_mangle]
+pub extern "C" fn lanyardrove_encode(
+    number: u32,
+    fields: &[u64],
+    suffix: &[u8],
+    out: &mut [u8],
+) -> u64
+    ensures reply { λ r. ⌜ r ≡ packed (encodeReply number (now (fields .entry)) (now (suffix .entry)) (now (out .entry))) ⌝ }
+    ensures output { λ _. ⌜ now (out .exit) ≡ encodeBytes number (now (fields .entry)) (now (suffix .entry)) (now (out .entry)) ⌝ }
+{
+    let made = rdp_command::from_fields(number, fields);
+    match made {
+        Decoded::Whole(command) => {
+            let encoded = rdp_command::encode(command, suffix, out);
+            return pack(encoded.number, 0, encoded.place);
+        }
+        Decoded::Refused(unmade) => return pack(unmade.number, 0, unmade.place),
+    }
+}

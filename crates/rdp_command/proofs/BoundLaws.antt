@@ -1,0 +1,110 @@
+-- Which answers decoding and encoding give, and how large their parts are. Assumes nothing.
+use Prim.Native.Nat.{ℕ, _≤_, _<_}
+use mathlib.Core.Bool.{Bool, true, false, cond, _&&_}
+use mathlib.Core.List.{List}
+use mathlib.Core.Path.{_≡_, sym, ap, _∙_}
+use native.Mathlib.Omega.{arith}
+use lib.Dec.{eqb, ltb, leb, leb→le}
+use lib.ListN.{length, length-map}
+use Rattle.rdp_command.specs.Words.{wordAt}
+use Rattle.rdp_command.specs.Kinds.{wordsOf}
+use Rattle.rdp_command.specs.Layout.{layout}
+use Rattle.rdp_command.specs.Fields.{fieldAt, numberOfValue}
+use Rattle.rdp_command.specs.Commands.{numberOf, valuesOf}
+use Rattle.rdp_command.specs.Decode.{firstNumber, wholeWords, ownWords, commandIn, decodeOf}
+use Rattle.rdp_command.specs.Encode.{numbersOf, numberFits, encodable, hasRoom, answerWith, encodeAnswer}
+use Rattle.rdp_command.specs.Numbers.{numbersFit, flagsAgree, fieldsAnswer, fromNumbers}
+use Rattle.rdp_command.specs.declared.Answer.{Answer}
+use Rattle.rdp_command.specs.declared.Command.{Command}
+use Rattle.rdp_command.specs.declared.Decoded.the-variants.{Whole, Refused}
+use Rattle.rdp_command.proofs.Tests.{below, by-test}
+use Rattle.rdp_command.proofs.KindLaws.{words-most}
+use Rattle.rdp_command.proofs.AnswerLaws.{answer}
+use Rattle.rdp_command.proofs.PlaceLaws.{number-small}
+use Rattle.rdp_command.proofs.Spreading.{not-encodable}
+use Rattle.rdp_command.proofs.GroupLaws.{values-read}
+use Rattle.rdp_command.proofs.NumberLaws.{standing}
+
+-- ---- a test that answers a command or a refusal
+
+never : {c : Command} {a : Answer} → Whole c ≡ Refused a → ⊥
+never e = let z : _≡_ {A = ℕ} 0 1 = cc in omega arith
+
+-- what is refused
+refusal-of : (b : Bool) (c : Command) (r : Answer) {a : Answer} → cond b (Whole c) (Refused r) ≡ Refused a → a ≡ r
+refusal-of true c r e = absurd (never e)
+refusal-of false c r e = cc
+
+-- what is accepted
+command-of : (b : Bool) (c : Command) (r : Answer) {d : Command} → cond b (Refused r) (Whole c) ≡ Whole d → d ≡ c
+command-of true c r e = absurd (never (sym e))
+command-of false c r e = cc
+
+refusal-first : (b : Bool) (c : Command) (r : Answer) {a : Answer} → cond b (Refused r) (Whole c) ≡ Refused a → a ≡ r
+refusal-first true c r e = cc
+refusal-first false c r e = absurd (never e)
+
+-- ---- decoding
+
+-- decoding refuses by 3 at 0
+pub decode-refused : (bs : List ℕ) {a : Answer} → decodeOf bs ≡ Refused a → a ≡ answer 3 0
+unfolding decodeOf
+decode-refused bs e = refusal-first (eqb (wholeWords bs) 0) (commandIn (firstNumber bs) (ownWords bs (wholeWords bs))) (answer 3 0) e
+
+-- a decoded command has as many fields as its number has bit lines
+pub fields-decoded : (bs : List ℕ) {c : Command} → decodeOf bs ≡ Whole c → length (numbersOf c) ≡ length (layout (firstNumber bs))
+unfolding decodeOf
+fields-decoded bs e =
+    let n = firstNumber bs in
+    let ws = ownWords bs (wholeWords bs) in
+    let is = command-of (eqb (wholeWords bs) 0) (commandIn n ws) (answer 3 0) e in
+    ap (λ (x : Command). length (numbersOf x)) is ∙
+    length-map (valuesOf (commandIn n ws)) numberOfValue ∙
+    ap length (values-read n (number-small (wordAt bs 0)) ws) ∙
+    length-map (layout n) (fieldAt ws)
+
+-- at most 37 bit lines
+pub lines-most : (n : ℕ) → n < 64 → length (layout n) ≤ 37
+unfolding layout
+lines-most n h = leb→le _ _ (below 64 (λ k. leb (length (layout k)) 37) tt n h)
+
+-- ---- the fields of a command
+
+-- 0 or 14, at their count
+pub fields-most : (c : Command) (out : List ℕ) → fieldsAnswer c out .number ≤ 14
+unfolding fieldsAnswer
+fields-most c out = by-test (ltb (length out) (length (numbersOf c))) (λ t. rw t (omega arith)) (λ f. rw f (omega arith))
+
+pub fields-place : (c : Command) (out : List ℕ) → fieldsAnswer c out .place ≡ length (numbersOf c)
+unfolding fieldsAnswer
+fields-place c out = by-test (ltb (length out) (length (numbersOf c))) (λ t. rw t) (λ f. rw f)
+
+-- ---- encoding
+
+-- a number and fields are refused by 15 at 0
+pub from-refused : (n : ℕ) (ns : List ℕ) {a : Answer} → fromNumbers n ns ≡ Refused a → a ≡ answer 15 0
+unfolding fromNumbers
+from-refused n ns e = refusal-of (ltb n 64 && (numbersFit n ns && flagsAgree n ns)) _ (answer 15 0) e
+
+-- 0, 14 or 15
+verdict-most : (ok room : Bool) (words : ℕ) → cond ok (cond room (answer 0 words) (answer 14 words)) (answer 15 0) .number ≤ 15
+verdict-most true true words = omega arith
+verdict-most true false words = omega arith
+verdict-most false room words = omega arith
+
+pub encode-most : (c : Command) (suffix out : List ℕ) → encodeAnswer c suffix out .number ≤ 15
+unfolding answerWith
+encode-most c suffix out = verdict-most (encodable c suffix) (hasRoom (numberOf c) out) (wordsOf (numberOf c))
+
+-- at most 22 words
+verdict-words : (ok room : Bool) (words : ℕ) → words ≤ 22 → cond ok (cond room (answer 0 words) (answer 14 words)) (answer 15 0) .place ≤ 22
+verdict-words true true words h = h
+verdict-words true false words h = h
+verdict-words false room words h = omega arith
+
+pub encode-words : (c : Command) (suffix out : List ℕ) → encodeAnswer c suffix out .place ≤ 22
+unfolding answerWith
+encode-words c suffix out =
+    by-test (numberFits c)
+    (λ t. verdict-words (encodable c suffix) (hasRoom (numberOf c) out) (wordsOf (numberOf c)) (words-most (numberOf c) (standing c t .1)))
+    (λ f. rw (not-encodable c suffix f) (omega arith))
