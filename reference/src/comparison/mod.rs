@@ -1,0 +1,3 @@
+//! The comparison of this crate with a second side.
+
+pub mod rng;
