@@ -48,7 +48,7 @@ fn length_test(list: &[u8], limit: usize) -> Result<(), Refusal> {
     let length = list.len();
     if length > limit {
         Err(Refusal::new(Ground::ListTooLong, limit / WORD_BYTES))
-    } else if length % WORD_BYTES != 0 {
+    } else if !length.is_multiple_of(WORD_BYTES) {
         Err(Refusal::new(Ground::PartialWord, length / WORD_BYTES))
     } else {
         Ok(())

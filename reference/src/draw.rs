@@ -68,7 +68,7 @@ fn fill_at(
         image: registers.color_image(),
         color: registers.fill_color(),
     };
-    if fill.image.address % 64 != 0 {
+    if !fill.image.address.is_multiple_of(64) {
         Err(Ground::MisalignedImage)
     } else if !fill.addresses().all(inside) {
         Err(Ground::OutsideMemory)

@@ -15,7 +15,7 @@ use reference::words::{bytes_of, mask};
 
 /// A command with random bits everywhere but in its number.
 fn random_command(rng: &mut Rng, number: u8) -> Vec<u64> {
-    let mut command: Vec<u64> = (0..words(number)).map(|_| rng.next()).collect();
+    let mut command: Vec<u64> = (0..words(number)).map(|_| rng.number()).collect();
     command[0] = command[0] & !(0x3F << 56) | u64::from(number) << 56;
     command
 }

@@ -1,3 +1,13 @@
-//! The comparison of this crate with a second side.
+//! The comparison of this crate with a second side: seeded cases go through
+//! both, and every answer and every byte of every lent buffer must be the same.
 
+pub mod builder;
+pub mod calls;
+pub mod counts;
+pub mod laws;
+pub mod lent;
+pub mod lists;
 pub mod rng;
+pub mod run;
+pub mod scenes;
+pub mod side;
