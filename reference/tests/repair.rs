@@ -69,10 +69,18 @@ fn a_copy_and_an_invented_total_are_found() {
 }
 
 #[test]
-fn ties_between_different_syncs() {
+fn load_goes_before_pipe() {
     let list = after_setup(&[R, L, C, R]);
     let expected = after_setup(&[R, SYNC_LOAD, L, SYNC_PIPE, C, R]);
     assert_eq!(repaired(&list), (bytes_of(&expected), 75));
+}
+
+#[test]
+fn load_goes_before_tile() {
+    let [first, second] = TEXTURED;
+    let list = after_setup(&[first, second, L, SET_TILE, R]);
+    let expected = after_setup(&[first, second, SYNC_LOAD, L, SYNC_TILE, SET_TILE, R]);
+    assert_eq!(repaired(&list), (bytes_of(&expected), 58));
 }
 
 #[test]

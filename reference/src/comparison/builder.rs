@@ -2,7 +2,7 @@
 
 use crate::comparison::rng::Rng;
 use crate::encode::encode;
-use crate::fields::fields_of;
+use crate::fields::{fields_of, Field};
 use crate::kinds::{base_words, suffix_words, words, Sync};
 use crate::marks::Marks;
 use crate::words::{bytes_of, mask, word_at};
@@ -50,6 +50,18 @@ impl Builder<'_> {
             .map(|place| self.random_word(number, place))
             .collect();
         self.push(number, command);
+    }
+
+    /// Appends a command with one of these numbers and random bits.
+    pub fn one_of(&mut self, numbers: &[u8]) {
+        let number = self.rng.pick(numbers);
+        self.random(number);
+    }
+
+    /// Random fields for a command with unsigned fields.
+    pub fn random_fields(&mut self, number: u8) -> Vec<u64> {
+        let value = |field: &Field| self.rng.number() & mask(field.width());
+        fields_of(number).iter().map(value).collect()
     }
 
     fn random_word(&mut self, number: u8, place: usize) -> u64 {

@@ -34,8 +34,8 @@ impl<T: Copy + PartialEq> Lent<T> {
     /// The first place where two buffers differ, counted from the first lent
     /// item: guards before it have negative places.
     pub fn first_difference(&self, other: &Lent<T>) -> Option<i64> {
-        let same_item = |index: &usize| self.all[*index] != other.all[*index];
-        let index = (0..self.all.len()).find(same_item)?;
+        let differs = |index: &usize| self.all[*index] != other.all[*index];
+        let index = (0..self.all.len()).find(differs)?;
         Some(index as i64 - self.front as i64)
     }
 }

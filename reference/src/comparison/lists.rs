@@ -2,19 +2,22 @@
 
 use crate::comparison::builder::Builder;
 use crate::comparison::rng::Rng;
-use crate::comparison::scenes::{scene_list, Scene};
+use crate::comparison::scenes::{scene_list, Scene, CYCLE_TYPE};
+
+/// The size's place among the fields of Set Color Image.
+const IMAGE_SIZE: usize = 1;
 
 /// The list of a case: the case's number chooses the class of list.
 pub fn list(rng: &mut Rng, case: u64) -> Vec<u8> {
     match case % 500 {
-        0 | 250 => long_list(rng),
-        1 => large_scene(rng),
-        2..=11 => medium_scene(rng),
-        12..=34 => random_bytes(rng),
-        35..=59 => random_commands(rng),
-        at @ 60..=123 => one_command(rng, (at - 60) as u8),
-        at @ 124..=187 => command_after_marks(rng, (at - 124) as u8),
-        188..=299 => small_scene(rng),
+        0..=5 => long_list(rng),
+        6..=7 => large_scene(rng),
+        8..=27 => medium_scene(rng),
+        28..=49 => random_bytes(rng),
+        50..=71 => random_commands(rng),
+        at @ 72..=135 => one_command(rng, (at - 72) as u8),
+        at @ 136..=199 => command_after_marks(rng, (at - 136) as u8),
+        200..=299 => small_scene(rng),
         300..=339 => damaged(rng, small_scene),
         340..=389 => mixed_list(rng, 16),
         390..=419 => damaged(rng, |rng| mixed_list(rng, 8)),
@@ -74,16 +77,13 @@ fn one_command(rng: &mut Rng, number: u8) -> Vec<u8> {
 
 /// Modes, image and scissor with random bits; seldom FILL on a 4-bit image.
 fn random_setup(builder: &mut Builder) {
-    let cycle_type = builder.rng.below(4);
-    let mut modes = [0; 37];
-    modes[1] = cycle_type;
-    let four_bits = cycle_type != 3 || builder.rng.one_in(20);
-    let size = builder.rng.between(u64::from(!four_bits), 3);
-    let address = builder.rng.number() & 0x3FF_FFFF;
-    let setters: [(u8, &[u64]); 2] = [(0x2F, &modes), (0x3F, &[0, size, 7, address])];
-    let last = builder.rng.below(2) as usize;
-    builder.command(setters[1 - last].0, setters[1 - last].1);
-    builder.command(setters[last].0, setters[last].1);
+    let modes = builder.random_fields(0x2F);
+    let mut image = builder.random_fields(0x3F);
+    if modes[CYCLE_TYPE] == 3 && !builder.rng.one_in(20) {
+        image[IMAGE_SIZE] = builder.rng.between(1, 3);
+    }
+    builder.command(0x2F, &modes);
+    builder.command(0x3F, &image);
     builder.random(0x2D);
 }
 
@@ -94,10 +94,7 @@ fn command_after_marks(rng: &mut Rng, number: u8) -> Vec<u8> {
     let mut builder = Builder::new(rng, sync_percent);
     random_setup(&mut builder);
     for _ in 0..steps {
-        let step = builder
-            .rng
-            .pick(&[0x36, 0x08, 0x24, 0x0A, 0x34, 0x30, 0x26, 0x28]);
-        builder.random(step);
+        builder.one_of(&[0x36, 0x08, 0x24, 0x0A, 0x34, 0x30, 0x26, 0x28]);
     }
     builder.sync_percent = 0;
     builder.random(number);
@@ -147,22 +144,23 @@ fn mixed_list(rng: &mut Rng, steps: u64) -> Vec<u8> {
     builder.list()
 }
 
-/// A setup and a few commands, some of them before or within the setup.
+/// Commands that start work or need it ended, and a few others.
+const NEEDY: &[u8] = &[
+    0x36, 0x08, 0x24, 0x25, 0x0A, 0x30, 0x33, 0x34, 0x35, 0x35, 0x37, 0x3B, 0x3C, 0x00, 0x26,
+];
+
+/// A setup and a few commands, one of them perhaps before the setup.
 fn short_list(rng: &mut Rng, steps: u64) -> Vec<u8> {
+    let steps = rng.between(1, steps);
     let sync_percent = rng.pick(&[0, 0, 0, 50, 100]);
     let mut builder = Builder::new(rng, sync_percent);
     let early = builder.rng.one_in(3);
     if early {
-        let number = builder.rng.pick(&[0x30, 0x33, 0x34, 0x35, 0x00]);
-        builder.random(number);
+        builder.one_of(&[0x30, 0x33, 0x34, 0x35, 0x00]);
     }
     random_setup(&mut builder);
-    let steps = builder.rng.between(1, steps) - u64::from(early);
-    for _ in 0..steps {
-        let number = builder.rng.pick(&[
-            0x36, 0x08, 0x24, 0x25, 0x0A, 0x34, 0x33, 0x35, 0x35, 0x37, 0x3C, 0x00, 0x2D, 0x26,
-        ]);
-        builder.random(number);
+    for step in u64::from(early)..steps {
+        builder.one_of(if step == 0 { &NEEDY[..8] } else { NEEDY });
     }
     builder.list()
 }

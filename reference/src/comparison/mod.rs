@@ -3,7 +3,9 @@
 
 pub mod builder;
 pub mod calls;
+pub mod cases;
 pub mod counts;
+pub mod encodings;
 pub mod laws;
 pub mod lent;
 pub mod lists;

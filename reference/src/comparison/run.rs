@@ -3,7 +3,8 @@
 use std::fmt;
 use std::ops::Range;
 
-use crate::comparison::calls::{calls, Call, Function};
+use crate::comparison::calls::{Call, Function};
+use crate::comparison::cases::calls;
 use crate::comparison::counts::Counts;
 use crate::comparison::laws;
 use crate::comparison::lists::list;

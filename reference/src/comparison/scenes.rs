@@ -6,6 +6,9 @@ use crate::comparison::rng::Rng;
 /// The greatest coordinate, in quarter pixels.
 const MOST: u64 = 4_095;
 
+/// The cycle type's place among the fields of Set Other Modes.
+pub const CYCLE_TYPE: usize = 1;
+
 /// What the commands of one list have in common.
 pub struct Scene {
     /// Kept pixels lie in columns and rows up to this.
@@ -63,16 +66,17 @@ impl Scene {
             0..=17 => self.fill_rectangle(builder),
             18..=23 => self.fill_color(builder),
             24..=25 => self.scissor(builder),
-            26..=28 => random_of(builder, &[0x30, 0x33, 0x34]),
-            29..=30 => random_of(builder, &[0x26, 0x27, 0x28]),
-            _ => random_of(builder, HARMLESS),
+            26..=28 => builder.one_of(&[0x30, 0x33, 0x34]),
+            29..=30 => builder.one_of(&[0x26, 0x27, 0x28]),
+            _ => builder.one_of(HARMLESS),
         }
     }
 
     fn modes(&self, builder: &mut Builder) {
-        let mut fields = [0; 37];
-        let other = builder.rng.below(4);
-        fields[1] = if builder.rng.one_in(30) { other } else { 3 };
+        let mut fields = builder.random_fields(0x2F);
+        if !builder.rng.one_in(30) {
+            fields[CYCLE_TYPE] = 3;
+        }
         builder.command(0x2F, &fields);
     }
 
@@ -127,15 +131,10 @@ const HARMLESS: &[u8] = &[
     0x3C, 0x3D, 0x3E,
 ];
 
-fn random_of(builder: &mut Builder, numbers: &[u8]) {
-    let number = builder.rng.pick(numbers);
-    builder.random(number);
-}
-
 /// Now and then a triangle or a texture rectangle.
 fn other_draw(builder: &mut Builder) {
     if builder.rng.one_in(3) {
-        random_of(builder, &[0x08, 0x0A, 0x0F, 0x24, 0x25]);
+        builder.one_of(&[0x08, 0x0A, 0x0F, 0x24, 0x25]);
     }
 }
 
@@ -159,9 +158,9 @@ fn span(rng: &mut Rng, near: u64, most: u64) -> (u64, u64) {
     let end = match rng.below(16) {
         0 => rng.between(0, most),
         1 => start.saturating_sub(rng.below(8)),
-        2 => most,
-        3..=6 => start + rng.below(16),
-        7..=11 => start + rng.between(0, near),
+        2..=4 => most,
+        5..=7 => start + rng.below(16),
+        8..=11 => start + rng.between(0, near),
         _ => rng.between(start, most),
     };
     (start, end.min(most))
