@@ -1,5 +1,6 @@
 -- `lanyardrove::lanyardrove_check` meets its contract: the check's answer, packed. Assumes nothing.
 use mathlib.Core.Path.{_≡_, ap, _∙_}
+use native.Mathlib.Omega.{arith}
 use borrow.Author.Needs.{needs}
 use Rattle.lanyardrove.specs.Replies.{reply, packed, checkReply, ofCheck}
 use Rattle.lanyardrove.proofs.BoundLaws.{packs}
@@ -13,7 +14,7 @@ answers : (c : tie.After-check) → reply (c .check .result .number) 0 (c .check
 answers c = ap (λ r. reply (r .number) 0 (r .place)) (c .check .ensures)
 
 pack-requires : tie.Need-pack-requires
-pack-requires c κs = packs _ (answers c) (ofCheck _)
+pack-requires c κs = let p = packs _ (answers c) (ofCheck _) in omega (arith, p .0, p .1)
 
 returns : tie.Need-returns
 returns c = c .pack .ensures ∙ ap packed (answers (c .before))

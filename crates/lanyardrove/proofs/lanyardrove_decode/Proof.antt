@@ -1,5 +1,6 @@
 -- `lanyardrove::lanyardrove_decode` meets its contract: the first command's number and fields, or the refusal, packed. Assumes nothing.
 use mathlib.Core.Path.{_≡_, ap, _∙_}
+use native.Mathlib.Omega.{arith}
 use borrow.Author.Needs.{needs}
 use Rattle.lanyardrove.specs.Replies.{reply, packed, plain, decodeReply, decodeFields, ofDecode}
 use Rattle.lanyardrove.proofs.BoundLaws.{packs}
@@ -50,7 +51,7 @@ cut : (c : tie.After-decoded2) →
 cut c = decode-cut _ _ _ (c .before .before .decode .ensures) _ (c .decoded2 .given .1)
 
 pack-requires : tie.Need-pack-requires
-pack-requires c κs = packs _ (no-room c) (ofDecode _ _)
+pack-requires c κs = let p = packs _ (no-room c) (ofDecode _ _) in omega (arith, p .0, p .1)
 
 same-length : tie.Need-same-length
 same-length c = search needs
@@ -65,7 +66,7 @@ cast-pack : tie.Need-cast-pack
 cast-pack c = search needs
 
 pack-requires-2 : tie.Need-pack-requires-2
-pack-requires-2 c κs = packs _ (written (c .before)) (ofDecode _ _)
+pack-requires-2 c κs = let p = packs _ (written (c .before)) (ofDecode _ _) in omega (arith, p .0, p .1)
 
 same-length-2 : tie.Need-same-length-2
 same-length-2 c = search needs
@@ -77,7 +78,7 @@ enum-known-decoded-2 : tie.Need-enum-known-decoded-2
 enum-known-decoded-2 c = search needs
 
 pack-requires-3 : tie.Need-pack-requires-3
-pack-requires-3 c κs = packs _ (cut (c .before)) (ofDecode _ _)
+pack-requires-3 c κs = let p = packs _ (cut (c .before)) (ofDecode _ _) in omega (arith, p .0, p .1)
 
 returns-3 : tie.Need-returns-3
 returns-3 c =

@@ -1,5 +1,6 @@
 -- `lanyardrove::lanyardrove_draw` meets its contract: the answer of drawing, packed, and the memory. Assumes nothing.
 use mathlib.Core.Path.{_≡_, ap, _∙_}
+use native.Mathlib.Omega.{arith}
 use borrow.Author.Needs.{needs}
 use lib.ListN.{length}
 use Rattle.lanyardrove.specs.Replies.{packed, plain, drawReply, ofDraw}
@@ -16,7 +17,7 @@ answers : (c : tie.After-draw) →
 answers c = ap plain (c .draw .ensures .0)
 
 pack-requires : tie.Need-pack-requires
-pack-requires c κs = packs _ (answers (c .before .before)) (ofDraw _ _ _)
+pack-requires c κs = let p = packs _ (answers (c .before .before)) (ofDraw _ _ _) in omega (arith, p .0, p .1)
 
 same-length : tie.Need-same-length
 same-length c = search needs

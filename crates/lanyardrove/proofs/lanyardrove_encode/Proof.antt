@@ -1,5 +1,6 @@
 -- `lanyardrove::lanyardrove_encode` meets its contract: the answer of encoding, packed, and the output. Assumes nothing.
 use mathlib.Core.Path.{_≡_, ap, _∙_}
+use native.Mathlib.Omega.{arith}
 use borrow.Author.Needs.{needs}
 use Rattle.lanyardrove.specs.Replies.{packed, plain, encodeReply, ofEncode}
 use Rattle.lanyardrove.proofs.BoundLaws.{packs}
@@ -31,7 +32,7 @@ unmade : (c : tie.After-made2) →
 unmade c = encode-refused _ _ _ _ _ (c .before .before .from-fields .ensures) _ (c .made2 .given .1)
 
 pack-requires : tie.Need-pack-requires
-pack-requires c κs = packs _ (made (c .before .before)) (ofEncode _ _ _ _)
+pack-requires c κs = let p = packs _ (made (c .before .before)) (ofEncode _ _ _ _) in omega (arith, p .0, p .1)
 
 same-length : tie.Need-same-length
 same-length c = search needs
@@ -48,7 +49,7 @@ enum-known-made-2 : tie.Need-enum-known-made-2
 enum-known-made-2 c = search needs
 
 pack-requires-2 : tie.Need-pack-requires-2
-pack-requires-2 c κs = packs _ (unmade (c .before)) (ofEncode _ _ _ _)
+pack-requires-2 c κs = let p = packs _ (unmade (c .before)) (ofEncode _ _ _ _) in omega (arith, p .0, p .1)
 
 returns-2 : tie.Need-returns-2
 returns-2 c =

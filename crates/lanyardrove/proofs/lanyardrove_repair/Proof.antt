@@ -1,5 +1,6 @@
 -- `lanyardrove::lanyardrove_repair` meets its contract: the repair's answer, packed, and the buffers. Assumes nothing.
 use mathlib.Core.Path.{_≡_, ap, _∙_}
+use native.Mathlib.Omega.{arith}
 use borrow.Author.Needs.{needs}
 use lib.ListN.{length}
 use Rattle.lanyardrove.specs.Replies.{reply, packed, repairReply, ofRepair}
@@ -17,7 +18,7 @@ answers : (c : tie.After-repair) →
 answers c = ap (λ r. reply (r .number) (r .cycles) (r .place)) (c .repair .ensures .answer)
 
 pack-requires : tie.Need-pack-requires
-pack-requires c κs = packs _ (answers (c .before .before .before .before)) (ofRepair _ _ _)
+pack-requires c κs = let p = packs _ (answers (c .before .before .before .before)) (ofRepair _ _ _) in omega (arith, p .0, p .1)
 
 same-length : tie.Need-same-length
 same-length c = search needs
