@@ -1,0 +1,35 @@
+//! Refusals: 01, "Grounds".
+
+/// The grounds of a refusal, each with its number in 01's table.
+#[derive(Clone, Copy, Debug, PartialEq, Eq)]
+#[repr(u8)]
+pub enum Ground {
+    ListTooLong = 1,
+    PartialWord = 2,
+    CutCommand = 3,
+    AfterSyncFull = 4,
+    RegisterNotSet = 5,
+    FillOnFourBits = 6,
+    SyncLoadMissing = 7,
+    SyncTileMissing = 8,
+    SyncPipeMissing = 9,
+    NotFillRectangle = 10,
+    MisalignedImage = 11,
+    OutsideMemory = 12,
+    WorkTooShort = 13,
+    OutputTooShort = 14,
+    NotEncodable = 15,
+}
+
+/// A refusal: its ground and its place.
+#[derive(Clone, Copy, Debug, PartialEq, Eq)]
+pub struct Refusal {
+    pub ground: Ground,
+    pub place: usize,
+}
+
+impl Refusal {
+    pub fn new(ground: Ground, place: usize) -> Self {
+        Refusal { ground, place }
+    }
+}

@@ -1,0 +1,149 @@
+//! One call of one of the C functions, with everything that its caller lends.
+
+use std::fmt;
+
+use crate::comparison::lent::Lent;
+use crate::comparison::side::Side;
+
+#[derive(Clone, Copy, Debug, PartialEq, Eq)]
+pub enum Function {
+    Check,
+    Repair,
+    Draw,
+    Decode,
+    Encode,
+}
+
+impl Function {
+    pub const ALL: [Function; 5] = [
+        Function::Check,
+        Function::Repair,
+        Function::Draw,
+        Function::Decode,
+        Function::Encode,
+    ];
+
+    pub fn name(self) -> &'static str {
+        match self {
+            Function::Check => "check",
+            Function::Repair => "repair",
+            Function::Draw => "draw",
+            Function::Decode => "decode",
+            Function::Encode => "encode",
+        }
+    }
+}
+
+/// One call: what the caller lends, before it and after it. What a function
+/// does not take is empty.
+#[derive(Clone, Debug, PartialEq, Eq)]
+pub struct Call {
+    pub function: Function,
+    /// The command number for encoding.
+    pub number: u32,
+    /// The address of lent memory.
+    pub start: u64,
+    pub list: Lent<u8>,
+    pub suffix: Lent<u8>,
+    pub fields: Lent<u64>,
+    pub work: Lent<u8>,
+    pub out: Lent<u8>,
+    pub memory: Lent<u8>,
+}
+
+impl Call {
+    /// A call that lends nothing yet.
+    pub fn of(function: Function) -> Call {
+        Call {
+            function,
+            number: 0,
+            start: 0,
+            list: Lent::default(),
+            suffix: Lent::default(),
+            fields: Lent::default(),
+            work: Lent::default(),
+            out: Lent::default(),
+            memory: Lent::default(),
+        }
+    }
+
+    /// Makes the call on one side.
+    pub fn make(&mut self, side: &dyn Side) -> u64 {
+        let list = self.list.slice();
+        match self.function {
+            Function::Check => side.check(list),
+            Function::Repair => side.repair(list, self.work.slice_mut(), self.out.slice_mut()),
+            Function::Draw => side.draw(list, self.memory.slice_mut(), self.start),
+            Function::Decode => side.decode(list, self.fields.slice_mut()),
+            Function::Encode => side.encode(
+                self.number,
+                self.fields.slice(),
+                self.suffix.slice(),
+                self.out.slice_mut(),
+            ),
+        }
+    }
+
+    /// The first buffer in which two calls differ, and the place there.
+    pub fn first_difference(&self, other: &Call) -> Option<(&'static str, i64)> {
+        let bytes = [
+            ("list", &self.list, &other.list),
+            ("suffix", &self.suffix, &other.suffix),
+            ("work", &self.work, &other.work),
+            ("out", &self.out, &other.out),
+            ("memory", &self.memory, &other.memory),
+        ];
+        let differs = |(name, left, right): (&'static str, &Lent<u8>, &Lent<u8>)| {
+            left.first_difference(right).map(|place| (name, place))
+        };
+        let fields = self.fields.first_difference(&other.fields);
+        let in_fields = fields.map(|place| ("fields", place));
+        bytes.into_iter().find_map(differs).or(in_fields)
+    }
+}
+
+/// The call's inputs: the list in hexadecimal and the buffers' lengths.
+impl fmt::Display for Call {
+    fn fmt(&self, f: &mut fmt::Formatter) -> fmt::Result {
+        writeln!(
+            f,
+            "list ({} bytes): {}",
+            self.list.len(),
+            hexadecimal(self.list.slice())
+        )?;
+        match self.function {
+            Function::Check => Ok(()),
+            Function::Repair => {
+                writeln!(
+                    f,
+                    "work {} bytes, out {} bytes",
+                    self.work.len(),
+                    self.out.len()
+                )
+            }
+            Function::Draw => {
+                writeln!(
+                    f,
+                    "memory {} bytes, start {:#x}",
+                    self.memory.len(),
+                    self.start
+                )
+            }
+            Function::Decode => writeln!(f, "fields {}", self.fields.len()),
+            Function::Encode => self.describe_encoding(f),
+        }
+    }
+}
+
+impl Call {
+    fn describe_encoding(&self, f: &mut fmt::Formatter) -> fmt::Result {
+        writeln!(f, "command number {:#x}", self.number)?;
+        writeln!(f, "fields {:x?}", self.fields.slice())?;
+        writeln!(f, "suffix {}", hexadecimal(self.suffix.slice()))?;
+        writeln!(f, "out {} bytes", self.out.len())
+    }
+}
+
+fn hexadecimal(bytes: &[u8]) -> String {
+    bytes.iter().map(|byte| format!("{byte:02X}")).collect()
+}

@@ -1,0 +1,141 @@
+//! The calls of a case: its list or command, and buffers that are just enough,
+//! too short or longer.
+
+use crate::check::{check, walk, Syncs};
+use crate::comparison::calls::{Call, Function};
+use crate::comparison::encodings::encode_call;
+use crate::comparison::lent::Lent;
+use crate::comparison::rng::Rng;
+use crate::decode::decode;
+use crate::draw::{fills, Fill};
+use crate::kinds::{commands, Command};
+use crate::repair::{least_plan, with_plan, REPAIR_LIMIT, WORK_BYTES};
+use crate::words::WORD_BYTES;
+
+/// All calls of a case.
+pub fn calls(rng: &mut Rng, case: u64, list: &[u8]) -> Vec<Call> {
+    let place = rng.below(list.len() as u64 / 8 + 1) as usize;
+    let tail = &list[place * WORD_BYTES..];
+    vec![
+        check_call(rng, list),
+        decode_call(rng, list),
+        decode_call(rng, tail),
+        encode_call(rng, case),
+        repair_call(rng, list),
+        draw_call(rng, list),
+    ]
+}
+
+fn check_call(rng: &mut Rng, list: &[u8]) -> Call {
+    Call {
+        list: Lent::of(rng, list),
+        ..Call::of(Function::Check)
+    }
+}
+
+/// Decoding with exactly enough fields, one less, more, or none.
+fn decode_call(rng: &mut Rng, list: &[u8]) -> Call {
+    let needed = decode(list).map_or(0, |decoded| decoded.fields.len());
+    let more = rng.below(40) as usize;
+    let count = rng.pick(&[needed, needed, needed.saturating_sub(1), needed + more, 0]);
+    Call {
+        list: Lent::of(rng, list),
+        fields: Lent::random_numbers(rng, count),
+        ..Call::of(Function::Decode)
+    }
+}
+
+/// A buffer for `needed` bytes: exactly enough, a byte or a step too short,
+/// more than enough, or empty.
+pub fn room(rng: &mut Rng, needed: usize, step: usize) -> Lent<u8> {
+    let more = rng.between(1, 64) as usize;
+    let length = match rng.below(12) {
+        0 => needed.saturating_sub(1),
+        1 => needed.saturating_sub(step),
+        2..=4 => needed + more,
+        5 if rng.one_in(2) => 0,
+        _ => needed,
+    };
+    Lent::random(rng, length)
+}
+
+fn repair_call(rng: &mut Rng, list: &[u8]) -> Call {
+    let (work, out) = repair_needs(list).unwrap_or_else(|| {
+        let most = 2 * list.len() as u64 + 16;
+        (rng.below(most) as usize, rng.below(most) as usize)
+    });
+    Call {
+        list: Lent::of(rng, list),
+        work: room(rng, work, WORK_BYTES),
+        out: room(rng, out, WORD_BYTES),
+        ..Call::of(Function::Repair)
+    }
+}
+
+/// The bytes of work buffer and output that a repair needs, unless it is refused
+/// on grounds 1 to 6.
+fn repair_needs(list: &[u8]) -> Option<(usize, usize)> {
+    let walked = walk(list, REPAIR_LIMIT, Syncs::PassedOver);
+    walked.outcome.ok()?;
+    let given: Vec<Command> = commands(list).collect();
+    let written = with_plan(list, &given, &least_plan(&given).adds);
+    Some((given.len() * WORK_BYTES, written.len()))
+}
+
+/// The longest memory that a case lends.
+const MOST_MEMORY: u64 = 8 << 20;
+
+/// Memory that a case may lend from address 0 on.
+const LOW_MEMORY: u64 = 64 << 10;
+
+fn draw_call(rng: &mut Rng, list: &[u8]) -> Call {
+    let (start, length) = match touched(list) {
+        Some((first, last)) => memory_for(rng, first, last),
+        None => memory_anywhere(rng),
+    };
+    Call {
+        list: Lent::of(rng, list),
+        start,
+        memory: Lent::random(rng, length.min(MOST_MEMORY) as usize),
+        ..Call::of(Function::Draw)
+    }
+}
+
+/// The first and the last address that a list's fills write, if it passes the
+/// check and grounds 10 and 11, and writes any.
+fn touched(list: &[u8]) -> Option<(u64, u64)> {
+    check(list).outcome.ok()?;
+    let fills = fills(list, |_| true).ok()?;
+    let first = fills.iter().flat_map(Fill::addresses).min()?;
+    let last = fills.iter().flat_map(Fill::addresses).max()?;
+    Some((first, last))
+}
+
+/// A start and a length for fills that write from `first` to `last`.
+fn memory_for(rng: &mut Rng, first: u64, last: u64) -> (u64, u64) {
+    let before = first.saturating_sub(rng.below(80));
+    let slack = rng.below(80);
+    let near_end = u64::MAX - rng.below(100);
+    let low = last < LOW_MEMORY;
+    match rng.below(24) {
+        0..=5 => (first, last + 1 - first),
+        6 | 7 => (first, last - first),
+        8 | 9 => (first + 1, last - first),
+        10 | 11 if low => (0, last + 1),
+        12 if low => (0, last),
+        10..=17 => (before, last + 1 - before + slack),
+        18 => (first, 0),
+        19 => (before, slack),
+        20 => (near_end, slack),
+        // If sums of the start wrapped, all fills would lie inside.
+        21 | 22 if low => (near_end, last + 200),
+        _ => (rng.number(), slack),
+    }
+}
+
+/// Memory for a list that writes nothing.
+fn memory_anywhere(rng: &mut Rng) -> (u64, u64) {
+    let near_end = u64::MAX - rng.below(100);
+    let any = rng.number();
+    (rng.pick(&[0, 0, near_end, any]), rng.below(100))
+}

@@ -1,0 +1,77 @@
+//! How often each function gave each ground.
+
+use std::fmt;
+
+use crate::comparison::calls::Function;
+
+/// Counts for each function and each ground, 0 (accepted) to 15.
+#[derive(Clone, Debug, Default, PartialEq, Eq)]
+pub struct Counts {
+    counts: [[u64; 16]; 5],
+    /// Repairs whose plan was compared with all other plans.
+    pub searched: u64,
+}
+
+impl Counts {
+    pub fn count(&mut self, function: Function, ground: u8) {
+        self.counts[function as usize][usize::from(ground)] += 1;
+    }
+
+    pub fn of(&self, function: Function, ground: u8) -> u64 {
+        self.counts[function as usize][usize::from(ground)]
+    }
+
+    /// The grounds that a function can give and that were never reached.
+    pub fn missing(&self) -> Vec<(Function, u8)> {
+        Function::ALL
+            .into_iter()
+            .flat_map(|function| {
+                possible(function)
+                    .iter()
+                    .map(move |ground| (function, *ground))
+            })
+            .filter(|(function, ground)| self.of(*function, *ground) == 0)
+            .collect()
+    }
+}
+
+/// The grounds that a function can give, 01's "Order".
+pub fn possible(function: Function) -> &'static [u8] {
+    match function {
+        Function::Check => &[0, 1, 2, 3, 4, 5, 6, 7, 8, 9],
+        Function::Repair => &[0, 1, 2, 3, 4, 5, 6, 13, 14],
+        Function::Draw => &[0, 1, 2, 3, 4, 5, 6, 7, 8, 9, 10, 11, 12],
+        Function::Decode => &[0, 3, 14],
+        Function::Encode => &[0, 14, 15],
+    }
+}
+
+impl fmt::Display for Counts {
+    fn fmt(&self, f: &mut fmt::Formatter) -> fmt::Result {
+        write!(f, "ground")?;
+        for function in Function::ALL {
+            write!(f, "{:>10}", function.name())?;
+        }
+        writeln!(f)?;
+        for ground in 0..16 {
+            write!(f, "{ground:>6}")?;
+            for function in Function::ALL {
+                write_count(
+                    f,
+                    possible(function).contains(&ground),
+                    self.of(function, ground),
+                )?;
+            }
+            writeln!(f)?;
+        }
+        writeln!(f, "repairs compared with all plans: {}", self.searched)
+    }
+}
+
+fn write_count(f: &mut fmt::Formatter, possible: bool, count: u64) -> fmt::Result {
+    if possible || count > 0 {
+        write!(f, "{count:>10}")
+    } else {
+        write!(f, "{:>10}", "-")
+    }
+}

@@ -1,0 +1,152 @@
+//! What must hold of every repair, shown by search: the check alone decides
+//! which plans pass.
+
+use crate::check::check;
+use crate::comparison::rng::Rng;
+use crate::kinds::{commands, Command};
+use crate::repair::{bytes_of_command, with_plan, Add};
+use crate::words::command_number;
+
+/// Lists of up to this many commands are searched every time.
+const ALWAYS_SEARCHED: usize = 6;
+
+/// Lists of up to this many commands are searched now and then.
+const SOMETIMES_SEARCHED: usize = 9;
+
+/// Tests an accepted repair; answers whether its plan was compared with all
+/// others, or what is wrong.
+pub fn test_repair(
+    rng: &mut Rng,
+    list: &[u8],
+    written: &[u8],
+    cycles: u32,
+) -> Result<bool, String> {
+    test_written(list, written, cycles)?;
+    let count = commands(list).count();
+    let searched = count <= ALWAYS_SEARCHED || (count <= SOMETIMES_SEARCHED && rng.one_in(8));
+    if searched {
+        test_least(list, written, cycles)?;
+    }
+    Ok(searched)
+}
+
+/// The written list passes, and its cycles are the sum over the added words.
+fn test_written(list: &[u8], written: &[u8], cycles: u32) -> Result<(), String> {
+    if check(written).outcome.is_err() {
+        return Err("the repaired list does not pass the check".to_string());
+    }
+    if sync_cycles(written) != sync_cycles(list) + cycles {
+        return Err("the cycles are not the sum over the added syncs".to_string());
+    }
+    Ok(())
+}
+
+/// The cycles of all Sync Load, Tile and Pipe of a list.
+fn sync_cycles(list: &[u8]) -> u32 {
+    let cycles = |command: Command| match command_number(command.word) {
+        0x26 => 25,
+        0x28 => 33,
+        0x27 => 50,
+        _ => 0,
+    };
+    commands(list).map(cycles).sum()
+}
+
+/// No plan has fewer cycles, and of those with as many the written one is first
+/// in the order of ties.
+fn test_least(list: &[u8], written: &[u8], cycles: u32) -> Result<(), String> {
+    let given: Vec<Command> = commands(list).collect();
+    let search = Search {
+        list,
+        given: &given,
+        cycles,
+    };
+    if search.cheaper_plan(0, &mut Vec::new(), 0) {
+        return Err("a plan with fewer cycles passes".to_string());
+    }
+    let mut adds = Vec::new();
+    if !search.first_plan(&mut Vec::new(), &mut adds, 0) {
+        return Err("no plan with these cycles passes".to_string());
+    }
+    if with_plan(list, &given, &adds) != written {
+        return Err("another least plan is first in the order of ties".to_string());
+    }
+    Ok(())
+}
+
+/// A search among all plans for a list.
+struct Search<'a> {
+    list: &'a [u8],
+    given: &'a [Command],
+    /// The cycles of the answer.
+    cycles: u32,
+}
+
+impl Search<'_> {
+    /// Whether a plan with up to two syncs in each gap, the last one included,
+    /// passes with fewer cycles than the answer. `prefix` is the new list before
+    /// this gap. What does not pass does not pass with more words after it.
+    fn cheaper_plan(&self, gap: usize, prefix: &mut Vec<u8>, cycles: u32) -> bool {
+        if cycles >= self.cycles || check(prefix).outcome.is_err() {
+            return false;
+        }
+        if gap > self.given.len() {
+            return true;
+        }
+        let length = prefix.len();
+        gap_choices().any(|(first, second)| {
+            push_add(prefix, first);
+            push_add(prefix, second);
+            self.push_command(prefix, gap);
+            let cycles = cycles + first.cycles() + second.cycles();
+            let found = self.cheaper_plan(gap + 1, prefix, cycles);
+            prefix.truncate(length);
+            found
+        })
+    }
+
+    /// Finds the first plan, in the order of ties, that passes with the answer's
+    /// cycles: at most one sync before each command, none at the end.
+    fn first_plan(&self, prefix: &mut Vec<u8>, adds: &mut Vec<Add>, cycles: u32) -> bool {
+        if cycles > self.cycles || check(prefix).outcome.is_err() {
+            return false;
+        }
+        if adds.len() == self.given.len() {
+            return cycles == self.cycles;
+        }
+        let length = prefix.len();
+        for add in Add::ALL {
+            push_add(prefix, add);
+            self.push_command(prefix, adds.len());
+            adds.push(add);
+            if self.first_plan(prefix, adds, cycles + add.cycles()) {
+                return true;
+            }
+            adds.pop();
+            prefix.truncate(length);
+        }
+        false
+    }
+
+    /// Appends the command after a gap; after the last gap there is none.
+    fn push_command(&self, prefix: &mut Vec<u8>, gap: usize) {
+        if let Some(command) = self.given.get(gap) {
+            prefix.extend_from_slice(bytes_of_command(self.list, *command));
+        }
+    }
+}
+
+/// What may stand in a gap: nothing, one sync, or two.
+fn gap_choices() -> impl Iterator<Item = (Add, Add)> {
+    let two = |first: Add| Add::ALL.into_iter().map(move |second| (first, second));
+    Add::ALL
+        .into_iter()
+        .flat_map(two)
+        .filter(|(first, second)| *first != Add::Nothing || *second == Add::Nothing)
+}
+
+fn push_add(prefix: &mut Vec<u8>, add: Add) {
+    if let Some(word) = add.word() {
+        prefix.extend_from_slice(&word.to_be_bytes());
+    }
+}

@@ -1,0 +1,15 @@
+//! The comparison of this crate with a second side: seeded cases go through
+//! both, and every answer and every byte of every lent buffer must be the same.
+
+pub mod builder;
+pub mod calls;
+pub mod cases;
+pub mod counts;
+pub mod encodings;
+pub mod laws;
+pub mod lent;
+pub mod lists;
+pub mod rng;
+pub mod run;
+pub mod scenes;
+pub mod side;

@@ -1,0 +1,134 @@
+//! A run: every case through both sides.
+
+use std::fmt;
+use std::ops::Range;
+
+use crate::comparison::calls::{Call, Function};
+use crate::comparison::cases::calls;
+use crate::comparison::counts::Counts;
+use crate::comparison::laws;
+use crate::comparison::lists::list;
+use crate::comparison::rng::Rng;
+use crate::comparison::side::{Reference, Side};
+use crate::packed::Answer;
+use crate::words::WORD_BYTES;
+
+/// What went wrong first.
+#[derive(Clone, Debug)]
+pub struct Difference {
+    pub seed: u64,
+    pub case: u64,
+    /// The call as it was made.
+    pub call: Call,
+    pub reference: Answer,
+    pub other: Answer,
+    pub what: String,
+}
+
+/// Runs these cases, and counts the grounds reached, up to the first difference.
+pub fn run(other: &dyn Side, seed: u64, cases: Range<u64>) -> Result<Counts, Box<Difference>> {
+    let mut counts = Counts::default();
+    for case in cases {
+        run_case(other, seed, case, &mut counts)?;
+    }
+    Ok(counts)
+}
+
+fn run_case(
+    other: &dyn Side,
+    seed: u64,
+    case: u64,
+    counts: &mut Counts,
+) -> Result<(), Box<Difference>> {
+    let mut rng = Rng::of_case(seed, case);
+    let list = list(&mut rng, case);
+    for call in calls(&mut rng, case, &list) {
+        let compared = compare(other, &call);
+        let outcome = compared.same().and_then(|()| {
+            counts.count(call.function, compared.reference.number);
+            compared.laws(&mut rng, counts)
+        });
+        outcome.map_err(|what| {
+            Box::new(Difference {
+                seed,
+                case,
+                call: call.clone(),
+                reference: compared.reference,
+                other: compared.other,
+                what,
+            })
+        })?;
+    }
+    Ok(())
+}
+
+/// A call made on both sides: the answers, and all buffers afterwards.
+struct Compared {
+    reference: Answer,
+    other: Answer,
+    reference_after: Call,
+    other_after: Call,
+}
+
+fn compare(other: &dyn Side, call: &Call) -> Compared {
+    let mut reference_after = call.clone();
+    let mut other_after = call.clone();
+    let reference = reference_after.make(&Reference);
+    let other = other_after.make(other);
+    Compared {
+        reference: Answer::unpack(reference),
+        other: Answer::unpack(other),
+        reference_after,
+        other_after,
+    }
+}
+
+impl Compared {
+    /// The same answer, and the same bytes in every buffer and every guard.
+    fn same(&self) -> Result<(), String> {
+        if self.reference != self.other {
+            return Err("the answers differ".to_string());
+        }
+        if self.reference_after == self.other_after {
+            return Ok(());
+        }
+        let (buffer, place) = self
+            .reference_after
+            .first_difference(&self.other_after)
+            .expect("some buffer differs");
+        Err(format!("buffer {buffer} differs first at {place}"))
+    }
+
+    /// The laws of an accepted repair.
+    fn laws(&self, rng: &mut Rng, counts: &mut Counts) -> Result<(), String> {
+        let answer = self.reference;
+        let call = &self.reference_after;
+        if call.function != Function::Repair || answer.number != 0 {
+            return Ok(());
+        }
+        let written = &call.out.slice()[..answer.place as usize * WORD_BYTES];
+        let searched = laws::test_repair(rng, call.list.slice(), written, answer.third)?;
+        counts.searched += u64::from(searched);
+        Ok(())
+    }
+}
+
+impl fmt::Display for Difference {
+    fn fmt(&self, f: &mut fmt::Formatter) -> fmt::Result {
+        let name = self.call.function.name();
+        writeln!(f, "{name}: {}", self.what)?;
+        writeln!(f, "seed {}, case {}", self.seed, self.case)?;
+        write!(f, "{}", self.call)?;
+        writeln!(f, "reference: {}", parts(self.reference))?;
+        writeln!(f, "other:     {}", parts(self.other))
+    }
+}
+
+fn parts(answer: Answer) -> String {
+    let Answer {
+        number,
+        place,
+        third,
+    } = answer;
+    format!("number {number}, place {place}, third {third}")
+}

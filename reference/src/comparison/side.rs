@@ -1,0 +1,37 @@
+//! The two sides of the comparison.
+
+use crate::packed;
+
+/// The C functions, over slices. Every answer is one packed 64-bit number.
+pub trait Side {
+    fn check(&self, list: &[u8]) -> u64;
+    fn repair(&self, list: &[u8], work: &mut [u8], out: &mut [u8]) -> u64;
+    fn draw(&self, list: &[u8], memory: &mut [u8], start: u64) -> u64;
+    fn decode(&self, list: &[u8], fields: &mut [u64]) -> u64;
+    fn encode(&self, number: u32, fields: &[u64], suffix: &[u8], out: &mut [u8]) -> u64;
+}
+
+/// This crate.
+pub struct Reference;
+
+impl Side for Reference {
+    fn check(&self, list: &[u8]) -> u64 {
+        packed::check(list)
+    }
+
+    fn repair(&self, list: &[u8], work: &mut [u8], out: &mut [u8]) -> u64 {
+        packed::repair(list, work, out)
+    }
+
+    fn draw(&self, list: &[u8], memory: &mut [u8], start: u64) -> u64 {
+        packed::draw(list, memory, start)
+    }
+
+    fn decode(&self, list: &[u8], fields: &mut [u64]) -> u64 {
+        packed::decode(list, fields)
+    }
+
+    fn encode(&self, number: u32, fields: &[u64], suffix: &[u8], out: &mut [u8]) -> u64 {
+        packed::encode(number, fields, suffix, out)
+    }
+}

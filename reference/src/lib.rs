@@ -1,0 +1,18 @@
+//! A second, independent implementation of the rules of paper 01 about command
+//! lists of the Nintendo 64's display processor (RDP), written from the papers
+//! alone. It is naive on purpose: each function follows one sentence of 01
+//! ("01" below) or one table of the N64brew command page ("000" below).
+
+pub mod answer;
+pub mod check;
+pub mod comparison;
+pub mod decode;
+pub mod draw;
+pub mod encode;
+pub mod fields;
+pub mod kinds;
+pub mod marks;
+pub mod packed;
+pub mod registers;
+pub mod repair;
+pub mod words;

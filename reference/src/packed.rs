@@ -1,0 +1,96 @@
+//! The answers as the C functions give them, each in one 64-bit number: bits
+//! 63:56 the number, bits 31:0 the place (words written, at 0), bits 55:32 the
+//! third number (cycles for repair, command number for decode, else 0).
+
+use crate::answer::{Ground, Refusal};
+use crate::{check, decode, draw, encode, repair};
+
+/// An answer in its three parts.
+#[derive(Clone, Copy, Debug, PartialEq, Eq)]
+pub struct Answer {
+    pub number: u8,
+    pub place: u32,
+    pub third: u32,
+}
+
+impl Answer {
+    pub fn pack(self) -> u64 {
+        assert!(self.third < 1 << 24, "the third number has 24 bits");
+        u64::from(self.number) << 56 | u64::from(self.third) << 32 | u64::from(self.place)
+    }
+
+    pub fn unpack(packed: u64) -> Answer {
+        Answer {
+            number: (packed >> 56) as u8,
+            place: packed as u32,
+            third: (packed >> 32) as u32 & 0xFF_FFFF,
+        }
+    }
+}
+
+fn accepted(place: usize, third: u32) -> u64 {
+    let place = u32::try_from(place).expect("a place has 32 bits");
+    Answer {
+        number: 0,
+        place,
+        third,
+    }
+    .pack()
+}
+
+/// A refusal's third number is 0.
+fn refused(refusal: Refusal) -> u64 {
+    let place = u32::try_from(refusal.place).expect("a place has 32 bits");
+    Answer {
+        number: refusal.ground as u8,
+        place,
+        third: 0,
+    }
+    .pack()
+}
+
+/// `lanyardrove_check`.
+pub fn check(list: &[u8]) -> u64 {
+    match check::check(list).outcome {
+        Ok(words) => accepted(words, 0),
+        Err(refusal) => refused(refusal),
+    }
+}
+
+/// `lanyardrove_repair`.
+pub fn repair(list: &[u8], work: &mut [u8], out: &mut [u8]) -> u64 {
+    match repair::repair(list, work, out) {
+        Ok(repaired) => accepted(repaired.words, repaired.cycles),
+        Err(refusal) => refused(refusal),
+    }
+}
+
+/// `lanyardrove_draw`.
+pub fn draw(list: &[u8], memory: &mut [u8], start: u64) -> u64 {
+    match draw::draw(list, memory, start) {
+        Ok(words) => accepted(words, 0),
+        Err(refusal) => refused(refusal),
+    }
+}
+
+/// `lanyardrove_decode`: 3 as decoding, then 14 with the count needed.
+pub fn decode(list: &[u8], fields: &mut [u64]) -> u64 {
+    let decoded = match decode::decode(list) {
+        Ok(decoded) => decoded,
+        Err(refusal) => return refused(refusal),
+    };
+    let count = decoded.fields.len();
+    if fields.len() < count {
+        return refused(Refusal::new(Ground::OutputTooShort, count));
+    }
+    fields[..count].copy_from_slice(&decoded.fields);
+    accepted(count, u32::from(decoded.number))
+}
+
+/// `lanyardrove_encode`.
+pub fn encode(number: u32, fields: &[u64], suffix: &[u8], out: &mut [u8]) -> u64 {
+    match encode::encode(number, fields, suffix, out) {
+        Ok(words) => accepted(words, 0),
+        Err(refusal) => refused(refusal),
+    }
+}

@@ -1,0 +1,164 @@
+//! The comparison itself: the reference agrees with itself and reaches every
+//! ground, and a second side with one fault is found out.
+
+use reference::comparison::calls::Function;
+use reference::comparison::run::{run, Difference};
+use reference::comparison::side::{Reference, Side};
+
+const SEED: u64 = 7;
+const CASES: u64 = 4_000;
+
+#[test]
+fn the_reference_agrees_with_itself() {
+    let counts = run(&Reference, SEED, 0..CASES).unwrap_or_else(|difference| {
+        panic!("{difference}");
+    });
+    assert_eq!(counts.missing(), []);
+    assert!(counts.searched > 500, "{}", counts.searched);
+}
+
+/// One fault of a second side that is right otherwise.
+#[derive(Clone, Copy, Debug, PartialEq)]
+enum Fault {
+    /// The place is one off at ground 9.
+    PlaceAtGround9,
+    /// One painted byte is wrong.
+    MemoryByte,
+    /// A refused draw has written one byte.
+    MemoryAtRefusal,
+    /// The work buffer is not cleared.
+    WorkKept,
+    /// At ground 14 the output is written as far as it goes.
+    OutputAtGround14,
+    /// A byte after the words written is changed.
+    OutputBeyond,
+    /// The cycles are one too many.
+    Cycles,
+    /// A field after those of the command is changed.
+    FieldBeyond,
+    /// A signed field loses its sign.
+    Sign,
+    /// Encoding refuses 14 before 15.
+    EncodingOrder,
+}
+
+/// The reference with one fault.
+struct Faulty(Fault);
+
+fn ground(answer: u64) -> u64 {
+    answer >> 56
+}
+
+fn flip_last(bytes: &mut [u8]) {
+    if let Some(byte) = bytes.last_mut() {
+        *byte ^= 0xFF;
+    }
+}
+
+impl Side for Faulty {
+    fn check(&self, list: &[u8]) -> u64 {
+        let answer = Reference.check(list);
+        let off = self.0 == Fault::PlaceAtGround9 && ground(answer) == 9;
+        answer + u64::from(off)
+    }
+
+    fn repair(&self, list: &[u8], work: &mut [u8], out: &mut [u8]) -> u64 {
+        let received = work.to_vec();
+        let answer = Reference.repair(list, work, out);
+        let written = answer as u32 as usize * 8;
+        match (self.0, ground(answer)) {
+            (Fault::WorkKept, 0) => work.copy_from_slice(&received),
+            (Fault::OutputAtGround14, 14) => flip_last(out),
+            (Fault::OutputBeyond, 0) => flip_last(&mut out[written..]),
+            (Fault::Cycles, 0) => return answer + (1 << 32),
+            _ => {}
+        }
+        answer
+    }
+
+    fn draw(&self, list: &[u8], memory: &mut [u8], start: u64) -> u64 {
+        let answer = Reference.draw(list, memory, start);
+        match (self.0, ground(answer)) {
+            (Fault::MemoryByte, 0) | (Fault::MemoryAtRefusal, 12) => flip_last(memory),
+            _ => {}
+        }
+        answer
+    }
+
+    fn decode(&self, list: &[u8], fields: &mut [u64]) -> u64 {
+        let answer = Reference.decode(list, fields);
+        let written = if ground(answer) == 0 {
+            answer as u32
+        } else {
+            0
+        };
+        let (command, beyond) = fields.split_at_mut(written as usize);
+        match self.0 {
+            Fault::FieldBeyond => beyond.iter_mut().for_each(|field| *field = 0),
+            Fault::Sign => command
+                .iter_mut()
+                .for_each(|field| *field &= 0x7FFF_FFFF_FFFF_FFFF),
+            _ => {}
+        }
+        answer
+    }
+
+    fn encode(&self, number: u32, fields: &[u64], suffix: &[u8], out: &mut [u8]) -> u64 {
+        if self.0 == Fault::EncodingOrder && out.is_empty() {
+            return 14 << 56 | 1;
+        }
+        Reference.encode(number, fields, suffix, out)
+    }
+}
+
+/// The difference that the comparison reports of a fault.
+fn found(fault: Fault) -> Difference {
+    match run(&Faulty(fault), SEED, 0..CASES) {
+        Ok(_) => panic!("{fault:?} was not found"),
+        Err(difference) => *difference,
+    }
+}
+
+#[test]
+fn every_fault_is_found_in_its_function() {
+    let faults = [
+        (Fault::PlaceAtGround9, Function::Check),
+        (Fault::MemoryByte, Function::Draw),
+        (Fault::MemoryAtRefusal, Function::Draw),
+        (Fault::WorkKept, Function::Repair),
+        (Fault::OutputAtGround14, Function::Repair),
+        (Fault::OutputBeyond, Function::Repair),
+        (Fault::Cycles, Function::Repair),
+        (Fault::FieldBeyond, Function::Decode),
+        (Fault::Sign, Function::Decode),
+        (Fault::EncodingOrder, Function::Encode),
+    ];
+    for (fault, function) in faults {
+        assert_eq!(found(fault).call.function, function, "{fault:?}");
+    }
+}
+
+#[test]
+fn a_difference_names_all_that_repeats_it() {
+    let difference = found(Fault::PlaceAtGround9);
+    assert_eq!(difference.reference.place + 1, difference.other.place);
+    let case = difference.case;
+    let again = run(&Faulty(Fault::PlaceAtGround9), SEED, case..case + 1);
+    assert_eq!(
+        again.expect_err("differs").to_string(),
+        difference.to_string()
+    );
+    let report = difference.to_string();
+    assert!(report.starts_with("check: the answers differ\nseed 7, case "));
+    assert!(report.contains("reference: number 9, place "));
+}
+
+#[test]
+fn a_wrong_byte_is_named_with_its_buffer() {
+    let difference = found(Fault::MemoryByte);
+    let last = difference.call.memory.len() - 1;
+    assert_eq!(
+        difference.what,
+        format!("buffer memory differs first at {last}")
+    );
+}

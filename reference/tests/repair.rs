@@ -1,0 +1,105 @@
+//! The repair against a search among all plans.
+
+mod common;
+
+use common::*;
+use reference::comparison::laws::test_repair;
+use reference::comparison::rng::Rng;
+use reference::words::bytes_of;
+
+const TEXTURED: [u64; 2] = [0x2400_0000_0000_0000, 0];
+const SET_TILE: u64 = 0x3500_0000_0000_0000;
+
+/// The kinds of commands that matter to a repair, one of each.
+const ALPHABET: [&[u64]; 9] = [
+    &[R],
+    &TEXTURED,
+    &[L],
+    &[SET_TILE],
+    &[C],
+    &[N],
+    &[SYNC_LOAD],
+    &[SYNC_TILE],
+    &[SYNC_PIPE],
+];
+
+/// Tests the words written for a list by a search.
+fn tested(list: &[u64], written: &[u64], cycles: u32) -> Result<bool, String> {
+    let mut rng = Rng::new(1);
+    test_repair(&mut rng, &bytes_of(list), &bytes_of(written), cycles)
+}
+
+#[test]
+fn every_list_of_setup_and_three_commands() {
+    let mut rng = Rng::new(1);
+    for choice in 0..9usize.pow(3) {
+        let picks = [choice % 9, choice / 9 % 9, choice / 81];
+        let words = picks.map(|pick| ALPHABET[pick]).concat();
+        let list = after_setup(&words);
+        let (written, cycles) = repaired(&list);
+        let outcome = test_repair(&mut rng, &bytes_of(&list), &written, cycles);
+        assert_eq!(outcome, Ok(true), "{list:x?}");
+    }
+}
+
+#[test]
+fn search_finds_a_cheaper_plan() {
+    let list = after_setup(&[R, L, C]);
+    let each_need = after_setup(&[R, SYNC_LOAD, L, SYNC_PIPE, C]);
+    let outcome = tested(&list, &each_need, 75);
+    assert_eq!(outcome, Err("a plan with fewer cycles passes".to_string()));
+}
+
+#[test]
+fn search_finds_an_earlier_plan() {
+    let list = after_setup(&[R, N, C]);
+    let too_early = after_setup(&[R, SYNC_PIPE, N, C]);
+    let expected = "another least plan is first in the order of ties";
+    assert_eq!(tested(&list, &too_early, 50), Err(expected.to_string()));
+}
+
+#[test]
+fn a_copy_and_an_invented_total_are_found() {
+    let list = after_setup(&[R, C]);
+    let expected = "the repaired list does not pass the check";
+    assert_eq!(tested(&list, &list, 0), Err(expected.to_string()));
+    let written = after_setup(&[R, SYNC_PIPE, C]);
+    let expected = "the cycles are not the sum over the added syncs";
+    assert_eq!(tested(&list, &written, 49), Err(expected.to_string()));
+}
+
+#[test]
+fn load_goes_before_pipe() {
+    let list = after_setup(&[R, L, C, R]);
+    let expected = after_setup(&[R, SYNC_LOAD, L, SYNC_PIPE, C, R]);
+    assert_eq!(repaired(&list), (bytes_of(&expected), 75));
+}
+
+#[test]
+fn load_goes_before_tile() {
+    let [first, second] = TEXTURED;
+    let list = after_setup(&[first, second, L, SET_TILE, R]);
+    let expected = after_setup(&[first, second, SYNC_LOAD, L, SYNC_TILE, SET_TILE, R]);
+    assert_eq!(repaired(&list), (bytes_of(&expected), 58));
+}
+
+#[test]
+fn a_sync_full_at_the_end_takes_nothing_after_it() {
+    let list = after_setup(&[R, SYNC_FULL]);
+    assert_eq!(repaired(&list), (bytes_of(&list), 0));
+}
+
+#[test]
+fn a_long_list_with_many_needs() {
+    let mut words = after_setup(&[]);
+    let mut expected = words.clone();
+    for _ in 0..680 {
+        words.extend([R, L, C]);
+        expected.extend([R, SYNC_LOAD, L, SYNC_PIPE, C]);
+    }
+    words.extend([R, L, C]);
+    expected.extend([R, SYNC_PIPE, L, C]);
+    let (written, cycles) = repaired(&words);
+    assert_eq!(cycles, 680 * 75 + 50);
+    assert!(written == bytes_of(&expected));
+}
