@@ -1,5 +1,6 @@
-//! With the feature `compare`, links the archive `liblanyardrove.a` from the
-//! folder that the environment variable LANYARDROVE_LIB names.
+//! With the features `compare` and `bench`, links the archive `liblanyardrove.a`
+//! from the folder that the environment variable LANYARDROVE_LIB names. With the
+//! features `plain` and `bench`, compiles and links the plain C version.
 //!
 //! The archive may itself be written in Rust and then carries a panic handler or
 //! parts of the standard library under the names that this program uses too. So
@@ -7,7 +8,7 @@
 //! their outside names.
 
 use std::env;
-use std::path::Path;
+use std::path::{Path, PathBuf};
 use std::process::Command;
 
 const FUNCTIONS: [&str; 5] = [
@@ -21,20 +22,37 @@ const FUNCTIONS: [&str; 5] = [
 fn main() {
     println!("cargo:rerun-if-changed=build.rs");
     println!("cargo:rerun-if-env-changed=LANYARDROVE_LIB");
-    if env::var_os("CARGO_FEATURE_COMPARE").is_some() {
+    println!("cargo:rerun-if-env-changed=CC");
+    if has_feature("COMPARE") || has_feature("BENCH") {
         link_archive();
     }
+    if has_feature("PLAIN") {
+        link_plain();
+    }
+    if has_feature("BENCH") {
+        name_compilers();
+    }
+}
+
+fn has_feature(name: &str) -> bool {
+    env::var_os(format!("CARGO_FEATURE_{name}")).is_some()
+}
+
+/// A file of that name among those that cargo keeps for this build.
+fn output(name: &str) -> PathBuf {
+    Path::new(&env::var("OUT_DIR").expect("cargo names a folder")).join(name)
 }
 
 fn link_archive() {
     let folder =
         env::var("LANYARDROVE_LIB").expect("LANYARDROVE_LIB names the folder of liblanyardrove.a");
     let archive = Path::new(&folder).join("liblanyardrove.a");
-    let out = env::var("OUT_DIR").expect("cargo names a folder");
-    let object = Path::new(&out).join("lanyardrove.o");
+    let object = output("lanyardrove.o");
     println!("cargo:rerun-if-changed={}", archive.display());
     seal(&archive, &object);
-    println!("cargo:rustc-link-arg-bin=compare={}", object.display());
+    for program in ["compare", "bench"] {
+        println!("cargo:rustc-link-arg-bin={program}={}", object.display());
+    }
 }
 
 /// Joins the archive's objects into one that offers the C functions alone.
@@ -51,7 +69,38 @@ fn seal(archive: &Path, object: &Path) {
     run(hide.arg(object));
 }
 
+fn link_plain() {
+    let source = "../bench/plain.c";
+    let object = output("plain.o");
+    println!("cargo:rerun-if-changed={source}");
+    println!("cargo:rerun-if-changed=../bench/plain.h");
+    run(Command::new(c_compiler())
+        .args(["-O2", "-Wall", "-Wextra", "-c", source, "-o"])
+        .arg(&object));
+    println!("cargo:rustc-link-arg-bin=bench={}", object.display());
+    println!("cargo:rustc-link-arg-tests={}", object.display());
+}
+
+fn c_compiler() -> String {
+    env::var("CC").unwrap_or("cc".to_string())
+}
+
+/// The compilers' versions, for the benchmark's heading.
+fn name_compilers() {
+    let rustc = env::var("RUSTC").expect("cargo names the compiler");
+    println!("cargo:rustc-env=BENCH_RUSTC={}", version_of(&rustc));
+    println!("cargo:rustc-env=BENCH_CC={}", version_of(&c_compiler()));
+}
+
+/// The first line of what a compiler says of its version.
+fn version_of(compiler: &str) -> String {
+    let output = Command::new(compiler).arg("--version").output();
+    let output = output.expect("the compiler runs");
+    let text = String::from_utf8_lossy(&output.stdout);
+    text.lines().next().unwrap_or_default().to_string()
+}
+
 fn run(command: &mut Command) {
-    let status = command.status().expect("the tool of the binutils runs");
+    let status = command.status().expect("the tool runs");
     assert!(status.success(), "{command:?} failed");
 }

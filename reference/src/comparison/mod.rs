@@ -6,6 +6,7 @@ pub mod calls;
 pub mod cases;
 pub mod counts;
 pub mod encodings;
+pub mod foreign;
 pub mod laws;
 pub mod lent;
 pub mod lists;

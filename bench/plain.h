@@ -1,0 +1,13 @@
+/* The plain C version of check, repair and draw, against which the library is measured. The functions take and answer what the library's do. */
+#ifndef PLAIN_H
+#define PLAIN_H
+
+#include <stddef.h>
+#include <stdint.h>
+
+/* Every answer is one number: bits 63:56 the number of the refusal or 0, bits 55:32 the cycles of a repair, bits 31:0 the place. */
+uint64_t plain_check(const uint8_t *list, size_t list_length);
+uint64_t plain_repair(const uint8_t *list, size_t list_length, uint8_t *work, size_t work_length, uint8_t *out, size_t out_length);
+uint64_t plain_draw(const uint8_t *list, size_t list_length, uint8_t *memory, size_t memory_length, uint64_t start);
+
+#endif

@@ -1,0 +1,47 @@
+//! Before anything is measured: all versions must accept every list and leave the
+//! same bytes.
+
+use std::ops::Range;
+
+use crate::rows::{Buffers, Job, Row};
+use crate::versions::{Version, VERSIONS};
+
+/// What differs, if anything does.
+pub fn test(row: &Row) -> Result<(), String> {
+    let (_, first) = VERSIONS[0];
+    let expected = outcome(row, first);
+    for (name, version) in VERSIONS {
+        if outcome(row, version) != expected {
+            return Err(format!("{}: {name} differs from the first", row.name));
+        }
+    }
+    let (answer, mut buffers) = expected;
+    if answer >> 56 != 0 {
+        return Err(format!("{}: refused with {answer:#018x}", row.name));
+    }
+    if let Job::Draw(runs) = &row.job {
+        return test_runs(row, runs, buffers.memory());
+    }
+    Ok(())
+}
+
+/// A version's answer and all that it was lent, afterwards.
+fn outcome(row: &Row, version: &dyn Version) -> (u64, Buffers) {
+    let mut buffers = Buffers::new(row);
+    let answer = row.call(version, &mut buffers);
+    (answer, buffers)
+}
+
+/// Memory was zero and no colour has a zero byte: the runs for memset must be the
+/// bytes painted.
+fn test_runs(row: &Row, runs: &[Range<usize>], memory: &[u8]) -> Result<(), String> {
+    let mut painted = vec![false; memory.len()];
+    for run in runs {
+        painted[run.clone()].fill(true);
+    }
+    if memory.iter().map(|byte| *byte != 0).eq(painted) {
+        Ok(())
+    } else {
+        Err(format!("{}: other bytes are painted than meant", row.name))
+    }
+}

@@ -1,0 +1,250 @@
+//! The lists that are measured. Each is the same in every run.
+
+use reference::comparison::rng::Rng;
+use reference::kinds::words;
+use reference::words::bytes_of;
+
+const NO_OPERATION: u8 = 0x00;
+const TEXTURE_RECTANGLE: u8 = 0x24;
+const SYNC_LOAD: u8 = 0x26;
+const SYNC_PIPE: u8 = 0x27;
+const SYNC_FULL: u8 = 0x29;
+const SET_SCISSOR: u8 = 0x2D;
+const SET_OTHER_MODES: u8 = 0x2F;
+const SET_TILE_SIZE: u8 = 0x32;
+const LOAD_BLOCK: u8 = 0x33;
+const LOAD_TILE: u8 = 0x34;
+const SET_TILE: u8 = 0x35;
+const FILL_RECTANGLE: u8 = 0x36;
+const SET_FILL_COLOR: u8 = 0x37;
+const SET_PRIM_COLOR: u8 = 0x3A;
+const SET_COMBINE_MODE: u8 = 0x3C;
+const SET_TEXTURE_IMAGE: u8 = 0x3D;
+const SET_DEPTH_IMAGE: u8 = 0x3E;
+const SET_COLOR_IMAGE: u8 = 0x3F;
+
+/// The picture that every list draws into.
+pub const WIDTH: u64 = 320;
+pub const HEIGHT: u64 = 240;
+
+/// Cycle types.
+const ONE_CYCLE: u64 = 0;
+const FILL: u64 = 3;
+
+/// A rectangle in pixels.
+#[derive(Clone, Copy)]
+pub struct Rectangle {
+    pub x: u64,
+    pub y: u64,
+    pub width: u64,
+    pub height: u64,
+}
+
+/// A picture's pixels, by the size field of Set Color Image.
+#[derive(Clone, Copy)]
+pub enum Pixels {
+    Bits16 = 2,
+    Bits32 = 3,
+}
+
+impl Pixels {
+    pub fn bytes(self) -> u64 {
+        match self {
+            Pixels::Bits16 => 2,
+            Pixels::Bits32 => 4,
+        }
+    }
+}
+
+fn word(number: u8, bits: u64) -> u64 {
+    u64::from(number) << 56 | bits
+}
+
+fn modes(cycle_type: u64) -> u64 {
+    word(SET_OTHER_MODES, cycle_type << 52)
+}
+
+fn color_image(pixels: Pixels) -> u64 {
+    word(SET_COLOR_IMAGE, (pixels as u64) << 51 | (WIDTH - 1) << 32)
+}
+
+fn scissor() -> u64 {
+    word(SET_SCISSOR, (4 * WIDTH) << 12 | (4 * HEIGHT))
+}
+
+/// A fill colour without a zero byte, so that every painted byte can be seen.
+fn fill_color(rng: &mut Rng) -> u64 {
+    word(SET_FILL_COLOR, rng.number() >> 32 | 0x0101_0101)
+}
+
+fn fill_rectangle(r: Rectangle) -> u64 {
+    let (right, bottom) = (r.x + r.width - 1, r.y + r.height - 1);
+    let corners = (4 * right) << 44 | (4 * bottom) << 32 | (4 * r.x) << 12 | (4 * r.y);
+    word(FILL_RECTANGLE, corners)
+}
+
+/// What a draw asks for.
+fn setup(cycle_type: u64, pixels: Pixels) -> Vec<u64> {
+    vec![modes(cycle_type), color_image(pixels), scissor()]
+}
+
+/// A command with random bits in all its fields.
+fn random(rng: &mut Rng, number: u8) -> Vec<u64> {
+    let mut command: Vec<u64> = (0..words(number)).map(|_| rng.number()).collect();
+    command[0] = word(number, command[0] >> 8);
+    command
+}
+
+/// One-word commands that neither draw nor set what a draw asks for.
+const QUIET: &[u8] = &[
+    0x00, 0x10, 0x26, 0x27, 0x28, 0x2A, 0x2B, 0x2C, 0x2E, 0x30, 0x31, 0x32, 0x33, 0x34, 0x35, 0x37,
+    0x38, 0x39, 0x3A, 0x3B, 0x3C, 0x3D, 0x3E,
+];
+
+pub fn quiet(length: usize) -> Vec<u8> {
+    let mut rng = Rng::new(1);
+    let list: Vec<u64> = (0..length)
+        .map(|_| {
+            let number = rng.pick(QUIET);
+            random(&mut rng, number)[0]
+        })
+        .collect();
+    bytes_of(&list)
+}
+
+/// A change of material as a game writes it: modes, a texture load with its
+/// syncs, the tile to draw with.
+const MATERIAL: &[u8] = &[
+    SYNC_PIPE,
+    SET_OTHER_MODES,
+    SET_COMBINE_MODE,
+    SET_PRIM_COLOR,
+    SET_TEXTURE_IMAGE,
+    SET_TILE,
+    SYNC_LOAD,
+    LOAD_BLOCK,
+    SYNC_PIPE,
+    SET_TILE,
+    SET_TILE_SIZE,
+];
+
+/// A triangle of any kind, a texture rectangle or a fill rectangle.
+fn shape(rng: &mut Rng) -> Vec<u64> {
+    let triangle = rng.between(0x08, 0x0F) as u8;
+    let number = match rng.below(8) {
+        0 => triangle,
+        1..=4 => TEXTURE_RECTANGLE,
+        _ => FILL_RECTANGLE,
+    };
+    random(rng, number)
+}
+
+/// The picture cleared, and then materials with the shapes that have them: a
+/// little more than so many words.
+fn game(rng: &mut Rng, length: usize) -> Vec<Vec<u64>> {
+    let whole = Rectangle {
+        x: 0,
+        y: 0,
+        width: WIDTH,
+        height: HEIGHT,
+    };
+    let clear = [fill_color(rng), fill_rectangle(whole)];
+    let mut commands = vec![random(rng, SET_DEPTH_IMAGE)];
+    commands.extend(
+        setup(FILL, Pixels::Bits16)
+            .into_iter()
+            .map(|word| vec![word]),
+    );
+    commands.extend(clear.map(|word| vec![word]));
+    while commands.iter().map(Vec::len).sum::<usize>() < length {
+        commands.extend(MATERIAL.iter().map(|number| random(rng, *number)));
+        commands.extend((0..rng.between(2, 6)).map(|_| shape(rng)));
+    }
+    commands
+}
+
+/// As many of the commands as leave a word for a Sync Full, which ends the list.
+fn ended(commands: Vec<Vec<u64>>, length: usize) -> Vec<u8> {
+    let mut list = Vec::new();
+    for command in commands {
+        if list.len() + command.len() >= length {
+            break;
+        }
+        list.extend(command);
+    }
+    list.resize(length - 1, word(NO_OPERATION, 0));
+    list.push(word(SYNC_FULL, 0));
+    bytes_of(&list)
+}
+
+pub fn mixed(length: usize) -> Vec<u8> {
+    let mut rng = Rng::new(2);
+    ended(game(&mut rng, length), length)
+}
+
+/// The longest triangles, of 22 words.
+pub fn triangles(length: usize) -> Vec<u8> {
+    let mut rng = Rng::new(3);
+    let mut commands = vec![setup(ONE_CYCLE, Pixels::Bits16)];
+    commands.extend((0..length / 22).map(|_| random(&mut rng, 0x0F)));
+    ended(commands, length)
+}
+
+/// Draws, loads and settings of one and two words without any sync.
+const NEEDY: &[u8] = &[
+    FILL_RECTANGLE,
+    TEXTURE_RECTANGLE,
+    LOAD_TILE,
+    SET_TILE,
+    SET_TILE_SIZE,
+    SET_FILL_COLOR,
+    SET_COMBINE_MODE,
+];
+
+pub fn needy(length: usize) -> Vec<u8> {
+    let mut rng = Rng::new(4);
+    let mut list = setup(ONE_CYCLE, Pixels::Bits16);
+    while list.len() + 1 < length {
+        let number = rng.pick(NEEDY);
+        list.extend(random(&mut rng, number));
+    }
+    list.resize(length, word(NO_OPERATION, 0));
+    bytes_of(&list)
+}
+
+/// One rectangle.
+pub fn fill(pixels: Pixels, rectangle: Rectangle) -> Vec<u8> {
+    fills(pixels, &[rectangle])
+}
+
+/// Rectangles of one colour.
+pub fn fills(pixels: Pixels, rectangles: &[Rectangle]) -> Vec<u8> {
+    let mut list = setup(FILL, pixels);
+    list.push(fill_color(&mut Rng::new(5)));
+    list.extend(rectangles.iter().map(|r| fill_rectangle(*r)));
+    bytes_of(&list)
+}
+
+/// Rectangles, each with its own colour.
+pub fn colored_fills(pixels: Pixels, rectangles: &[Rectangle]) -> Vec<u8> {
+    let mut rng = Rng::new(6);
+    let mut list = setup(FILL, pixels);
+    for r in rectangles {
+        list.push(word(SYNC_PIPE, 0));
+        list.push(fill_color(&mut rng));
+        list.push(fill_rectangle(*r));
+    }
+    bytes_of(&list)
+}
+
+/// Squares of eight pixels, anywhere in the picture.
+pub fn squares(count: usize) -> Vec<Rectangle> {
+    let mut rng = Rng::new(7);
+    let square = |_| Rectangle {
+        x: rng.between(0, WIDTH - 8),
+        y: rng.between(0, HEIGHT - 8),
+        width: 8,
+        height: 8,
+    };
+    (0..count).map(square).collect()
+}
