@@ -1,0 +1,62 @@
+# Fault-finding at the C boundary; see fuzz/README.md. For a top Makefile: include fuzz/fuzz.mk
+#   make fuzz           each driver for FUZZ_SECONDS, one after the other
+#   make fuzz-wrong     that the drivers find the faults of fuzz/wrong.c, a few seconds for each at most
+#   make fuzz-memcheck  every function under valgrind
+FUZZ_ARCHIVE ?= build/liblanyardrove.a
+FUZZ_OUT ?= build/fuzz
+FUZZ_SECONDS ?= 600
+FUZZ_DRIVERS := check repair draw decode encode
+FUZZ_FLAGS := -std=gnu17 -O2 -g -Wall -Wextra -Iinclude -Ifuzz
+FUZZ_COMMON := fuzz/lent.c fuzz/lists.c fuzz/fields.c fuzz/mutate.c fuzz/blocks.c
+FUZZ_HEADERS := fuzz/lent.h fuzz/lists.h fuzz/fields.h fuzz/library.h $(wildcard include/lanyardrove.h)
+FUZZ_NAMES := $(FUZZ_DRIVERS:%=-u lanyardrove_%)
+
+# the versions of fuzz/wrong.c that each driver has to find
+FUZZ_WRONG := check:1 check:2 check:3 check:4 check:5 check:6 repair:11 repair:12 repair:13 repair:14 repair:15 repair:16 \
+    draw:21 draw:22 draw:23 draw:24 draw:25 decode:31 decode:32 decode:33 decode:34 encode:41 encode:42 encode:43 encode:44 encode:45
+
+.PHONY: fuzz-build fuzz fuzz-wrong fuzz-memcheck
+fuzz-build: $(FUZZ_DRIVERS:%=$(FUZZ_OUT)/%) $(FUZZ_OUT)/blocks $(FUZZ_OUT)/memcheck
+
+fuzz: $(FUZZ_DRIVERS:%=$(FUZZ_OUT)/%.log)
+	python3 fuzz/blocks.py $(FUZZ_OUT)/blocks $(FUZZ_DRIVERS:%=$(FUZZ_OUT)/%.reached)
+
+fuzz-memcheck: $(FUZZ_OUT)/memcheck
+	valgrind --error-exitcode=1 --leak-check=full --show-leak-kinds=all $< examples/*.rdp
+
+$(FUZZ_OUT)/lanyardrove.o: $(FUZZ_ARCHIVE) fuzz/join.ld
+	mkdir -p $(FUZZ_OUT)
+	ld -r -T fuzz/join.ld $(FUZZ_NAMES) -o $@ $<
+
+$(FUZZ_OUT)/blocks: $(FUZZ_OUT)/lanyardrove.o fuzz/blocks.py
+	python3 fuzz/blocks.py $< > $@
+
+$(FUZZ_DRIVERS:%=$(FUZZ_OUT)/%): $(FUZZ_OUT)/%: fuzz/%.c $(FUZZ_COMMON) $(FUZZ_HEADERS) $(FUZZ_OUT)/lanyardrove.o
+	clang $(FUZZ_FLAGS) -fsanitize=fuzzer,address -o $@ $< $(FUZZ_COMMON) $(FUZZ_OUT)/lanyardrove.o
+
+$(FUZZ_OUT)/memcheck: fuzz/memcheck.c fuzz/lent.c fuzz/lists.c fuzz/fields.c $(FUZZ_HEADERS) $(FUZZ_ARCHIVE)
+	mkdir -p $(FUZZ_OUT)
+	clang $(FUZZ_FLAGS) -o $@ fuzz/memcheck.c fuzz/lent.c fuzz/lists.c fuzz/fields.c $(FUZZ_ARCHIVE)
+
+# The library's functions renamed, behind those of fuzz/wrong.c
+$(FUZZ_OUT)/wrong.o: $(FUZZ_OUT)/lanyardrove.o fuzz/wrong.c
+	objcopy $(foreach d,$(FUZZ_DRIVERS),--redefine-sym lanyardrove_$(d)=right_$(d)) $< $(FUZZ_OUT)/right.o
+	clang $(FUZZ_FLAGS) -c -o $(FUZZ_OUT)/wrong-only.o fuzz/wrong.c
+	ld -r -o $@ $(FUZZ_OUT)/right.o $(FUZZ_OUT)/wrong-only.o
+
+$(FUZZ_DRIVERS:%=$(FUZZ_OUT)/wrong-%): $(FUZZ_OUT)/wrong-%: fuzz/%.c $(FUZZ_COMMON) $(FUZZ_HEADERS) $(FUZZ_OUT)/wrong.o
+	clang $(FUZZ_FLAGS) -fsanitize=fuzzer,address -o $@ $< $(FUZZ_COMMON) $(FUZZ_OUT)/wrong.o
+
+fuzz-wrong: $(FUZZ_DRIVERS:%=$(FUZZ_OUT)/wrong-%)
+	for one in $(FUZZ_WRONG); do driver=$${one%:*}; rm -rf $(FUZZ_OUT)/wrong.corpus; mkdir $(FUZZ_OUT)/wrong.corpus; \
+	    if WRONG=$${one#*:} $(FUZZ_OUT)/wrong-$$driver -max_total_time=10 -max_len=4096 -len_control=0 -artifact_prefix=$(FUZZ_OUT)/wrong- \
+	        $(FUZZ_OUT)/wrong.corpus > $(FUZZ_OUT)/wrong.log 2>&1; \
+	    then echo "$$one not found"; exit 1; else echo "$$one found: $$(grep -m1 -E 'DEMAND|SUMMARY' $(FUZZ_OUT)/wrong.log)"; fi; done
+
+# The corpus begins with document 01's examples, behind settings that are all zero. An input that fails is left in $(FUZZ_OUT) as DRIVER-crash-..
+$(FUZZ_OUT)/%.log: $(FUZZ_OUT)/% $(FUZZ_OUT)/blocks examples/*.rdp
+	mkdir -p $(FUZZ_OUT)/$*.corpus
+	for list in examples/*.rdp; do (head -c 24 /dev/zero; cat $$list) > $(FUZZ_OUT)/$*.corpus/$$(basename $$list); done
+	FUZZ_BLOCKS=$(FUZZ_OUT)/blocks FUZZ_REACHED=$(FUZZ_OUT)/$*.reached $< -max_total_time=$(FUZZ_SECONDS) -timeout=10 -max_len=4096 -len_control=0 \
+	    -print_final_stats=1 -artifact_prefix=$(FUZZ_OUT)/$*- $(FUZZ_OUT)/$*.corpus > $@ 2>&1 || (tail -40 $@; mv $@ $@.failed; false)
+	grep -E '^(answers|blocks|Done|stat::number)' $@

@@ -1,0 +1,22 @@
+// The C functions under test, and the parts of their answers.
+#ifndef FUZZ_LIBRARY_H
+#define FUZZ_LIBRARY_H
+#include <stddef.h>
+#include <stdint.h>
+
+#if __has_include("lanyardrove.h")
+#include "lanyardrove.h"
+#else
+uint64_t lanyardrove_check(const uint8_t *list, size_t list_length);
+uint64_t lanyardrove_repair(const uint8_t *list, size_t list_length, uint8_t *work, size_t work_length, uint8_t *out, size_t out_length);
+uint64_t lanyardrove_draw(const uint8_t *list, size_t list_length, uint8_t *memory, size_t memory_length, uint64_t start);
+uint64_t lanyardrove_decode(const uint8_t *list, size_t list_length, uint64_t *fields, size_t count);
+uint64_t lanyardrove_encode(uint32_t number, const uint64_t *fields, size_t count, const uint8_t *suffix, size_t suffix_length, uint8_t *out,
+                            size_t out_length);
+#endif
+
+static inline unsigned number_of(uint64_t answer) { return (unsigned)(answer >> 56); }
+static inline unsigned third_of(uint64_t answer) { return (unsigned)(answer >> 32) & 0xFFFFFF; }
+static inline uint32_t place_of(uint64_t answer) { return (uint32_t)answer; }
+
+#endif

@@ -1,0 +1,120 @@
+// For valgrind: every function on every list that is named, on lists at the limits of length, on lists that end inside a command, with buffers from nothing to
+// more than enough, and with null pointers of length 0. Buffers that are only written are lent undefined; what is written must be defined.
+#include "fields.h"
+#include "library.h"
+#include "lists.h"
+#include <stdio.h>
+#include <stdlib.h>
+#include <string.h>
+#include <valgrind/memcheck.h>
+
+static unsigned long calls, undefined;
+
+// An exact buffer on the heap; NULL for length 0 where null says so
+static uint8_t *exact(size_t length, bool null) { return length == 0 && null ? NULL : malloc(length); }
+
+static uint8_t *copy(const void *bytes, size_t length, bool null) {
+    uint8_t *made = exact(length, null);
+    if (length) memcpy(made, bytes, length);
+    return made;
+}
+
+static void written(const void *bytes, size_t length) {
+    if (length && VALGRIND_CHECK_MEM_IS_DEFINED(bytes, length)) undefined++;
+}
+
+static void one_repair(const uint8_t *list, size_t length, size_t work_length, size_t out_length, bool null) {
+    uint8_t *work = exact(work_length, null), *out = exact(out_length, null);
+    const uint64_t answer = lanyardrove_repair(list, length, work, work_length, out, out_length);
+    calls++;
+    written(&answer, sizeof answer);
+    const unsigned number = number_of(answer);
+    if (number == 0) written(out, 8 * (size_t)place_of(answer));
+    if (number == 0 || number == 14) written(work, 16 * commands_of(list, length / 8));
+    free(work);
+    free(out);
+}
+
+static void one_decode(const uint8_t *list, size_t length, size_t count, bool null) {
+    uint64_t *fields = (uint64_t *)(void *)exact(8 * count, null);
+    const uint64_t answer = lanyardrove_decode(list, length, fields, count);
+    calls++;
+    written(&answer, sizeof answer);
+    if (number_of(answer) == 0) written(fields, 8 * (size_t)place_of(answer));
+    free(fields);
+}
+
+static void one_list(const uint8_t *bytes, size_t length) {
+    for (int null = 0; null < 2; null++) {
+        uint8_t *list = copy(bytes, length, null);
+        const uint64_t check = lanyardrove_check(list, length);
+        calls++;
+        written(&check, sizeof check);
+        const size_t room[] = {0, 1, 15, 16, length, 2 * length, 2 * length + 8, 40000};
+        for (size_t w = 0; w < sizeof room / sizeof *room; w++)
+            for (size_t o = 0; o < sizeof room / sizeof *room; o++) one_repair(list, length, room[w], room[o], null);
+        const uint64_t starts[] = {0, 1, 18, 64, 0x3FFFFC0, UINT64_MAX - 3, UINT64_MAX};
+        const size_t memories[] = {0, 1, 4, 37, 38, 64, 4099};
+        for (size_t s = 0; s < sizeof starts / sizeof *starts; s++)
+            for (size_t m = 0; m < sizeof memories / sizeof *memories; m++) {
+                uint8_t *memory = exact(memories[m], null);
+                const uint64_t answer = lanyardrove_draw(list, length, memory, memories[m], starts[s]);
+                calls++;
+                written(&answer, sizeof answer);
+                free(memory);
+            }
+        for (size_t count = 0; count < MOST_FIELDS; count++) one_decode(list, length, count, null);
+        free(list);
+    }
+}
+
+// Each command number, with all bits set, cut at every byte, decoded and encoded again
+static void one_number(unsigned number) {
+    const struct shape *shape = shape_of(number);
+    uint8_t bytes[8 * MOST_WORDS + 8];
+    memset(bytes, 0xFF, sizeof bytes);
+    bytes[0] = (uint8_t)number;
+    for (size_t length = 0; length <= 8 * shape->words + 8; length++) {
+        uint8_t *list = copy(bytes, length, true);
+        const uint64_t check = lanyardrove_check(list, length);
+        calls++;
+        written(&check, sizeof check);
+        one_decode(list, length, shape->count, false);
+        free(list);
+    }
+    uint64_t fields[MOST_FIELDS + 1] = {0};
+    lanyardrove_decode(bytes, 8 * shape->words, fields, MOST_FIELDS);
+    const size_t suffix_length = 8 * (shape->words - shape->base);
+    for (size_t count = shape->count ? shape->count - 1 : 0; count <= shape->count + 1; count++)
+        for (size_t more = 0; more < 2; more++)
+            for (size_t out_length = 0; out_length <= 8 * shape->words + 8; out_length += 1 + out_length % 8) {
+                uint8_t *given = copy(fields, 8 * count, true), *suffix = copy(bytes + 8, suffix_length + more, true), *out = exact(out_length, true);
+                const uint64_t answer = lanyardrove_encode(number, (uint64_t *)(void *)given, count, suffix, suffix_length + more, out, out_length);
+                calls++;
+                written(&answer, sizeof answer);
+                if (number_of(answer) == 0) written(out, 8 * (size_t)place_of(answer));
+                free(given);
+                free(suffix);
+                free(out);
+            }
+}
+
+int main(int count, char **names) {
+    static uint8_t list[LONGEST_LIST];
+    for (int i = 1; i < count; i++) {
+        FILE *file = fopen(names[i], "rb");
+        if (!file) return 2;
+        const size_t length = fread(list, 1, sizeof list, file);
+        fclose(file);
+        one_list(list, length);
+        if (length) one_list(list, length - 1);
+    }
+    memset(list, 0, sizeof list);
+    const size_t limits[] = {16376, 16384, 16385, 16392, 32760, 32768, 32769, 32776};
+    for (size_t i = 0; i < sizeof limits / sizeof *limits; i++) one_list(list, limits[i]);
+    for (unsigned number = 0; number < 64; number++) one_number(number);
+    lanyardrove_encode(64, NULL, 0, NULL, 0, NULL, 0);
+    lanyardrove_encode(UINT32_MAX, NULL, 0, NULL, 0, NULL, 0);
+    printf("%lu calls, %lu with undefined bytes written\n", calls + 2, undefined);
+    return undefined != 0;
+}

@@ -1,0 +1,171 @@
+// A mutator that knows commands: the library is not instrumented, so the fuzzer is helped to lists that go deep.
+#include "library.h"
+#include "lists.h"
+#include <string.h>
+
+size_t LLVMFuzzerMutate(uint8_t *data, size_t size, size_t max_size);
+
+static uint64_t state;
+static uint64_t any(void) {
+    state ^= state << 13;
+    state ^= state >> 7;
+    state ^= state << 17;
+    return state * 0x2545F4914F6CDD1Dull;
+}
+static unsigned below(unsigned bound) { return (unsigned)((any() >> 33) % bound); }
+
+static void put_word(uint8_t *at, uint64_t word) {
+    for (int i = 0; i < 8; i++) at[i] = (uint8_t)(word >> (56 - 8 * i));
+}
+
+static uint64_t small_corner(void) { return below(4) ? below(80) << 12 | below(80) : below(4096) << 12 | below(4096); }
+
+// The first word of a command of some number, with fields that are often near those that matter.
+static uint64_t some_word(unsigned number) {
+    uint64_t word = (uint64_t)number << 56;
+    if (below(64) == 0) word |= any() << 62;  // ignored bits
+    switch (number) {
+    case 0x2D: return word | (below(3) ? 0 : small_corner()) << 32 | (below(4) ? 0 : below(4)) << 24 | (below(2) ? 0x100100 : small_corner());
+    case 0x2F: return word | (uint64_t)(below(4) ? 3 : below(4)) << 52 | (below(4) ? 0 : any() & 0x0FFFFFFFFFFFFF);
+    case 0x3F:
+        return word | (uint64_t)below(8) << 53 | (uint64_t)(below(8) ? 1 + below(3) : 0) << 51 | (uint64_t)(below(4) ? below(33) : below(1024)) << 32 |
+               (below(8) ? below(64) * 64 : any() & 0x3FFFFFF);
+    case 0x36: return word | small_corner() << 32 | (below(3) ? (uint64_t)below(24) << 12 | below(24) : small_corner());
+    case 0x26: case 0x27: case 0x28: case 0x29: return word | (below(8) ? 0 : any() & 0xFFFFFFFFFFFFFF);
+    default: return word | (below(4) ? any() & 0xFFFFFFFFFFFFFF : 0);
+    }
+}
+
+static unsigned some_number(void) {
+    static const uint8_t common[] = {0x36, 0x36, 0x36, 0x24, 0x25, 0x08, 0x0A, 0x0F, 0x30, 0x33, 0x34, 0x34, 0x35, 0x35, 0x37, 0x37, 0x3F, 0x2F, 0x2D,
+                                     0x26, 0x27, 0x27, 0x28, 0x3C, 0x3D, 0x3A, 0x00, 0x32};
+    return below(5) ? common[below(sizeof common)] : below(60) ? below(64) : 0x29;
+}
+
+// Some whole commands, at most max bytes; returns how many bytes.
+static size_t some_commands(uint8_t *at, size_t max, unsigned count) {
+    size_t length = 0;
+    while (count--) {
+        unsigned number = some_number();
+        size_t need = 8 * words_of(number);
+        if (length + need > max) break;
+        put_word(at + length, some_word(number));
+        for (size_t i = 8; i < need; i += 8) put_word(at + length + i, below(2) ? any() : 0);
+        length += need;
+    }
+    return length;
+}
+
+static size_t setup(uint8_t *at, size_t max) {
+    if (max < 32) return 0;
+    put_word(at, some_word(0x2F));
+    put_word(at + 8, some_word(0x3F));
+    put_word(at + 16, some_word(0x2D));
+    put_word(at + 24, some_word(0x37));
+    return below(4) ? 32 : 24;
+}
+
+// A place of a command, in bytes: a walk from the front for a random number of commands.
+static size_t some_place(const uint8_t *list, size_t length) {
+    size_t words = length / 8, at = 0, steps = words ? below((unsigned)words + 1) : 0;
+    while (steps-- && at < words) {
+        size_t next = whole_at(list, words, at);
+        if (!next) break;
+        at += next;
+    }
+    return 8 * at;
+}
+
+static size_t command_bytes(const uint8_t *list, size_t length, size_t at) {
+    if (at + 8 > length) return length - at;
+    size_t need = 8 * words_of(command_number(list + at));
+    return at + need > length ? length - at : need;
+}
+
+static void change_settings(uint8_t *settings) {
+    switch (below(7)) {
+    case 0: settings[0] = (uint8_t)any(); break;
+    case 1: settings[1] = below(3) ? 0 : below(2) ? (uint8_t)(248 + below(8)) : (uint8_t)below(64); break;
+    case 2: settings[2] = below(4) ? 0 : (uint8_t)any(); break;
+    case 3: settings[3] = (uint8_t)any(); break;
+    case 4: settings[4] = (uint8_t)any(); break;
+    case 5: {
+        uint64_t start = any() >> below(64);
+        memcpy(settings + 9, &start, 8);
+        break;
+    }
+    default: {
+        unsigned at = 5 + below(SETTINGS - 5);
+        settings[at] = below(2) ? (uint8_t)any() : (uint8_t)(settings[at] ^ 1u << below(8));
+    }
+    }
+}
+
+static size_t repaired(uint8_t *list, size_t length, size_t max) {
+    static uint8_t work[32768], out[32768];
+    uint64_t answer = lanyardrove_repair(list, length, work, sizeof work, out, sizeof out);
+    size_t need = 8 * (size_t)place_of(answer);
+    if (number_of(answer) || need > max) return length;
+    memcpy(list, out, need);
+    return need;
+}
+
+static size_t change_list(uint8_t *list, size_t length, size_t max) {
+    static uint8_t fresh[512];
+    size_t at = some_place(list, length), here = command_bytes(list, length, at), more;
+    switch (below(9)) {
+    case 0:
+    case 1:  // insert some commands
+        more = some_commands(fresh, max - length < sizeof fresh ? max - length : sizeof fresh, 1 + below(3));
+        memmove(list + at + more, list + at, length - at);
+        memcpy(list + at, fresh, more);
+        return length + more;
+    case 2:  // drop one
+        memmove(list + at, list + at + here, length - at - here);
+        return length - here;
+    case 3: {  // one again, elsewhere
+        if (here > sizeof fresh || here > max - length) return length;
+        memcpy(fresh, list + at, here);
+        size_t to = some_place(list, length);
+        memmove(list + to + here, list + to, length - to);
+        memcpy(list + to, fresh, here);
+        return length + here;
+    }
+    case 4:  // a bit of one
+        if (here) list[at + below((unsigned)here)] ^= (uint8_t)(1u << below(8));
+        return length;
+    case 5:  // its first word afresh
+        if (here >= 8) put_word(list + at, some_word(below(2) ? command_number(list + at) : some_number()));
+        return length;
+    case 6: {  // a new list
+        size_t made = below(8) ? setup(list, max) : 0;
+        return made + some_commands(list + made, max - made, 1 + below(below(4) ? 12 : 120));
+    }
+    case 7:  // the setting up in front
+        more = setup(fresh, max - length);
+        memmove(list + more, list, length);
+        memcpy(list, fresh, more);
+        return length + more;
+    default:  // with the syncs that it misses
+        return repaired(list, length, max);
+    }
+}
+
+size_t LLVMFuzzerCustomMutator(uint8_t *data, size_t size, size_t max_size, unsigned seed) {
+    state = seed * 0x9E3779B97F4A7C15ull + 1;
+    if (max_size < SETTINGS + 64) return LLVMFuzzerMutate(data, size, max_size);
+    if (size < SETTINGS) {
+        memset(data + size, 0, SETTINGS - size);
+        size = SETTINGS;
+    }
+    for (unsigned times = 1 + below(3); times--;) {
+        unsigned way = below(10);
+        if (way == 0) {
+            size_t length = LLVMFuzzerMutate(data + SETTINGS, size - SETTINGS, max_size - SETTINGS);
+            size = SETTINGS + (below(8) ? length / 8 * 8 : length);
+        }
+        else if (way < 4) change_settings(data);
+        else size = SETTINGS + change_list(data + SETTINGS, size - SETTINGS, max_size - SETTINGS);
+    }
+    return size;
+}

@@ -1,0 +1,76 @@
+// Wrong versions of the library, to see that the drivers find faults: WRONG=1.. chooses one. The functions right_.. are the library's own, renamed.
+#include <stddef.h>
+#include <stdint.h>
+#include <stdlib.h>
+#include <string.h>
+
+uint64_t right_check(const uint8_t *list, size_t length);
+uint64_t right_repair(const uint8_t *list, size_t length, uint8_t *work, size_t work_length, uint8_t *out, size_t out_length);
+uint64_t right_draw(const uint8_t *list, size_t length, uint8_t *memory, size_t memory_length, uint64_t start);
+uint64_t right_decode(const uint8_t *list, size_t length, uint64_t *fields, size_t count);
+uint64_t right_encode(uint32_t number, const uint64_t *fields, size_t count, const uint8_t *suffix, size_t suffix_length, uint8_t *out, size_t out_length);
+
+static volatile uint8_t read;
+
+static int wrong(int version) {
+    static int chosen = -1;
+    if (chosen < 0) chosen = getenv("WRONG") ? atoi(getenv("WRONG")) : 0;
+    return chosen == version;
+}
+
+uint64_t lanyardrove_check(const uint8_t *list, size_t length) {
+    if (wrong(1)) read = list[length];
+    if (wrong(2) && length > 100) read = list[-1];
+    const uint64_t a = right_check(list, length), number = a >> 56;
+    if (wrong(3) && number == 7) return a + (1ull << 32);             // a third number
+    if (wrong(4) && number == 8) return length / 8;                   // accepts
+    if (wrong(5) && number == 6) return a + 1;                        // place
+    if (wrong(6) && number == 0 && length > 200) return 9ull << 56 | 3;  // refuses
+    return a;
+}
+
+uint64_t lanyardrove_repair(const uint8_t *list, size_t length, uint8_t *work, size_t work_length, uint8_t *out, size_t out_length) {
+    const uint64_t a = right_repair(list, length, work, work_length, out, out_length), number = a >> 56, cycles = a >> 32 & 0xFFFFFF;
+    const size_t words = (uint32_t)a;
+    if (wrong(11) && number == 14 && work_length) work[0] = 1;               // work buffer not zero
+    if (wrong(12) && number == 14 && out_length) out[out_length - 1] ^= 1;   // writes and refuses
+    if (wrong(13) && number == 0 && cycles > 100) return a + (1ull << 32);   // invented cycles
+    if (wrong(14) && number == 0)                                            // Pipe where Load is enough
+        for (size_t i = 0; i < words; i++)
+            if (memcmp(out + 8 * i, "\x26\0\0\0\0\0\0", 8) == 0) {
+                out[8 * i] = 0x27;
+                return a + (25ull << 32);
+            }
+    if (wrong(15) && number == 0 && 8 * words < out_length) out[8 * words] ^= 1;  // beyond what is written
+    if (wrong(16) && number == 13) return a + 1;                             // place
+    return a;
+}
+
+uint64_t lanyardrove_draw(const uint8_t *list, size_t length, uint8_t *memory, size_t memory_length, uint64_t start) {
+    const uint64_t a = right_draw(list, length, memory, memory_length, start), number = a >> 56;
+    if (wrong(21) && number == 0) memory[memory_length] = 1;
+    if (wrong(22) && number == 12 && memory_length) memory[memory_length / 2] ^= 1;  // paints and refuses
+    if (wrong(23) && number == 0 && memory_length > 5) memory[5] ^= 0x10;            // a byte that no fill covers
+    if (wrong(24) && number == 11) return a + 1;                                     // place
+    if (wrong(25) && number == 0 && memory_length > 65 && memory[64] == memory[65]) memory[64] = 0;  // another colour
+    return a;
+}
+
+uint64_t lanyardrove_decode(const uint8_t *list, size_t length, uint64_t *fields, size_t count) {
+    const uint64_t a = right_decode(list, length, fields, count), number = a >> 56;
+    if (wrong(31) && number == 0) fields[(uint32_t)a] = 0;                        // a field more
+    if (wrong(32) && number == 14 && count) fields[0] = 0;                        // writes and refuses
+    if (wrong(33) && number == 0 && (list[0] & 63) == 0x2D) fields[2] = 0;        // a constant field
+    if (wrong(34) && length) read = list[length];
+    return a;
+}
+
+uint64_t lanyardrove_encode(uint32_t n, const uint64_t *fields, size_t count, const uint8_t *suffix, size_t suffix_length, uint8_t *out, size_t out_length) {
+    const uint64_t a = right_encode(n, fields, count, suffix, suffix_length, out, out_length), number = a >> 56;
+    if (wrong(41) && number == 15 && out_length) out[0] = 0;                                // writes and refuses
+    if (wrong(42) && number == 0 && n == 0x2D) out[4] |= 0x80;                              // an unused bit
+    if (wrong(43) && number == 0 && n == 0x0D) out[32] ^= 1;                                // a bit of the suffix
+    if (wrong(44) && number == 15 && n < 64 && out_length < 8) return 14ull << 56 | 1;      // 14 before 15
+    if (wrong(45) && number == 0) read = suffix[suffix_length];
+    return a;
+}
