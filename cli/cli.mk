@@ -29,7 +29,7 @@ cli: $(CLI_TOOL)
 $(CLI_TOOL): $(CLI_OBJECTS) $(CLI_LIBRARY)
 	$(CC) $(CLI_CFLAGS) $(LDFLAGS) -o $@ $(CLI_OBJECTS) $(CLI_LIBRARY) $(CLI_PNG_LIBS) $(CLI_LIBS)
 
-$(CLI_BUILD)/cli/%.o: cli/%.c cli/cli.h $(CLI_INCLUDE)/lanyardrove.h
+$(CLI_BUILD)/cli/%.o: cli/%.c cli/cli.h cli/report.h $(CLI_INCLUDE)/lanyardrove.h
 	@mkdir -p $(@D)
 	$(CC) $(CLI_CFLAGS) $(CPPFLAGS) $(CLI_WARNINGS) -Icli -I$(CLI_INCLUDE) $(CLI_PNG_CFLAGS) -c -o $@ $<
 
