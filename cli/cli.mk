@@ -34,6 +34,7 @@ $(CLI_BUILD)/cli/%.o: cli/%.c cli/cli.h cli/report.h $(CLI_INCLUDE)/lanyardrove.
 	$(CC) $(CLI_CFLAGS) $(CPPFLAGS) $(CLI_WARNINGS) -Icli -I$(CLI_INCLUDE) $(CLI_PNG_CFLAGS) -c -o $@ $<
 
 cli-test: cli
+	CLI_LIBRARY='$(CLI_LIBRARY)' CLI_INCLUDE='$(CLI_INCLUDE)' CLI_BUILD='$(CLI_BUILD)' CLI_LIBS='$(CLI_LIBS)' \
 	$(PYTHON) cli/tests/run.py $(CLI_TOOL)
 
 # The installed files, under $(DESTDIR)$(PREFIX).

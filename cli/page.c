@@ -16,6 +16,7 @@ static const char style[] =
     ".inserted td{background:#e3f4e5;color:#14571f}\n"
     ".strip{display:grid;grid-template-columns:3.5rem 1fr;column-gap:.5rem;font-size:.8rem}\n"
     ".strip .labels div{height:12px;line-height:12px;text-align:right}.strip svg{width:100%;height:48px;background:#f2f2f2;display:block}\n"
+    ".beside{display:grid;grid-template-columns:repeat(auto-fit,minmax(20rem,1fr));column-gap:2rem}\n"
     ".picture img{image-rendering:pixelated;max-width:100%;border:1px solid #888}\n";
 
 static void add_head(Text *text, const Report *report)
@@ -99,14 +100,15 @@ static void add_repair(Text *text, const Report *report)
         text_add(text, "<p>No sync is missing.</p>\n");
         return;
     }
-    text_add(text, "<p>%zu inserted, %u cycles:</p>\n<ul id=\"inserted\">\n", mended->count, (unsigned)mended->answer.third);
+    text_add(text, "<details%s><summary>%zu %s inserted, %u cycles</summary>\n<ul id=\"inserted\">\n", mended->count <= 20 ? " open" : "",
+             mended->count, mended->count == 1 ? "sync is" : "syncs are", (unsigned)mended->answer.third);
     for (size_t i = 0; i < mended->count; i++) {
         Command command;
         if (command_at(&report->list, mended->inserted[i].place, &command))
             text_add(text, "<li>%s before word %zu, %s</li>\n", command_name(mended->inserted[i].number), command.place,
                      command_name(command.number));
     }
-    text_add(text, "</ul>\n");
+    text_add(text, "</ul></details>\n");
 }
 
 static void add_picture(Text *text, const Report *report)
@@ -139,8 +141,11 @@ void page_add(Text *text, const Report *report)
     add_head(text, report);
     add_verdict(text, report);
     add_hazards(text, report);
+    text_add(text, "<div class=\"beside\">\n<section>\n");
     add_repair(text, report);
+    text_add(text, "</section>\n<section>\n");
     add_picture(text, report);
+    text_add(text, "</section>\n</div>\n");
     table_add(text, report);
     text_add(text, "</body>\n</html>\n");
 }

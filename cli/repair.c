@@ -13,7 +13,7 @@ static void print_insertions(FILE *text, const List *list, const Mended *mended)
         const char *name = command_at(list, mended->inserted[i].place, &command) ? command_name(command.number) : "?";
         fprintf(text, "%s before word %zu, %s\n", command_name(mended->inserted[i].number), mended->inserted[i].place, name);
     }
-    fprintf(text, "%zu inserted, %u cycles, %u words\n", mended->count, (unsigned)mended->answer.third,
+    fprintf(text, "%zu inserted, %u cycles, %u words in all\n", mended->count, (unsigned)mended->answer.third,
             (unsigned)mended->answer.place);
 }
 

@@ -3,6 +3,8 @@
 
 #include <inttypes.h>
 
+#define MANY_FIELDS 14 /* Set Other Modes and the triangles have more */
+
 static void add_words(Text *text, const List *list, const Command *command)
 {
     size_t left = list->length / 8 - command->place;
@@ -10,13 +12,21 @@ static void add_words(Text *text, const List *list, const Command *command)
         text_add(text, "%s%016" PRIX64, i > 0 ? "<br>" : "", word_at(list->bytes, command->place + i));
 }
 
+/* The fields of a command; of a command with many, those that are not 0. */
 static void add_fields(Text *text, const Command *command)
 {
+    size_t zeros = 0;
     for (size_t i = 0; command->whole && i < command->count; i++) {
         char value[64];
+        if (command->count > MANY_FIELDS && command->fields[i] == 0) {
+            zeros++;
+            continue;
+        }
         field_value(command, i, value, sizeof value);
         text_add(text, "<span class=\"field\">%s <b>%s</b></span> ", field_name(command->number, i), value);
     }
+    if (zeros > 0)
+        text_add(text, "<span class=\"field\">%s%zu fields are 0</span>", zeros < command->count ? "the other " : "all ", zeros);
 }
 
 /* Why a command is refused. */

@@ -3,9 +3,13 @@
 
     cli/tests/run.py build/lanyardrove
 """
+import base64
+import html.parser
 import os
 import random
 import re
+import resource
+import shutil
 import struct
 import subprocess
 import sys
@@ -385,12 +389,12 @@ def dump_has_colour_on_a_terminal_only():
 @test
 def repair_inserts_the_least_syncs():
     for name, text, expected in (
-            ("j.rdp", "Sync Pipe before word 4, Load Tile\n1 inserted, 50 cycles, 7 words\n", [*S, R, PIPE, L, C]),
-            ("k.rdp", "Sync Load before word 4, Load Tile\nSync Load before word 5, Fill Rectangle\n2 inserted, 50 cycles, 8 words\n",
+            ("j.rdp", "Sync Pipe before word 4, Load Tile\n1 inserted, 50 cycles, 7 words in all\n", [*S, R, PIPE, L, C]),
+            ("k.rdp", "Sync Load before word 4, Load Tile\nSync Load before word 5, Fill Rectangle\n2 inserted, 50 cycles, 8 words in all\n",
              [*S, R, LOAD, L, LOAD, R]),
-            ("m.rdp", "Sync Pipe before word 5, Set Fill Color\n1 inserted, 50 cycles, 7 words\n", [*S, R, N, PIPE, C]),
-            ("i.rdp", "0 inserted, 0 cycles, 5 words\n", [*S, C, R]),
-            ("a.rdp", "0 inserted, 0 cycles, 0 words\n", [])):
+            ("m.rdp", "Sync Pipe before word 5, Set Fill Color\n1 inserted, 50 cycles, 7 words in all\n", [*S, R, N, PIPE, C]),
+            ("i.rdp", "0 inserted, 0 cycles, 5 words in all\n", [*S, C, R]),
+            ("a.rdp", "0 inserted, 0 cycles, 0 words in all\n", [])):
         same(run("repair", example(name), "-o", "out.rdp"), (0, text, ""), name)
         same(read("out.rdp"), words(*expected), name)
         same(run("check", "-q", "out.rdp")[0], 0, name)
@@ -418,14 +422,14 @@ def repair_writes_nothing_at_a_refusal():
     same((status, out), (1, "1 2048\nthe list is over 16,384 bytes\n"))
     same(sorted(os.listdir(".")), ["kept.rdp", "long.rdp"])
     write("longest.rdp", bytes(16384))
-    same(run("repair", "longest.rdp", "-o", "new.rdp")[:2], (0, "0 inserted, 0 cycles, 2048 words\n"))
+    same(run("repair", "longest.rdp", "-o", "new.rdp")[:2], (0, "0 inserted, 0 cycles, 2048 words in all\n"))
 
 
 @test
 def repair_of_the_list_with_most_syncs():
     write("in.rdp", words(*S, *[R, L] * 1022, R))
     status, out, err = run("repair", "in.rdp", "-o", "out.rdp")
-    same((status, out.split("\n")[-2]), (0, f"2044 inserted, {2044 * 25} cycles, {2048 + 2044} words"))
+    same((status, out.split("\n")[-2]), (0, f"2044 inserted, {2044 * 25} cycles, {2048 + 2044} words in all"))
     same(run("check", "-q", "out.rdp")[1], f"0 {2048 + 2044}\n")
 
 
@@ -450,13 +454,26 @@ def outputs_are_written_whole_or_not_at_all():
     same(sorted(os.listdir(".")), ["folder", "link.rdp", "real.rdp"])
 
 
+@test
+def a_file_that_cannot_be_finished_is_not_left():
+    def limit():
+        resource.setrlimit(resource.RLIMIT_FSIZE, (1000, 1000))
+    write("in.rdp", bytes(8000))
+    write("kept.rdp", b"as it was")
+    # Python ignores SIGXFSZ and the tool then gets an error from write
+    done = subprocess.run([TOOL, "repair", "in.rdp", "-o", "kept.rdp"], capture_output=True, preexec_fn=limit, restore_signals=False)
+    same((done.returncode, done.stdout), (2, b""))
+    assert b"kept.rdp: File too large" in done.stderr, done.stderr
+    same((sorted(os.listdir(".")), read("kept.rdp")), (["in.rdp", "kept.rdp"], b"as it was"))
+
+
 # -- draw
 
 
 def png_pixels(data):
     """Width, height and RGB bytes of a PNG of 8 bits without interlace."""
     same(data[:8], b"\x89PNG\r\n\x1a\n")
-    at, packed, head, palette = 8, b"", None, b""
+    at, packed, head = 8, b"", None
     while at < len(data):
         length, kind = struct.unpack(">I4s", data[at:at + 8])
         body = data[at + 8:at + 8 + length]
@@ -465,19 +482,25 @@ def png_pixels(data):
         packed += body if kind == b"IDAT" else b""
         at += 12 + length
     width, height, depth, colour, _, _, interlace = head
-    same((depth, colour, interlace), (8, 2, 0))
-    raw, rows, last = zlib.decompress(packed), [], bytes(3 * width)
+    same((depth, colour in (2, 6), interlace), (8, True, 0))
+    step = 3 if colour == 2 else 4  # with alpha
+    raw, rows, last = zlib.decompress(packed), [], bytes(step * width)
     for y in range(height):
-        last = unfilter(raw[y * (3 * width + 1)], raw[y * (3 * width + 1) + 1:(y + 1) * (3 * width + 1)], last)
-        rows.append(last)
+        start = y * (step * width + 1)
+        last = unfilter(raw[start], raw[start + 1:start + 1 + step * width], last, step)
+        rows.append(last if step == 3 else b"".join(last[i:i + 3] for i in range(0, len(last), 4)))
     return width, height, b"".join(rows)
 
 
-def unfilter(kind, row, above):
+def unfilter(kind, row, above, step):
+    if kind == 0:
+        return bytes(row)
+    if kind == 2:
+        return bytes((a + b) % 256 for a, b in zip(row, above))
     out = bytearray()
     for i, value in enumerate(row):
-        left, up = out[i - 3] if i >= 3 else 0, above[i]
-        corner = above[i - 3] if i >= 3 else 0
+        left, up = out[i - step] if i >= step else 0, above[i]
+        corner = above[i - step] if i >= step else 0
         near = min((abs(up - corner), 0, left), (abs(left - corner), 1, up), (abs(left + up - 2 * corner), 2, corner))[2]
         out.append((value + (0, left, up, (left + up) // 2, near)[kind]) % 256)
     return bytes(out)
@@ -549,6 +572,207 @@ def draw_of_a_picture_that_is_not_there():
         same((status, out), (2, ""), arguments)
         assert reason in err, err
     same(os.listdir("."), [])
+
+
+# -- report
+
+
+class Balanced(html.parser.HTMLParser):
+    """Every element is closed in order; the rows of the table and the pictures are kept."""
+
+    def __init__(self, page):
+        super().__init__()
+        self.open, self.rows, self.images, self.tags = [], [], [], set()
+        self.feed(page)
+        self.close()
+        same(self.open, [])
+
+    def handle_starttag(self, tag, attributes):
+        self.tags.add(tag)
+        if tag == "tr":
+            self.rows.append([dict(attributes), ""])
+        if tag == "img":
+            self.images.append(dict(attributes)["src"])
+        if tag not in ("meta", "br", "img"):
+            self.open.append(tag)
+
+    def handle_endtag(self, tag):
+        same(self.open.pop(), tag)
+
+    def handle_data(self, data):
+        if "tr" in self.open:
+            self.rows[-1][1] += data + " "
+
+
+def reported(data, status, name="list.rdp"):
+    write(name, data)
+    same(run("report", name, "-o", "out.html"), (status, "", ""), name)
+    page = read("out.html").decode()
+    parsed = Balanced(page)
+    assert not parsed.tags & {"script", "link", "iframe"}, parsed.tags
+    assert "http" not in page and "@import" not in page and "url(" not in page
+    os.remove("out.html")
+    os.remove(name)
+    return page, parsed
+
+
+def picture_in(parsed):
+    same(len(parsed.images), 1)
+    head = "data:image/png;base64,"
+    assert parsed.images[0].startswith(head)
+    return png_pixels(base64.b64decode(parsed.images[0][len(head):], validate=True))
+
+
+@test
+def report_of_a_refused_list():
+    page, parsed = reported(words(*S, R, C), 1)
+    verdict = re.search(r'<div id="verdict" class="verdict rejected">(.*?)</div>', page)[1]
+    assert "<b>Refused</b> <code>9 4</code>" in verdict and "word 4: Set Fill Color requires Sync Pipe" in verdict, verdict
+    refused = [text for attributes, text in parsed.rows if attributes.get("id") == "refused"]
+    same(len(refused), 1)
+    assert "37000000F801003F" in refused[0] and "Refused, 9: word 4: Set Fill Color requires Sync Pipe" in refused[0], refused
+    same(len([text for attributes, text in parsed.rows if attributes.get("class") == "inserted" and "+ Sync Pipe" in text]), 1)
+    assert "1 sync is inserted, 50 cycles" in page and "<li>Sync Pipe before word 4, Set Fill Color</li>" in page
+    same(page.count("<svg "), 2)  # the list and the repaired list
+    assert "drawn by the repaired list" in page
+    same(picture_in(parsed), (8, 4, bytes(96)))  # the colour is set after the rectangle
+
+
+@test
+def report_of_an_accepted_list():
+    page, parsed = reported(read(example("i.rdp")), 0)
+    assert 'class="verdict accepted"><b>Accepted</b> <code>0 5</code><br>accepted: 5 words' in page, page
+    assert 'id="refused"' not in page and "No sync is missing." in page
+    same(picture_in(parsed), (8, 4, b"".join(rgb_of(v) for v in struct.unpack(">32H", memory_of_i()))))
+    same([text.split()[0] for _, text in parsed.rows][1:], ["0", "1", "2", "3", "4"])
+
+
+@test
+def report_of_lists_that_cannot_be_drawn_or_repaired():
+    for name, needle in (("a.rdp", "The list draws no picture."), ("b.rdp", "7 bytes follow that are no whole word"),
+                         ("d.rdp", "The list cannot be repaired: <code>3 0</code>"), ("e.rdp", "The list cannot be drawn: <code>5 0</code>"),
+                         ("f.rdp", "The list cannot be repaired: <code>4 1</code>")):
+        page, _ = reported(read(example(name)), 0 if name == "a.rdp" else 1)
+        assert needle in page, (name, page)
+    page, _ = reported(words(0x2F00000000000000, *S[1:], R, C), 1)
+    assert "The repaired list cannot be drawn: <code>10 3</code>, word 3: Fill Rectangle is not drawn" in page, page
+    page, parsed = reported(bytes(40000), 1)
+    assert "the commands of its first 32,768 bytes are shown" in page
+    same(len(parsed.rows), 4097)
+
+
+@test
+def report_of_a_file_with_an_odd_name():
+    page, _ = reported(words(N), 0, "<b>&'\"\n.rdp")
+    assert "<h1>&#60;b&#62;&#38;&#39;&#34;?.rdp</h1>" in page, page
+
+
+@test
+def report_shows_hazards_along_the_list():
+    page, _ = reported(words(*S, R, N, L, C), 1)
+    strips = re.findall(r"<svg.*?</svg>", page)
+    bars = [re.findall(r'<rect x="(\d+)" y="(\d+)" width="(\d+)"', strip) for strip in strips]
+    # before words 4 and 5 pipe and draw; from word 6 on unknown; the refused command is word 5
+    same(bars[0], [("6", "0", "1"), ("4", "1", "2"), ("4", "25", "2"), ("5", "0", "1")])
+    # repaired: S R N Pipe L C
+    same(bars[1], [("4", "1", "2"), ("4", "25", "2"), ("7", "37", "1")])
+
+
+def screenshot(page, browser):
+    """The rows of pixels of a page in a window of 900 by 1300, as RGB bytes."""
+    picture = page + ".png"
+    done = subprocess.run([browser, "--headless", "--no-sandbox", "--disable-gpu", "--hide-scrollbars", "--window-size=900,1300",
+                           f"--user-data-dir={os.path.abspath('profile')}", f"--screenshot={os.path.abspath(picture)}",
+                           "file://" + os.path.abspath(page)], capture_output=True, timeout=120)
+    assert os.path.exists(picture), done.stderr.decode()
+    width, height, pixels = png_pixels(read(picture))
+    return [pixels[3 * width * y:3 * width * (y + 1)] for y in range(height)]
+
+
+def bands(rows, colour, columns):
+    """The runs of rows in which so many pixels have a colour, one after the other: (first, last)."""
+    found = []
+    for y, row in enumerate(rows):
+        if sum(row[i:i + 3] == colour for i in range(0, len(row), 3)) >= columns:
+            if found and found[-1][1] == y - 1:
+                found[-1][1] = y
+            else:
+                found.append([y, y])
+    return [band for band in found if band[1] - band[0] >= 10]
+
+
+@test
+def report_is_seen_in_a_browser():
+    browser = shutil.which("chromium") or shutil.which("chromium-browser") or shutil.which("google-chrome")
+    if browser is None:
+        print("SKIPPED report_is_seen_in_a_browser: chromium is not installed (apt-get install chromium)")
+        return
+    red, green = bytes.fromhex("fde5e3"), bytes.fromhex("e3f4e5")
+    write("g.rdp", words(*S[1:], S[0], R, C))
+    same(run("report", "g.rdp", "-o", "g.html")[0], 1)
+    rows = screenshot("g.html", browser)
+    found = bands(rows, red, 200)
+    assert len(found) == 2 and found[0][0] < 120, f"red bands {found}"  # the verdict on top and the refused row
+    same(len(bands(rows, green, 200)), 1)  # the inserted sync
+    same(run("report", example("i.rdp"), "-o", "i.html")[0], 0)
+    rows = screenshot("i.html", browser)
+    found = bands(rows, green, 200)
+    assert len(found) == 1 and found[0][0] < 120 and bands(rows, red, 200) == [], found
+
+
+# -- what is installed
+
+
+def make(*arguments):
+    values = [f"{name}={os.environ[name]}" for name in ("CLI_LIBRARY", "CLI_INCLUDE", "CLI_BUILD", "CLI_LIBS") if name in os.environ]
+    done = subprocess.run(["make", "-s", "-f", "cli/cli.mk", *arguments, *values], cwd=TOP, capture_output=True)
+    same((done.returncode, done.stderr), (0, b""), arguments)
+
+
+@test
+def install_and_uninstall():
+    root = os.path.abspath("root")
+    make("install", f"DESTDIR={root}", "PREFIX=/usr")
+    found = sorted(os.path.relpath(os.path.join(folder, name), root) for folder, _, names in os.walk(root) for name in names)
+    same(found, ["usr/bin/lanyardrove", "usr/include/lanyardrove.h", "usr/lib/liblanyardrove.a", "usr/lib/pkgconfig/lanyardrove.pc",
+                 "usr/share/bash-completion/completions/lanyardrove", "usr/share/man/man1/lanyardrove.1"])
+    tool = subprocess.run([f"{root}/usr/bin/lanyardrove", "check", "-q", example("g.rdp")], capture_output=True)
+    same((tool.returncode, tool.stdout), (1, b"9 4\n"))
+    env = {**os.environ, "PKG_CONFIG_PATH": f"{root}/usr/lib/pkgconfig", "PKG_CONFIG_SYSROOT_DIR": root, "PKG_CONFIG_ALLOW_SYSTEM_CFLAGS": "1",
+           "PKG_CONFIG_ALLOW_SYSTEM_LIBS": "1"}
+    version = subprocess.run(["pkg-config", "--modversion", "lanyardrove"], capture_output=True, env=env).stdout.decode()
+    same("lanyardrove " + version, run("--version")[1])
+    flags = subprocess.run(["pkg-config", "--cflags", "--libs", "lanyardrove"], capture_output=True, env=env, check=True).stdout.decode().split()
+    write("user.c", b"#include <lanyardrove.h>\nint main(void) { return (int)(lanyardrove_check((const uint8_t *)\"abc\", 3) >> 56); }\n")
+    subprocess.run([os.environ.get("CC", "cc"), "user.c", "-o", "user", *flags], check=True)
+    same(subprocess.run(["./user"]).returncode, 2)
+    make("uninstall", f"DESTDIR={root}", "PREFIX=/usr")
+    same([names for _, _, names in os.walk(root) if names], [])
+
+
+@test
+def completion_offers_commands_and_options():
+    script = os.path.join(TOP, "cli", "lanyardrove.bash")
+    write("list.rdp", b"")
+    for typed, expected in ((["d"], ["dump", "draw"]), (["draw", "--m"], ["--memory"]), (["check", "-"], ["-q", "--quiet", "--help"]),
+                            (["check", "li"], ["list.rdp"]), (["draw", "--start", "l"], [])):
+        line = "COMP_WORDS=(lanyardrove %s); COMP_CWORD=%d; _lanyardrove; printf '%%s\\n' \"${COMPREPLY[@]}\"" % (" ".join(typed), len(typed))
+        done = subprocess.run(["bash", "-c", f"source '{script}'; {line}"], capture_output=True)
+        same((done.stdout.decode().split(), done.returncode), (expected, 0), typed)
+
+
+@test
+def the_manual_page_names_all_there_is():
+    page = read(os.path.join(TOP, "cli", "lanyardrove.1")).decode().replace("\\-", "-")
+    for command in ("check", "repair", "dump", "draw", "report"):
+        assert f"lanyardrove {command}" in page, command
+        for option in re.findall(r"--[a-z]+", run(command, "--help")[1]):
+            short = {"--quiet": "-q", "--output": "-o"}.get(option, option)
+            assert short in page, option
+    if shutil.which("man"):
+        done = subprocess.run(["man", "--warnings", "-l", os.path.join(TOP, "cli", "lanyardrove.1")], capture_output=True,
+                              env={**os.environ, "LC_ALL": "C.UTF-8", "MANROFFSEQ": ""})
+        same((done.returncode, done.stderr), (0, b""))
 
 
 def main():
