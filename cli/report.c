@@ -68,7 +68,7 @@ static int report_file(const char *path, const char *output)
 {
     Report report = { 0 };
     Text text = { 0 };
-    report.path = path;
+    report.path = strcmp(path, "-") == 0 ? "standard input" : path;
     if (!list_read(path, &report.list))
         return STATUS_ERROR;
     int status = STATUS_ERROR;
