@@ -1,0 +1,51 @@
+/* What the files of the report share. */
+#ifndef LANYARDROVE_REPORT_H
+#define LANYARDROVE_REPORT_H
+
+#include "cli.h"
+
+/* -- text.c: a text that grows ------------------------------------------- */
+
+typedef struct {
+    char *bytes;
+    size_t length, room;
+    bool failed; /* memory was short */
+} Text;
+
+void text_add(Text *text, const char *format, ...) __attribute__((format(printf, 2, 3)));
+void text_add_escaped(Text *text, const char *plain);
+void text_add_base64(Text *text, const uint8_t *bytes, size_t length);
+
+/* -- what the page is about ---------------------------------------------- */
+
+typedef struct {
+    size_t place;
+    unsigned number;
+    unsigned hazards;
+} Row;
+
+typedef struct {
+    Row *rows;
+    size_t count;
+    size_t refused; /* the row of the refused command; `count` where none is */
+} Rows;
+
+typedef struct {
+    const char *path;
+    List list;
+    Answer answer;
+    Rows rows;
+    Mended mended;  /* its answer says whether the list can be repaired */
+    Rows repaired;  /* of the repaired list, where syncs were inserted */
+    Answer drawing; /* what drawing the list, or the repaired list, answers */
+    Image image;
+    uint8_t *png; /* NULL where there is no picture */
+    size_t png_length;
+} Report;
+
+/* -- page.c, table.c: the page ------------------------------------------- */
+
+void page_add(Text *text, const Report *report);
+void table_add(Text *text, const Report *report);
+
+#endif

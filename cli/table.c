@@ -1,0 +1,81 @@
+/* The table of the commands, with the syncs that a repair would insert. */
+#include "report.h"
+
+#include <inttypes.h>
+
+#define MANY_FIELDS 14 /* Set Other Modes and the triangles have more */
+
+static void add_words(Text *text, const List *list, const Command *command)
+{
+    size_t left = list->length / 8 - command->place;
+    for (size_t i = 0; i < command->words && i < left; i++)
+        text_add(text, "%s%016" PRIX64, i > 0 ? "<br>" : "", word_at(list->bytes, command->place + i));
+}
+
+/* The fields of a command; of a command with many, those that are not 0. */
+static void add_fields(Text *text, const Command *command)
+{
+    size_t zeros = 0;
+    for (size_t i = 0; command->whole && i < command->count; i++) {
+        char value[64];
+        if (command->count > MANY_FIELDS && command->fields[i] == 0) {
+            zeros++;
+            continue;
+        }
+        field_value(command, i, value, sizeof value);
+        text_add(text, "<span class=\"field\">%s <b>%s</b></span> ", field_name(command->number, i), value);
+    }
+    if (zeros > 0)
+        text_add(text, "<span class=\"field\">%s%zu fields are 0</span>", zeros < command->count ? "the other " : "all ", zeros);
+}
+
+/* Why a command is refused. */
+static void add_reason(Text *text, const Report *report)
+{
+    char reason[160];
+    explain(&report->list, report->answer, FOR_CHECK, reason, sizeof reason);
+    text_add(text, "<div class=\"reason\">&#9654; Refused, %u: ", report->answer.number);
+    text_add_escaped(text, reason);
+    text_add(text, "</div>");
+}
+
+static void add_row(Text *text, const Report *report, size_t row)
+{
+    Command command;
+    char hazards[64];
+    bool refused = row == report->rows.refused;
+    if (!command_at(&report->list, report->rows.rows[row].place, &command))
+        return;
+    hazards_text(report->rows.rows[row].hazards, hazards, sizeof hazards);
+    text_add(text, refused ? "<tr id=\"refused\" class=\"refused\">" : "<tr>");
+    text_add(text, "<td class=\"place\">%zu</td><td class=\"words\">", command.place);
+    add_words(text, &report->list, &command);
+    text_add(text, "</td><td class=\"name\">%s</td><td>", command_name(command.number));
+    if (refused)
+        add_reason(text, report);
+    add_fields(text, &command);
+    text_add(text, "</td><td class=\"hazards\">%s</td></tr>\n", hazards);
+}
+
+static void add_insertion(Text *text, const Insertion *insertion)
+{
+    text_add(text, "<tr class=\"inserted\"><td></td><td></td><td class=\"name\">+ %s</td><td colspan=\"2\">inserted by the repair</td></tr>\n",
+             command_name(insertion->number));
+}
+
+void table_add(Text *text, const Report *report)
+{
+    size_t next = 0;
+    text_add(text, "<h2>Commands</h2>\n<table>\n<thead><tr><th>Place</th><th>Words</th><th>Command</th><th>Fields</th>"
+                   "<th>Hazards before</th></tr></thead>\n<tbody>\n");
+    for (size_t row = 0; row < report->rows.count; row++) {
+        if (next < report->mended.count && report->mended.inserted[next].place == report->rows.rows[row].place)
+            add_insertion(text, &report->mended.inserted[next++]);
+        add_row(text, report, row);
+    }
+    text_add(text, "</tbody>\n</table>\n");
+    if (report->list.length > LIST_LIMIT)
+        text_add(text, "<p class=\"note\">The list goes on; the commands of its first 32,768 bytes are shown.</p>\n");
+    else if (report->list.length % 8 != 0)
+        text_add(text, "<p class=\"note\">%zu bytes follow that are no whole word.</p>\n", report->list.length % 8);
+}
