@@ -1,0 +1,155 @@
+/*
+ * Lanyardrove: checks, repairs, draws, decodes and encodes command lists of the Nintendo 64's display processor (RDP).
+ *
+ * Link with build/liblanyardrove.a (`make`) and the C library. The functions allocate nothing, keep no state between calls
+ * and touch only the bytes that they are lent, so calls on different buffers may run at the same time.
+ *
+ * A list is 64-bit words, most significant byte first, at any alignment. Places are counted in words from 0.
+ *
+ * Lent bytes. Each buffer is a pointer and a length, in bytes for bytes and in elements for 64-bit numbers; the pointer
+ * may be null where the length is 0. Pointers to 64-bit numbers are aligned as the platform asks, no buffer is longer
+ * than PTRDIFF_MAX bytes, and a buffer that is written overlaps no other buffer of the call: C cannot check these three,
+ * and they are the caller's to keep. Every content and every length is otherwise allowed.
+ *
+ * Answers. Each function but the version answers one 64-bit number, whose parts lanyardrove_number, lanyardrove_place and
+ * lanyardrove_third (or _cycles, _command) give. Number 0 says that all went well; any other is the first refusal that
+ * holds: 1 and 2 of the list, then command by command 3 to 9, the smaller number first at one command, then those that the
+ * function adds. A refusal leaves every byte as it was, but for the repair's work buffer at 14.
+ */
+#ifndef LANYARDROVE_H
+#define LANYARDROVE_H
+
+#include <stddef.h>
+#include <stdint.h>
+
+#ifdef __cplusplus
+extern "C" {
+#endif
+
+/* The version of this header: major, minor and patch number, eight bits each. The archive and the header belong together
+   where this equals what lanyardrove_version() answers: compare the two once, before the first call. */
+#define LANYARDROVE_VERSION 0x010000
+
+uint32_t lanyardrove_version(void);
+
+/* The number of an answer, with the place that it has. */
+enum lanyardrove_ground {
+    LANYARDROVE_ACCEPTED = 0,           /* Accepted; the place is the words of the list, or the words or fields written. */
+    LANYARDROVE_TOO_LONG = 1,           /* The list is over 32,768 bytes (repair: 16,384); place 4,096 (repair: 2,048). */
+    LANYARDROVE_NOT_WORDS = 2,          /* The byte length is no multiple of 8; place length / 8, rounded down. */
+    LANYARDROVE_PAST_END = 3,           /* A command runs past the end of the list; place its first word. */
+    LANYARDROVE_AFTER_SYNC_FULL = 4,    /* A command stands after a Sync Full; place its first word. */
+    LANYARDROVE_NOT_SET = 5,            /* A draw with modes, colour image or scissor not set in this list; the same place. */
+    LANYARDROVE_FILL_ON_FOUR_BITS = 6,  /* A draw in FILL mode on a 4-bit image, which crashes a console; the same place. */
+    LANYARDROVE_SYNC_LOAD_MISSING = 7,  /* A Sync Load is missing before the command at the place. */
+    LANYARDROVE_SYNC_TILE_MISSING = 8,  /* A Sync Tile is missing before the command at the place. */
+    LANYARDROVE_SYNC_PIPE_MISSING = 9,  /* A Sync Pipe is missing before the command at the place. */
+    LANYARDROVE_NOT_A_FILL = 10,        /* Drawing: any draw but a Fill Rectangle in FILL mode; place its first word. */
+    LANYARDROVE_MISALIGNED = 11,        /* Drawing: the colour image's address is no multiple of 64; the draw's first word. */
+    LANYARDROVE_OUTSIDE_MEMORY = 12,    /* Drawing: a byte of a kept pixel is outside the memory; the draw's first word. */
+    LANYARDROVE_WORK_TOO_SHORT = 13,    /* Repair: the work buffer is below 16 bytes a command; place the commands. */
+    LANYARDROVE_OUTPUT_TOO_SHORT = 14,  /* The output is too short for all that would be written; place what is needed. */
+    LANYARDROVE_NOT_ENCODABLE = 15      /* Encoding: a field exceeds its bits, the number is none that can be encoded, or the
+                                           fields or suffix bytes are not as many as are due; place 0. */
+};
+
+/* The parts of an answer: bits 63:56, 31:0 and 55:32. */
+static inline uint32_t lanyardrove_number(uint64_t answer) { return (uint32_t)(answer >> 56); }
+static inline uint32_t lanyardrove_place(uint64_t answer) { return (uint32_t)answer; }
+static inline uint32_t lanyardrove_third(uint64_t answer) { return (uint32_t)(answer >> 32) & 0xFFFFFFu; }
+
+/* The third number by its meaning: the cycles that a repair inserted, the number of a decoded command. It is 0 at a refusal,
+   and in the answers of the other functions. */
+static inline uint32_t lanyardrove_cycles(uint64_t repaired) { return lanyardrove_third(repaired); }
+static inline uint32_t lanyardrove_command(uint64_t decoded) { return lanyardrove_third(decoded); }
+
+/* The check of a list: 0 at the number of its words, or the first of refusals 1 to 9. The list is read only. */
+uint64_t lanyardrove_check(const uint8_t *list, size_t list_length);
+
+/* The repair of a list: writes it to the front of out with the Sync Load, Sync Tile and Sync Pipe words inserted that it
+   misses, at the fewest cycles possible (25, 33 and 50 each). The written list passes the check and keeps every given word.
+   Answers 0, the words written as the place and the cycles inserted; or the first of refusals 1 to 6 of the list (7 to 9 are
+   what it repairs), then 13 at the number of commands, then 14 at the words needed.
+   work: 16 bytes for each command of the list; a command has at least one word, so 2 * list_length bytes always suffice.
+   out:  at most one sync stands before each command, so 2 * list_length bytes always suffice: for 16,384 bytes of list,
+         32,768. To learn the words needed, lend an out of length 0 and read the place of 14.
+   At 0 and at 14 the first 16 bytes a command of work are left zero, and its rest as received. Every other refusal leaves
+   both buffers as received. Bytes of out beyond the words written are not touched. */
+uint64_t lanyardrove_repair(const uint8_t *list, size_t list_length,
+                            uint8_t *work, size_t work_length,
+                            uint8_t *out, size_t out_length);
+
+/* Draws the Fill Rectangles of a list into memory: memory[i] is the byte at address start + i of the console's memory, which
+   the colour image's address counts in. start is any number, and no sum of it wraps.
+   Answers 0 at the words of the list; or the first refusal of the check (1 to 9), then the first of 10 to 12 along the draws.
+   A refusal leaves every byte of memory as it was: nothing is drawn before all is tested. */
+uint64_t lanyardrove_draw(const uint8_t *list, size_t list_length,
+                          uint8_t *memory, size_t memory_length, uint64_t start);
+
+/* The longest command's words, and the most fields that a command has. */
+#define LANYARDROVE_MOST_WORDS 22
+#define LANYARDROVE_MOST_FIELDS 37
+
+/* The first command of a list: writes its fields to the front of fields, one number each, in the order of the table below.
+   Answers 0, the fields written as the place, and the command's number (0 to 63) as lanyardrove_command; 3 at 0 where its
+   words are not all there, or there are none; 14 at the fields needed where count is too small.
+   Bytes of the list after the first command are not read, and fields beyond those written are not touched.
+   A triangle's words after its first four (its suffix) are no fields: they are the list's own bytes from byte 32 on. */
+uint64_t lanyardrove_decode(const uint8_t *list, size_t list_length, uint64_t *fields, size_t count);
+
+/* The other way round: writes the words of the command with this number and these fields to the front of out, with unused
+   bits zero, and for a triangle the suffix after them: its words beyond the first four, 8 bytes each, as given.
+   Answers 0 and the words written as the place; 15 at 0 for a number of 64 or more, a count of fields that is not the
+   command's, a field that exceeds its bits, triangle flags that contradict the number, or a suffix that is not exactly as
+   long as is due (no bytes, for a command that is no triangle); then 14 at the words needed where out is too short.
+   Bytes of out beyond those written are not touched. LANYARDROVE_MOST_WORDS * 8 bytes always suffice. */
+uint64_t lanyardrove_encode(uint32_t number,
+                            const uint64_t *fields, size_t count,
+                            const uint8_t *suffix, size_t suffix_length,
+                            uint8_t *out, size_t out_length);
+
+/*
+ * The fields of each command, in the order of fields[], with their bits. A field marked s is signed: its number is the value
+ * in two's complement of 64 bits, so (int64_t)fields[i] is the value. All others are unsigned, flags 0 or 1.
+ *
+ * 0x00-0x07, 0x10-0x23, 0x31  no operation          none
+ * 0x08-0x0F  triangle            shade 1, texture 1, zbuffer 1 (bits 2, 1 and 0 of the number), lmajor 1, level 3, tile 3,
+ *                                yl s14, ym s14, yh s14; then for each of the edges l, h and m: x integer part s12 and
+ *                                fraction 16, slope dx/dy integer part s14 and fraction 16   (21 fields)
+ *                                words: 4, + 8 with shade, + 8 with texture, + 2 with zbuffer
+ * 0x24, 0x25  Texture Rectangle, and Flip           lower right x 12, y 12, tile 3, upper left x 12, y 12,
+ *                                s s16, t s16, ds/dx s16, dt/dy s16   (9 fields; 2 words)
+ * 0x26, 0x27, 0x28, 0x29  Sync Load, Sync Pipe, Sync Tile, Sync Full   none
+ * 0x2A  Set Key GB               width_g 12, width_b 12, center_g 8, scale_g 8, center_b 8, scale_b 8
+ * 0x2B  Set Key R                width_r 12, center_r 8, scale_r 8
+ * 0x2C  Set Convert              k0 9, k1 9, k2 9, k3 9, k4 9, k5 9
+ * 0x2D  Set Scissor              upper left x 12, y 12, field 1, odd 1, lower right x 12, y 12
+ * 0x2E  Set Primitive Depth      z 16, dz 16
+ * 0x2F  Set Other Modes          atomic_prim 1, cycle_type 2, persp_tex_en 1, detail_tex_en 1, sharpen_tex_en 1, tex_lod_en 1,
+ *                                tlut_en 1, tlut_type 1, sample_type 1, mid_texel 1, bi_lerp_0 1, bi_lerp_1 1,
+ *                                convert_one 1, key_en 1, rgb_dither_sel 2, alpha_dither_sel 2, bl_m1a_0 2, bl_m1a_1 2,
+ *                                bl_m1b_0 2, bl_m1b_1 2, bl_m2a_0 2, bl_m2a_1 2, bl_m2b_0 2, bl_m2b_1 2, force_blend 1,
+ *                                alpha_cvg_select 1, cvg_x_alpha 1, z_mode 2, cvg_dest 2, color_on_cvg 1, image_read_en 1,
+ *                                z_update_en 1, z_compare_en 1, antialias_en 1, z_source_sel 1, dither_alpha_en 1,
+ *                                alpha_compare_en 1   (37 fields)
+ * 0x30, 0x32, 0x34  Load TLUT, Set Tile Size, Load Tile   upper left s 12, t 12, tile 3, lower right s 12, t 12
+ * 0x33  Load Block               upper left s 12, t 12, tile 3, lower right s 12, dxt 12
+ * 0x35  Set Tile                 format 3, size 2, line 9, address 9, index 3, palette 4, clamp_t 1, mirror_t 1, mask_t 4,
+ *                                shift_t 4, clamp_s 1, mirror_s 1, mask_s 4, shift_s 4
+ * 0x36  Fill Rectangle           lower right x 12, y 12, upper left x 12, y 12
+ * 0x37  Set Fill Color           colour 32
+ * 0x38, 0x39, 0x3B  Set Fog Color, Set Blend Color, Set Environment Color   red 8, green 8, blue 8, alpha 8
+ * 0x3A  Set Primitive Color      min_level 8, prim_lod_frac 8, red 8, green 8, blue 8, alpha 8
+ * 0x3C  Set Combine Mode         mode 56
+ * 0x3D  Set Texture Image        format 3, size 2, width minus one 10, address 24
+ * 0x3E  Set Depth Image          address 24
+ * 0x3F  Set Color Image          format 3, size 2, width minus one 10, address 26
+ *
+ * A command has one word where nothing else is said. x and y are in quarter pixels.
+ */
+
+#ifdef __cplusplus
+}
+#endif
+
+#endif

@@ -1,0 +1,619 @@
+/*
+ * Calls every function of include/lanyardrove.h through the archive: empty, short, cut and longest lists, null pointers where
+ * a length is 0, document 01's examples, guard bytes around every buffer, and every command number there and back.
+ * It compiles as C11 and as C++17. The last line counts the checks; the exit status says whether all passed.
+ */
+#include "lanyardrove.h"
+
+#include <stdio.h>
+#include <stdlib.h>
+#include <string.h>
+
+static unsigned long checks, failures;
+
+static void expect(int holds, const char *what, int line) {
+    checks++;
+    if (!holds) {
+        failures++;
+        printf("line %d: %s\n", line, what);
+    }
+}
+#define CHECK(holds) expect((holds) != 0, #holds, __LINE__)
+
+/* An answer has this number, third number and place, and no bit besides. */
+static void expect_answer(uint64_t answer, unsigned number, unsigned third, unsigned place, int line) {
+    checks++;
+    if (lanyardrove_number(answer) != number || lanyardrove_third(answer) != third || lanyardrove_place(answer) != place) {
+        failures++;
+        printf("line %d: answer %u, %u at %u instead of %u, %u at %u\n", line, (unsigned)lanyardrove_number(answer),
+               (unsigned)lanyardrove_third(answer), (unsigned)lanyardrove_place(answer), number, third, place);
+    }
+}
+#define ANSWERS(answer, number, third, place) expect_answer((answer), (number), (third), (place), __LINE__)
+
+/* ---- Buffers: bytes with guards on both sides, all 0xA5 before a call. */
+
+#define GUARD 64
+#define ROOM 40000
+#define OLD 0xA5
+
+typedef struct {
+    uint8_t all[GUARD + ROOM + GUARD];
+    uint8_t *bytes;
+} Buffer;
+
+static Buffer a_list, a_work, an_out;
+
+static uint8_t *fresh(Buffer *b) {
+    memset(b->all, OLD, sizeof b->all);
+    b->bytes = b->all + GUARD;
+    return b->bytes;
+}
+
+static int all_are(const uint8_t *bytes, size_t n, uint8_t value) {
+    size_t i;
+    for (i = 0; i < n; i++)
+        if (bytes[i] != value) return 0;
+    return 1;
+}
+
+/* Nothing is written from a byte on, nor before the buffer. */
+static int untouched_from(const Buffer *b, size_t from) {
+    return all_are(b->all, GUARD, OLD) && all_are(b->bytes + from, ROOM - from + GUARD, OLD);
+}
+
+/* ---- Words. */
+
+static void put(uint8_t *bytes, uint64_t w) {
+    int i;
+    for (i = 0; i < 8; i++) bytes[i] = (uint8_t)(w >> (56 - 8 * i));
+}
+
+static uint64_t get(const uint8_t *bytes) {
+    uint64_t w = 0;
+    int i;
+    for (i = 0; i < 8; i++) w = w << 8 | bytes[i];
+    return w;
+}
+
+/* The list a_list with these words; its length in bytes. */
+static size_t list_of(const uint64_t *words, size_t n) {
+    size_t i;
+    fresh(&a_list);
+    for (i = 0; i < n; i++) put(a_list.bytes + 8 * i, words[i]);
+    return 8 * n;
+}
+#define LIST(words) list_of((words), sizeof(words) / 8)
+
+/* Whether a buffer begins with these words. */
+static int begins(const uint8_t *bytes, const uint64_t *words, size_t n) {
+    size_t i;
+    for (i = 0; i < n; i++)
+        if (get(bytes + 8 * i) != words[i]) return 0;
+    return 1;
+}
+
+static uint64_t random_word(void) {
+    static uint64_t x = 0x9E3779B97F4A7C15u;
+    x ^= x << 13;
+    x ^= x >> 7;
+    x ^= x << 17;
+    return x * 0x2545F4914F6CDD1Du;
+}
+
+/* ---- Document 01's words. */
+
+#define S1 0x2F30000000000000u
+#define S2 0x3F10000700000000u
+#define S3 0x2D00000000020010u
+#define S S1, S2, S3
+#define R 0x3600800800004004u
+#define N 0x0000000000000000u
+#define C 0x37000000F801003Fu
+#define L 0x3400000000000000u
+#define LOAD 0x2600000000000000u
+#define PIPE 0x2700000000000000u
+#define TILE 0x2800000000000000u
+#define FULL 0x2900000000000000u
+
+static void parts(void) {
+    uint64_t answer = (uint64_t)9 << 56 | (uint64_t)0x0186A1 << 32 | 4;
+    CHECK(lanyardrove_version() == LANYARDROVE_VERSION);
+    CHECK(lanyardrove_number(answer) == LANYARDROVE_SYNC_PIPE_MISSING);
+    CHECK(lanyardrove_third(answer) == 100001);
+    CHECK(lanyardrove_cycles(answer) == 100001);
+    CHECK(lanyardrove_command(answer) == 100001);
+    CHECK(lanyardrove_place(answer) == 4);
+    answer = ~(uint64_t)0;
+    CHECK(lanyardrove_number(answer) == 0xFF && lanyardrove_third(answer) == 0xFFFFFF && lanyardrove_place(answer) == 0xFFFFFFFFu);
+}
+
+/* A null pointer, for each pointer of each function, where its length is 0. */
+static void null_pointers(void) {
+    const uint64_t one[] = {N};
+    uint64_t field = 7;
+    size_t n;
+    ANSWERS(lanyardrove_check(NULL, 0), 0, 0, 0);
+    ANSWERS(lanyardrove_repair(NULL, 0, NULL, 0, NULL, 0), 0, 0, 0);
+    ANSWERS(lanyardrove_draw(NULL, 0, NULL, 0, 0), 0, 0, 0);
+    ANSWERS(lanyardrove_draw(NULL, 0, NULL, 0, UINT64_MAX), 0, 0, 0);
+    ANSWERS(lanyardrove_decode(NULL, 0, NULL, 0), 3, 0, 0);
+    ANSWERS(lanyardrove_encode(0, NULL, 0, NULL, 0, NULL, 0), 14, 0, 1);
+    ANSWERS(lanyardrove_encode(64, NULL, 0, NULL, 0, NULL, 0), 15, 0, 0);
+
+    fresh(&a_work);
+    fresh(&an_out);
+    ANSWERS(lanyardrove_repair(NULL, 0, a_work.bytes, 32, an_out.bytes, 32), 0, 0, 0);
+    ANSWERS(lanyardrove_draw(NULL, 0, an_out.bytes, 32, 0), 0, 0, 0);
+    ANSWERS(lanyardrove_decode(NULL, 0, &field, 1), 3, 0, 0);
+    ANSWERS(lanyardrove_encode(0, NULL, 0, NULL, 0, an_out.bytes, 7), 14, 0, 1);
+    CHECK(untouched_from(&a_work, 0) && untouched_from(&an_out, 0) && field == 7);
+    ANSWERS(lanyardrove_encode(0, NULL, 0, NULL, 0, an_out.bytes, 8), 0, 0, 1);
+    CHECK(get(an_out.bytes) == N && untouched_from(&an_out, 8));
+
+    n = LIST(one);
+    ANSWERS(lanyardrove_draw(a_list.bytes, n, NULL, 0, 0), 0, 0, 1);
+    ANSWERS(lanyardrove_decode(a_list.bytes, n, NULL, 0), 0, 0, 0);
+    ANSWERS(lanyardrove_repair(a_list.bytes, n, NULL, 0, NULL, 0), 13, 0, 1);
+    ANSWERS(lanyardrove_repair(a_list.bytes, n, NULL, 0, an_out.bytes, 8), 13, 0, 1);
+    ANSWERS(lanyardrove_repair(a_list.bytes, n, a_work.bytes, 16, NULL, 0), 14, 0, 1);
+    CHECK(all_are(a_work.bytes, 16, 0) && untouched_from(&a_work, 16));
+
+    /* fields of a Set Fill Color, with nothing else */
+    field = 0xF801003F;
+    ANSWERS(lanyardrove_encode(0x37, &field, 1, NULL, 0, NULL, 0), 14, 0, 1);
+    ANSWERS(lanyardrove_encode(0x37, NULL, 0, NULL, 0, NULL, 0), 15, 0, 0);
+    ANSWERS(lanyardrove_encode(0, NULL, 0, an_out.bytes, 8, NULL, 0), 15, 0, 0);
+}
+
+/* ---- The check: examples A to H, cut lists, the longest. */
+
+static void check_lists(void) {
+    const uint64_t c1[] = {0x2400000000000000u};
+    const uint64_t f[] = {FULL, N};
+    const uint64_t g[] = {S, R, C};
+    const uint64_t h_tile[] = {S, R, TILE, C};
+    const uint64_t h_pipe[] = {S, R, PIPE, C};
+    size_t i;
+
+    fresh(&a_list);
+    ANSWERS(lanyardrove_check(a_list.bytes, 0), 0, 0, 0); /* A */
+    memset(a_list.bytes, 0, 8);
+    ANSWERS(lanyardrove_check(a_list.bytes, 7), 2, 0, 0); /* B */
+    ANSWERS(lanyardrove_check(a_list.bytes, 8), 0, 0, 1);
+    ANSWERS(lanyardrove_check(a_list.bytes, LIST(c1)), 3, 0, 0);
+    fresh(&a_list);
+    memset(a_list.bytes, 0, 22 * 8);
+    put(a_list.bytes, 0x0F00000000000000u);
+    ANSWERS(lanyardrove_check(a_list.bytes, 21 * 8), 3, 0, 0); /* D */
+    ANSWERS(lanyardrove_check(a_list.bytes, 22 * 8), 5, 0, 0); /* E */
+    for (i = 0; i < 22; i++) ANSWERS(lanyardrove_check(a_list.bytes, 8 * i), i ? 3 : 0, 0, 0);
+    for (i = 0; i < 22 * 8; i++)
+        if (i % 8) ANSWERS(lanyardrove_check(a_list.bytes, i), 2, 0, (unsigned)(i / 8));
+    ANSWERS(lanyardrove_check(a_list.bytes, LIST(f)), 4, 0, 1);
+    ANSWERS(lanyardrove_check(a_list.bytes, LIST(g)), 9, 0, 4);
+    ANSWERS(lanyardrove_check(a_list.bytes, LIST(h_tile)), 9, 0, 5);
+    ANSWERS(lanyardrove_check(a_list.bytes, LIST(h_pipe)), 0, 0, 6);
+    CHECK(begins(a_list.bytes, h_pipe, 6) && untouched_from(&a_list, 48));
+
+    fresh(&a_list);
+    memset(a_list.bytes, 0, 32784);
+    ANSWERS(lanyardrove_check(a_list.bytes, 32760), 0, 0, 4095);
+    ANSWERS(lanyardrove_check(a_list.bytes, 32767), 2, 0, 4095);
+    ANSWERS(lanyardrove_check(a_list.bytes, 32768), 0, 0, 4096);
+    ANSWERS(lanyardrove_check(a_list.bytes, 32769), 1, 0, 4096);
+    ANSWERS(lanyardrove_check(a_list.bytes, 32776), 1, 0, 4096);
+    CHECK(all_are(a_list.bytes, 32784, 0) && untouched_from(&a_list, 32784));
+}
+
+/* ---- The repair: examples J, K and M, refusals, the longest. */
+
+/* A list in, a list out, with exactly the room needed; and the refusals where there is a byte less. */
+static void repairs(const uint64_t *words, size_t n, unsigned commands, const uint64_t *repaired, size_t m, unsigned cycles, int line) {
+    size_t length = list_of(words, n);
+    fresh(&a_work);
+    fresh(&an_out);
+    expect_answer(lanyardrove_repair(a_list.bytes, length, a_work.bytes, 16 * commands - 1, an_out.bytes, 8 * m), 13, 0, commands, line);
+    expect(untouched_from(&a_work, 0) && untouched_from(&an_out, 0), "13 leaves all bytes", line);
+    expect_answer(lanyardrove_repair(a_list.bytes, length, a_work.bytes, 16 * commands, an_out.bytes, 8 * m - 1), 14, 0, (unsigned)m, line);
+    expect(all_are(a_work.bytes, 16 * commands, 0) && untouched_from(&a_work, 16 * commands), "14 zeroes the work buffer", line);
+    expect(untouched_from(&an_out, 0), "14 leaves the output", line);
+    fresh(&a_work);
+    expect_answer(lanyardrove_repair(a_list.bytes, length, a_work.bytes, 16 * commands, an_out.bytes, 8 * m), 0, cycles, (unsigned)m, line);
+    expect(begins(an_out.bytes, repaired, m) && untouched_from(&an_out, 8 * m), "the repaired list, and nothing beyond", line);
+    expect(all_are(a_work.bytes, 16 * commands, 0) && untouched_from(&a_work, 16 * commands), "0 zeroes the work buffer", line);
+    expect(begins(a_list.bytes, words, n) && untouched_from(&a_list, length), "the given list stays", line);
+    expect_answer(lanyardrove_check(an_out.bytes, 8 * m), 0, 0, (unsigned)m, line);
+    /* room to spare changes nothing */
+    fresh(&a_work);
+    fresh(&an_out);
+    expect_answer(lanyardrove_repair(a_list.bytes, length, a_work.bytes, ROOM, an_out.bytes, ROOM), 0, cycles, (unsigned)m, line);
+    expect(begins(an_out.bytes, repaired, m) && untouched_from(&an_out, 8 * m), "the repaired list, with room to spare", line);
+    expect(all_are(a_work.bytes, 16 * commands, 0) && untouched_from(&a_work, 16 * commands), "the work buffer, with room to spare", line);
+}
+#define REPAIRS(words, commands, repaired, cycles) \
+    repairs((words), sizeof(words) / 8, (commands), (repaired), sizeof(repaired) / 8, (cycles), __LINE__)
+
+static void repair_refuses(size_t length, unsigned number, unsigned place, int line) {
+    fresh(&a_work);
+    fresh(&an_out);
+    expect_answer(lanyardrove_repair(a_list.bytes, length, a_work.bytes, ROOM, an_out.bytes, ROOM), number, 0, place, line);
+    expect(untouched_from(&a_work, 0) && untouched_from(&an_out, 0), "a refusal leaves all bytes", line);
+}
+#define REPAIR_REFUSES(length, number, place) repair_refuses((length), (number), (place), __LINE__)
+
+static void repair_lists(void) {
+    const uint64_t j[] = {S, R, L, C}, j_repaired[] = {S, R, PIPE, L, C};
+    const uint64_t k[] = {S, R, L, R}, k_repaired[] = {S, R, LOAD, L, LOAD, R};
+    const uint64_t m[] = {S, R, N, C}, m_repaired[] = {S, R, N, PIPE, C};
+    const uint64_t h[] = {S, R, PIPE, C};
+    const uint64_t cut[] = {S, 0x2400000000000000u};
+    const uint64_t full[] = {FULL, N};
+    const uint64_t bare[] = {R};
+    const uint64_t four_bits[] = {S1, 0x3F00000700000000u, S3, R};
+    size_t i;
+
+    REPAIRS(j, 6, j_repaired, 50);
+    REPAIRS(k, 6, k_repaired, 50);
+    REPAIRS(m, 6, m_repaired, 50);
+    REPAIRS(h, 6, h, 0);
+
+    fresh(&a_list);
+    memset(a_list.bytes, 0, 16400);
+    REPAIR_REFUSES(16385, 1, 2048);
+    REPAIR_REFUSES(16392, 1, 2048);
+    REPAIR_REFUSES(16383, 2, 2047);
+    REPAIR_REFUSES(7, 2, 0);
+    REPAIR_REFUSES(LIST(cut), 3, 3);
+    REPAIR_REFUSES(LIST(full), 4, 1);
+    REPAIR_REFUSES(LIST(bare), 5, 0);
+    REPAIR_REFUSES(LIST(four_bits), 6, 3);
+
+    /* the longest list: nothing is missing */
+    {
+        static uint64_t longest[2048];
+        REPAIRS(longest, 2048, longest, 0);
+    }
+    /* the longest list with a sync before every command that can require one: 2 * 2,048 - 4 words */
+    {
+        static uint64_t most[2048], repaired[4092];
+        size_t n = 0;
+        most[0] = S1;
+        most[1] = S2;
+        most[2] = S3;
+        for (i = 3; i < 2048; i++) most[i] = i % 2 ? R : L;
+        for (i = 0; i < 2048; i++) {
+            if (i > 3) repaired[n++] = LOAD;
+            repaired[n++] = most[i];
+        }
+        CHECK(n == 4092);
+        REPAIRS(most, 2048, repaired, 2044 * 25);
+    }
+}
+
+/* Any list of one-word commands that the repair accepts: what it writes passes, and the words that it adds are its cycles. */
+static void random_repairs(void) {
+    static const uint64_t some[] = {R, R, L, L, C, N, TILE, LOAD, PIPE, 0x3500000000000000u, S1, S3, 0x3E00000000000000u};
+    uint64_t words[40];
+    size_t n, i, round;
+    for (round = 0; round < 2000; round++) {
+        uint64_t answer;
+        size_t added = 0, at = 0;
+        unsigned cycles = 0;
+        n = 3 + (size_t)(random_word() % 37);
+        words[0] = S1;
+        words[1] = S2;
+        words[2] = S3;
+        for (i = 3; i < n; i++) words[i] = some[random_word() % (sizeof some / 8)];
+        list_of(words, n);
+        fresh(&a_work);
+        fresh(&an_out);
+        answer = lanyardrove_repair(a_list.bytes, 8 * n, a_work.bytes, 16 * n, an_out.bytes, 16 * n);
+        for (i = 0; i < lanyardrove_place(answer); i++) {
+            uint64_t w = get(an_out.bytes + 8 * i);
+            if (at < n && w == words[at])
+                at++;
+            else {
+                added++;
+                cycles += w == LOAD ? 25 : w == TILE ? 33 : 50;
+            }
+        }
+        CHECK(lanyardrove_number(answer) == 0 && at == n && n + added == lanyardrove_place(answer));
+        CHECK(cycles == lanyardrove_cycles(answer) && (added == 0 || added + 4 <= n));
+        CHECK(untouched_from(&an_out, 8 * (n + added)) && untouched_from(&a_work, 16 * n));
+        ANSWERS(lanyardrove_check(an_out.bytes, 8 * (n + added)), 0, 0, (unsigned)(n + added));
+        answer = lanyardrove_check(a_list.bytes, 8 * n);
+        CHECK((lanyardrove_number(answer) == 0) == (added == 0));
+    }
+}
+
+/* ---- Drawing: examples I and O, the edges of memory and scissor, refusals. */
+
+/* Draws a list on bytes 0x11 from an address: the answer, and the painted addresses, the only ones whose bytes change. */
+static void draws(const uint64_t *words, size_t n, size_t memory, uint64_t start, unsigned number, unsigned place,
+                  const unsigned *painted, size_t count, int line) {
+    size_t length = list_of(words, n), i, k = 0;
+    int right = 1;
+    fresh(&an_out);
+    memset(an_out.bytes, 0x11, memory);
+    expect_answer(lanyardrove_draw(a_list.bytes, length, an_out.bytes, memory, start), number, 0, place, line);
+    for (i = 0; i < memory; i++) {
+        static const uint8_t color[4] = {0xF8, 0x01, 0x00, 0x3F};
+        uint64_t address = start + i;
+        uint8_t due = 0x11;
+        if (k < count && painted[k] == address) {
+            due = color[address % 4];
+            k++;
+        }
+        right = right && an_out.bytes[i] == due;
+    }
+    expect(right && k == count, "the painted bytes, and no others", line);
+    expect(untouched_from(&an_out, memory), "no byte outside memory", line);
+    expect(begins(a_list.bytes, words, n) && untouched_from(&a_list, length), "the list stays", line);
+}
+#define DRAWS(words, memory, start, painted) \
+    draws((words), sizeof(words) / 8, (memory), (start), 0, (unsigned)(sizeof(words) / 8), (painted), sizeof(painted) / sizeof(painted[0]), __LINE__)
+#define DRAW_REFUSES(words, memory, start, number, place) draws((words), sizeof(words) / 8, (memory), (start), (number), (place), NULL, 0, __LINE__)
+
+static void draw_lists(void) {
+    const uint64_t i[] = {S, C, R};
+    const unsigned i_bytes[] = {18, 19, 20, 21, 34, 35, 36, 37};
+    const uint64_t o[] = {S1, 0x3F10000600000000u, S3, C, 0x3600000400000004u};
+    const unsigned o_bytes[] = {14, 15};
+    /* the scissor's right edge at 8 keeps x up to 1, at 9 up to 2 */
+    const uint64_t edge_8[] = {S1, S2, 0x2D00000000008010u, C, R};
+    const unsigned edge_8_bytes[] = {18, 19, 34, 35};
+    const uint64_t edge_9[] = {S1, S2, 0x2D00000000009010u, C, R};
+    const uint64_t g[] = {S, R, C};
+    const uint64_t one_cycle[] = {0x2F00000000000000u, S2, S3, R};
+    const uint64_t misaligned[] = {S1, 0x3F10000700000020u, S3, C, R};
+    const uint64_t later[] = {S, C, R, 0x3601401400004004u}; /* pixels (1,1) to (5,5) */
+    const uint64_t nothing[] = {N, N};
+    const uint64_t cut[] = {0x0F00000000000000u, N};
+    size_t k;
+
+    DRAWS(i, 64, 0, i_bytes);
+    DRAWS(o, 64, 0, o_bytes);
+    DRAWS(i, 38, 0, i_bytes);
+    DRAW_REFUSES(i, 37, 0, 12, 4);
+    DRAWS(i, 20, 18, i_bytes);
+    DRAW_REFUSES(i, 64, 19, 12, 4);
+    DRAW_REFUSES(i, 19, 18, 12, 4);
+    DRAW_REFUSES(i, 64, 38, 12, 4);
+    DRAW_REFUSES(i, 64, (uint64_t)1 << 32, 12, 4);
+    DRAW_REFUSES(i, 64, UINT64_MAX, 12, 4);
+    DRAW_REFUSES(i, 64, UINT64_MAX - 40, 12, 4);
+    DRAW_REFUSES(i, 0, 0, 12, 4);
+    DRAWS(edge_8, 64, 0, edge_8_bytes);
+    DRAWS(edge_9, 64, 0, i_bytes);
+    DRAW_REFUSES(g, 64, 0, 9, 4);
+    DRAW_REFUSES(one_cycle, 64, 0, 10, 3);
+    DRAW_REFUSES(misaligned, 256, 0, 11, 4);
+    DRAW_REFUSES(later, 38, 0, 12, 5); /* the first rectangle is not painted either */
+    DRAW_REFUSES(cut, 64, 0, 3, 0);
+    draws(nothing, 2, 0, 0, 0, 2, NULL, 0, __LINE__);
+
+    for (k = 0; k < 40; k++) { /* every cut of I */
+        list_of(i, 5);
+        fresh(&an_out);
+        if (k % 8) ANSWERS(lanyardrove_draw(a_list.bytes, k, an_out.bytes, 64, 0), 2, 0, (unsigned)(k / 8));
+        else ANSWERS(lanyardrove_draw(a_list.bytes, k, an_out.bytes, 64, 0), 0, 0, (unsigned)(k / 8));
+        CHECK(untouched_from(&an_out, 0));
+    }
+    fresh(&a_list);
+    memset(a_list.bytes, 0, 32784);
+    fresh(&an_out);
+    ANSWERS(lanyardrove_draw(a_list.bytes, 32768, an_out.bytes, 64, 0), 0, 0, 4096);
+    ANSWERS(lanyardrove_draw(a_list.bytes, 32769, an_out.bytes, 64, 0), 1, 0, 4096);
+    CHECK(untouched_from(&an_out, 0));
+}
+
+/* ---- Decoding and encoding: every command number. The bit lines are those that document 000 lists; Set Combine Mode as one number
+   and the colour image's address of 26 bits are document 01's. */
+
+typedef struct {
+    int word, high, low, is_signed;
+} Line;
+
+static const Line TRIANGLE[] = {
+    {0, 58, 58, 0}, {0, 57, 57, 0}, {0, 56, 56, 0}, {0, 55, 55, 0}, {0, 53, 51, 0}, {0, 50, 48, 0}, {0, 45, 32, 1},
+    {0, 29, 16, 1}, {0, 13, 0, 1},  {1, 59, 48, 1}, {1, 47, 32, 0}, {1, 29, 16, 1}, {1, 15, 0, 0},  {2, 59, 48, 1},
+    {2, 47, 32, 0}, {2, 29, 16, 1}, {2, 15, 0, 0},  {3, 59, 48, 1}, {3, 47, 32, 0}, {3, 29, 16, 1}, {3, 15, 0, 0}};
+static const Line TEXTURE_RECTANGLE[] = {{0, 55, 44, 0}, {0, 43, 32, 0}, {0, 26, 24, 0}, {0, 23, 12, 0}, {0, 11, 0, 0},
+                                         {1, 63, 48, 1}, {1, 47, 32, 1}, {1, 31, 16, 1}, {1, 15, 0, 1}};
+static const Line KEY_GB[] = {{0, 55, 44, 0}, {0, 43, 32, 0}, {0, 31, 24, 0}, {0, 23, 16, 0}, {0, 15, 8, 0}, {0, 7, 0, 0}};
+static const Line KEY_R[] = {{0, 27, 16, 0}, {0, 15, 8, 0}, {0, 7, 0, 0}};
+static const Line CONVERT[] = {{0, 53, 45, 0}, {0, 44, 36, 0}, {0, 35, 27, 0}, {0, 26, 18, 0}, {0, 17, 9, 0}, {0, 8, 0, 0}};
+static const Line SCISSOR[] = {{0, 55, 44, 0}, {0, 43, 32, 0}, {0, 25, 25, 0}, {0, 24, 24, 0}, {0, 23, 12, 0}, {0, 11, 0, 0}};
+static const Line DEPTH[] = {{0, 31, 16, 0}, {0, 15, 0, 0}};
+static const Line OTHER_MODES[] = {
+    {0, 55, 55, 0}, {0, 53, 52, 0}, {0, 51, 51, 0}, {0, 50, 50, 0}, {0, 49, 49, 0}, {0, 48, 48, 0}, {0, 47, 47, 0}, {0, 46, 46, 0},
+    {0, 45, 45, 0}, {0, 44, 44, 0}, {0, 43, 43, 0}, {0, 42, 42, 0}, {0, 41, 41, 0}, {0, 40, 40, 0}, {0, 39, 38, 0}, {0, 37, 36, 0},
+    {0, 31, 30, 0}, {0, 29, 28, 0}, {0, 27, 26, 0}, {0, 25, 24, 0}, {0, 23, 22, 0}, {0, 21, 20, 0}, {0, 19, 18, 0}, {0, 17, 16, 0},
+    {0, 14, 14, 0}, {0, 13, 13, 0}, {0, 12, 12, 0}, {0, 11, 10, 0}, {0, 9, 8, 0},   {0, 7, 7, 0},   {0, 6, 6, 0},   {0, 5, 5, 0},
+    {0, 4, 4, 0},   {0, 3, 3, 0},   {0, 2, 2, 0},   {0, 1, 1, 0},   {0, 0, 0, 0}};
+static const Line AREA[] = {{0, 55, 44, 0}, {0, 43, 32, 0}, {0, 26, 24, 0}, {0, 23, 12, 0}, {0, 11, 0, 0}};
+static const Line DESCRIPTOR[] = {{0, 55, 53, 0}, {0, 52, 51, 0}, {0, 49, 41, 0}, {0, 40, 32, 0}, {0, 26, 24, 0}, {0, 23, 20, 0}, {0, 19, 19, 0},
+                                  {0, 18, 18, 0}, {0, 17, 14, 0}, {0, 13, 10, 0}, {0, 9, 9, 0},   {0, 8, 8, 0},   {0, 7, 4, 0},   {0, 3, 0, 0}};
+static const Line RECTANGLE[] = {{0, 55, 44, 0}, {0, 43, 32, 0}, {0, 23, 12, 0}, {0, 11, 0, 0}};
+static const Line FILL_COLOR[] = {{0, 31, 0, 0}};
+static const Line COLOR[] = {{0, 31, 24, 0}, {0, 23, 16, 0}, {0, 15, 8, 0}, {0, 7, 0, 0}};
+static const Line PRIMITIVE_COLOR[] = {{0, 47, 40, 0}, {0, 39, 32, 0}, {0, 31, 24, 0}, {0, 23, 16, 0}, {0, 15, 8, 0}, {0, 7, 0, 0}};
+static const Line COMBINE[] = {{0, 55, 0, 0}};
+static const Line TEXTURE_IMAGE[] = {{0, 55, 53, 0}, {0, 52, 51, 0}, {0, 41, 32, 0}, {0, 23, 0, 0}};
+static const Line DEPTH_IMAGE[] = {{0, 23, 0, 0}};
+static const Line COLOR_IMAGE[] = {{0, 55, 53, 0}, {0, 52, 51, 0}, {0, 41, 32, 0}, {0, 25, 0, 0}};
+
+static size_t lines_of(unsigned number, const Line **lines) {
+#define LINES(table) (*lines = (table), sizeof(table) / sizeof(Line))
+    if (number / 8 == 1) return LINES(TRIANGLE);
+    switch (number) {
+    case 0x24: case 0x25: return LINES(TEXTURE_RECTANGLE);
+    case 0x2A: return LINES(KEY_GB);
+    case 0x2B: return LINES(KEY_R);
+    case 0x2C: return LINES(CONVERT);
+    case 0x2D: return LINES(SCISSOR);
+    case 0x2E: return LINES(DEPTH);
+    case 0x2F: return LINES(OTHER_MODES);
+    case 0x30: case 0x32: case 0x33: case 0x34: return LINES(AREA);
+    case 0x35: return LINES(DESCRIPTOR);
+    case 0x36: return LINES(RECTANGLE);
+    case 0x37: return LINES(FILL_COLOR);
+    case 0x38: case 0x39: case 0x3B: return LINES(COLOR);
+    case 0x3A: return LINES(PRIMITIVE_COLOR);
+    case 0x3C: return LINES(COMBINE);
+    case 0x3D: return LINES(TEXTURE_IMAGE);
+    case 0x3E: return LINES(DEPTH_IMAGE);
+    case 0x3F: return LINES(COLOR_IMAGE);
+    default: *lines = NULL; return 0;
+    }
+}
+
+static unsigned words_of(unsigned number) {
+    if (number / 8 == 1) return 4 + (number & 4 ? 8 : 0) + (number & 2 ? 8 : 0) + (number & 1 ? 2 : 0);
+    return number == 0x24 || number == 0x25 ? 2 : 1;
+}
+
+static uint64_t mask_of(const Line *l) { return ~(uint64_t)0 >> (63 - (l->high - l->low)); }
+
+/* A field by its line: its bits, carried to 64 bits where signed. */
+static uint64_t field_of(const Line *l, const uint64_t *words) {
+    uint64_t mask = mask_of(l), v = words[l->word] >> l->low & mask;
+    return l->is_signed && v > mask / 2 ? v | ~mask : v;
+}
+
+#define FIELDS 48
+static uint64_t some_fields[FIELDS];
+
+static void fresh_fields(void) { memset(some_fields, OLD, sizeof some_fields); }
+
+static int fields_untouched_from(size_t k) { return all_are((const uint8_t *)(some_fields + k), sizeof some_fields - 8 * k, OLD); }
+
+static void one_number(unsigned number, uint64_t *words) {
+    const Line *lines;
+    size_t count = lines_of(number, &lines), k, n = words_of(number), suffix = n > 4 ? 8 * (n - 4) : 0;
+    uint64_t kept[22], expected[FIELDS], changed[FIELDS];
+    int right = 1;
+
+    /* the words with the unused bits zero */
+    for (k = 0; k < n; k++) kept[k] = k < 4 ? 0 : words[k];
+    kept[0] = (uint64_t)(number / 8 == 1 ? 8 : number) << 56;
+    for (k = 0; k < count; k++) {
+        kept[lines[k].word] |= words[lines[k].word] & mask_of(&lines[k]) << lines[k].low;
+        expected[k] = field_of(&lines[k], words);
+    }
+
+    /* decode: the fields, nothing beyond; too few fields; cut words */
+    list_of(words, n);
+    fresh_fields();
+    ANSWERS(lanyardrove_decode(a_list.bytes, 8 * n, some_fields, count), 0, number, (unsigned)count);
+    for (k = 0; k < count; k++) right = right && some_fields[k] == expected[k];
+    CHECK(right && fields_untouched_from(count));
+    fresh_fields();
+    ANSWERS(lanyardrove_decode(a_list.bytes, ROOM, some_fields, FIELDS), 0, number, (unsigned)count);
+    CHECK(fields_untouched_from(count));
+    fresh_fields();
+    if (count) ANSWERS(lanyardrove_decode(a_list.bytes, 8 * n, some_fields, count - 1), 14, 0, (unsigned)count);
+    for (k = 0; k < 8 * n; k++) ANSWERS(lanyardrove_decode(a_list.bytes, k, some_fields, FIELDS), 3, 0, 0);
+    CHECK(fields_untouched_from(0));
+
+    /* encode: the words, nothing beyond; and decoded again */
+    fresh(&an_out);
+    for (k = 0; k < 8 * n; k++) ANSWERS(lanyardrove_encode(number, expected, count, a_list.bytes + 32, suffix, an_out.bytes, k), 14, 0, (unsigned)n);
+    CHECK(untouched_from(&an_out, 0));
+    ANSWERS(lanyardrove_encode(number, expected, count, a_list.bytes + 32, suffix, an_out.bytes, 8 * n), 0, 0, (unsigned)n);
+    CHECK(begins(an_out.bytes, kept, n) && untouched_from(&an_out, 8 * n));
+    fresh_fields();
+    ANSWERS(lanyardrove_decode(an_out.bytes, 8 * n, some_fields, FIELDS), 0, number, (unsigned)count);
+    CHECK(memcmp(some_fields, expected, 8 * count) == 0 && fields_untouched_from(count));
+
+    /* 15: one field more or less, a suffix that is not as long as due, and every field at and beyond its bits */
+    fresh(&an_out);
+    memcpy(changed, expected, sizeof changed);
+    changed[count] = 0;
+    ANSWERS(lanyardrove_encode(number, changed, count + 1, a_list.bytes + 32, suffix, an_out.bytes, ROOM), 15, 0, 0);
+    if (count) ANSWERS(lanyardrove_encode(number, changed, count - 1, a_list.bytes + 32, suffix, an_out.bytes, ROOM), 15, 0, 0);
+    ANSWERS(lanyardrove_encode(number, changed, count, a_list.bytes + 32, suffix + 8, an_out.bytes, ROOM), 15, 0, 0);
+    ANSWERS(lanyardrove_encode(number, changed, count, a_list.bytes + 32, suffix + 1, an_out.bytes, ROOM), 15, 0, 0);
+    if (suffix) ANSWERS(lanyardrove_encode(number, changed, count, a_list.bytes + 32, suffix - 8, an_out.bytes, ROOM), 15, 0, 0);
+    if (suffix) ANSWERS(lanyardrove_encode(number, changed, count, NULL, 0, an_out.bytes, ROOM), 15, 0, 0);
+    CHECK(untouched_from(&an_out, 0));
+    for (k = 0; k < count; k++) {
+        uint64_t mask = mask_of(&lines[k]), most = lines[k].is_signed ? mask / 2 : mask;
+        int flag = number / 8 == 1 && k < 3; /* a triangle's flags are those of its number */
+        changed[k] = flag ? !expected[k] : most;
+        ANSWERS(lanyardrove_encode(number, changed, count, a_list.bytes + 32, suffix, an_out.bytes, ROOM), flag ? 15 : 0, 0, flag ? 0 : (unsigned)n);
+        changed[k] = most + 1;
+        ANSWERS(lanyardrove_encode(number, changed, count, a_list.bytes + 32, suffix, an_out.bytes, ROOM), 15, 0, 0);
+        changed[k] = ~(uint64_t)0; /* -1 */
+        ANSWERS(lanyardrove_encode(number, changed, count, a_list.bytes + 32, suffix, an_out.bytes, ROOM), lines[k].is_signed ? 0 : 15, 0,
+                lines[k].is_signed ? (unsigned)n : 0);
+        if (lines[k].is_signed) {
+            changed[k] = ~(mask / 2); /* the least, and one less */
+            ANSWERS(lanyardrove_encode(number, changed, count, a_list.bytes + 32, suffix, an_out.bytes, ROOM), 0, 0, (unsigned)n);
+            changed[k] = ~(mask / 2) - 1;
+            ANSWERS(lanyardrove_encode(number, changed, count, a_list.bytes + 32, suffix, an_out.bytes, ROOM), 15, 0, 0);
+        }
+        changed[k] = expected[k];
+    }
+    CHECK(begins(a_list.bytes, words, n) && untouched_from(&a_list, 8 * n));
+}
+
+static void every_number(void) {
+    uint64_t words[22];
+    unsigned number, round, k;
+    for (number = 0; number < 64; number++) {
+        for (round = 0; round < 20; round++) {
+            for (k = 0; k < 22; k++) words[k] = round == 0 ? 0 : round == 1 ? ~(uint64_t)0 : random_word();
+            /* bits 63:62 of a command's first word are ignored */
+            words[0] = (words[0] & 0xC0FFFFFFFFFFFFFFu) | (uint64_t)number << 56;
+            one_number(number, words);
+        }
+    }
+    fresh(&an_out);
+    ANSWERS(lanyardrove_encode(64, NULL, 0, NULL, 0, an_out.bytes, ROOM), 15, 0, 0);
+    ANSWERS(lanyardrove_encode(UINT32_MAX, NULL, 0, NULL, 0, an_out.bytes, ROOM), 15, 0, 0);
+    ANSWERS(lanyardrove_encode(256, NULL, 0, NULL, 0, an_out.bytes, ROOM), 15, 0, 0);
+    CHECK(untouched_from(&an_out, 0));
+}
+
+/* Lists in blocks of exactly their length, so that a tool that watches memory sees a read or a write beyond them. */
+static void exact_blocks(void) {
+    static const uint64_t words[] = {S, C, R, PIPE, L, LOAD, R};
+    size_t length;
+    for (length = 1; length <= 8 * 9; length++) {
+        uint8_t *list = (uint8_t *)malloc(length), *work = (uint8_t *)malloc(2 * length), *out = (uint8_t *)malloc(2 * length);
+        uint64_t *fields = (uint64_t *)malloc(8);
+        CHECK(list && work && out && fields);
+        if (list && work && out && fields) {
+            list_of(words, 9);
+            memcpy(list, a_list.bytes, length);
+            memset(work, OLD, 2 * length);
+            memset(out, OLD, 2 * length);
+            CHECK(lanyardrove_check(list, length) == lanyardrove_check(a_list.bytes, length));
+            CHECK(lanyardrove_number(lanyardrove_repair(list, length, work, 2 * length, out, 2 * length)) == (length % 8 ? 2 : 0));
+            CHECK(lanyardrove_number(lanyardrove_draw(list, length, out, 2 * length, 0)) == (length % 8 ? 2 : 0));
+            CHECK(lanyardrove_number(lanyardrove_decode(list, length, fields, 1)) == (length < 8 ? 3 : 14));
+        }
+        free(list);
+        free(work);
+        free(out);
+        free(fields);
+    }
+}
+
+int main(void) {
+    parts();
+    null_pointers();
+    check_lists();
+    repair_lists();
+    random_repairs();
+    draw_lists();
+    every_number();
+    exact_blocks();
+    if (failures)
+        printf("test_boundary: %lu checks, %lu FAILED\n", checks, failures);
+    else
+        printf("test_boundary: %lu checks, all passed\n", checks);
+    return failures ? 1 : 0;
+}
