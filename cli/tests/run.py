@@ -223,6 +223,7 @@ def dump_of_lists_without_whole_commands():
     assert "     0  00000000000000  no whole word\n" in dumped(bytes(7), 1)
     text = dumped(read(example("d.rdp")), 1)
     assert "Fill Triangle (STZ)" in text and ">> refused, 3 0" in text and "    20  " in text and "    21  " not in text, text
+    assert "=" not in text, text  # a cut command has no fields
     assert "1 4096" in dumped(bytes(32776), 1)
     same(len(dumped_commands(dumped(bytes(32776)))), 4097)
     assert "goes on" in run("dump", "/dev/zero")[1]
@@ -585,6 +586,10 @@ def draw_writes_memory():
     same(read("i.bin"), memory_of_i()[16:48])
     same(run("draw", example("i.rdp"), "--memory", "20", "--start", "0x12", "-o", "i.bin")[0], 0)
     same(read("i.bin"), memory_of_i()[18:38])
+    same(run("draw", example("i.rdp"), "--memory", "30", "--start", "16", "--image", "18,1,10,16", "-o", "i.bin")[0], 0)
+    same(read("i.bin"), memory_of_i()[18:38])
+    same(run("draw", example("i.rdp"), "--memory", "30", "--start", "16", "--image", "18,1,10,16", "-o", "i.ppm")[0], 0)
+    same(read("i.ppm"), b"P6\n1 10\n255\n" + b"".join(rgb_of(v) for v in struct.unpack(">10H", memory_of_i()[18:38])))
     same(run("draw", example("i.rdp"), "--memory", "1K", "-o", "i.bin")[0], 0)
     same(len(read("i.bin")), 1024)
     same(run("draw", example("a.rdp"), "--memory", "0", "-o", "a.bin")[0], 0)
