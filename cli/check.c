@@ -3,7 +3,6 @@
 #include "cli.h"
 
 #include <getopt.h>
-#include <lanyardrove.h>
 
 typedef struct {
     bool quiet, several;
@@ -31,7 +30,7 @@ static void check_file(const char *path, Tally *tally)
     }
     Answer answer = answer_of(lanyardrove_check(list.bytes, list.length));
     print_verdict(path, &list, answer, tally);
-    if (answer.number == 0)
+    if (answer.number == LANYARDROVE_ACCEPTED)
         tally->accepted++;
     else
         tally->refused++;

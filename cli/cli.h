@@ -2,6 +2,7 @@
 #ifndef LANYARDROVE_CLI_H
 #define LANYARDROVE_CLI_H
 
+#include <lanyardrove.h>
 #include <stdbool.h>
 #include <stddef.h>
 #include <stdint.h>
@@ -13,15 +14,11 @@ enum { STATUS_ACCEPTED = 0, STATUS_REFUSED = 1, STATUS_ERROR = 2 };
 /* the longest list of the check, and the longest file that is read */
 #define LIST_LIMIT 32768u
 #define FILE_LIMIT (1024u * 1024u)
-/* the most words of one command */
-#define COMMAND_WORDS 22
-/* more than the fields of any command */
-#define COMMAND_FIELDS 64
 
 /* -- answer.c: the library's answers ------------------------------------ */
 
 typedef struct {
-    unsigned number; /* 0 accepted, else the number of the refusal */
+    unsigned number; /* an enum lanyardrove_ground */
     uint32_t third;  /* cycles of repair, command number of decode */
     uint32_t place;
 } Answer;
@@ -31,7 +28,7 @@ Answer answer_of(uint64_t packed);
 /* -- file.c: lists are read, outputs are written whole or not at all ---- */
 
 typedef struct {
-    uint8_t *bytes; /* followed by COMMAND_WORDS words of zeros */
+    uint8_t *bytes; /* followed by LANYARDROVE_MOST_WORDS words of zeros */
     size_t length;
     bool cut; /* the file goes on after FILE_LIMIT bytes */
 } List;
@@ -48,12 +45,11 @@ typedef struct {
     size_t words;    /* the words due */
     bool whole;      /* all of them are in the list */
     size_t count;    /* fields */
-    uint64_t fields[COMMAND_FIELDS];
+    uint64_t fields[LANYARDROVE_MOST_FIELDS];
 } Command;
 
 bool command_at(const List *list, size_t place, Command *command);
 uint64_t word_at(const uint8_t *bytes, size_t place);
-size_t list_commands(const List *list);
 
 /* -- names.c: names and values as N64brew has them ---------------------- */
 

@@ -1,14 +1,12 @@
 /* A list command by command, by the library's decoding. */
 #include "cli.h"
 
-#include <lanyardrove.h>
-
 /* The bytes of a list are followed by zeros, so that a cut command has a number and a length too. */
 static size_t words_due(const uint8_t *bytes, Command *command)
 {
-    for (size_t words = 1; words <= COMMAND_WORDS; words++) {
-        Answer answer = answer_of(lanyardrove_decode(bytes, 8 * words, command->fields, COMMAND_FIELDS));
-        if (answer.number == 0) {
+    for (size_t words = 1; words <= LANYARDROVE_MOST_WORDS; words++) {
+        Answer answer = answer_of(lanyardrove_decode(bytes, 8 * words, command->fields, LANYARDROVE_MOST_FIELDS));
+        if (answer.number == LANYARDROVE_ACCEPTED) {
             command->number = answer.third;
             command->count = answer.place;
             return words;
@@ -34,14 +32,4 @@ uint64_t word_at(const uint8_t *bytes, size_t place)
     for (size_t i = 0; i < 8; i++)
         word = word << 8 | bytes[8 * place + i];
     return word;
-}
-
-/* The whole commands of a list. */
-size_t list_commands(const List *list)
-{
-    Command command;
-    size_t count = 0;
-    for (size_t place = 0; command_at(list, place, &command) && command.whole; place += command.words)
-        count++;
-    return count;
 }

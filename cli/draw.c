@@ -3,7 +3,6 @@
 #include "cli.h"
 
 #include <getopt.h>
-#include <lanyardrove.h>
 #include <stdlib.h>
 #include <string.h>
 
@@ -72,7 +71,7 @@ static int draw_list(Request *request, const List *list, Memory *memory)
     Answer answer = answer_of(lanyardrove_draw(list->bytes, list->length, memory->bytes, memory->length, memory->start));
     char text[160];
     explain(list, answer, FOR_DRAW, text, sizeof text);
-    if (answer.number != 0) {
+    if (answer.number != LANYARDROVE_ACCEPTED) {
         printf("%u %u\n%s\n", answer.number, (unsigned)answer.place, text);
         return STATUS_REFUSED;
     }

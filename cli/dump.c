@@ -4,7 +4,6 @@
 
 #include <getopt.h>
 #include <inttypes.h>
-#include <lanyardrove.h>
 #include <string.h>
 
 #define WIDTH 100 /* columns of the field lines */
@@ -94,14 +93,14 @@ static void print_verdict(const Dump *dump)
 {
     char text[160];
     explain(dump->list, dump->answer, FOR_CHECK, text, sizeof text);
-    printf("%s%u %u%s\n%s\n", style(dump, dump->answer.number == 0 ? GREEN : RED), dump->answer.number,
+    printf("%s%u %u%s\n%s\n", style(dump, dump->answer.number == LANYARDROVE_ACCEPTED ? GREEN : RED), dump->answer.number,
            (unsigned)dump->answer.place, style(dump, RESET), text);
 }
 
 static void print_list(const Dump *dump)
 {
     Command command;
-    bool in_list = dump->answer.number >= 3;
+    bool in_list = dump->answer.number >= LANYARDROVE_PAST_END;
     print_verdict(dump);
     if (dump->list->length >= 8)
         printf("\n place  word              command\n");
@@ -124,7 +123,7 @@ static int dump_file(const char *path)
         complain("not enough memory");
     else {
         print_list(&dump);
-        status = dump.answer.number == 0 ? STATUS_ACCEPTED : STATUS_REFUSED;
+        status = dump.answer.number == LANYARDROVE_ACCEPTED ? STATUS_ACCEPTED : STATUS_REFUSED;
     }
     prober_free(dump.prober);
     list_free(&list);

@@ -11,14 +11,18 @@ static const char *name_at(const List *list, size_t place)
 static bool explain_list(const List *list, Answer answer, Purpose purpose, char *text, size_t room)
 {
     switch (answer.number) {
-    case 0: snprintf(text, room, "accepted: %u words", (unsigned)answer.place); return true;
-    case 1:
+    case LANYARDROVE_ACCEPTED: snprintf(text, room, "accepted: %u words", (unsigned)answer.place); return true;
+    case LANYARDROVE_TOO_LONG:
         snprintf(text, room, "the list is over %s bytes", purpose == FOR_REPAIR ? "16,384" : "32,768");
         return true;
-    case 2: snprintf(text, room, "the length of %zu bytes is no multiple of 8", list->length); return true;
-    case 13: snprintf(text, room, "the work buffer is too short for %u commands", (unsigned)answer.place); return true;
-    case 14: snprintf(text, room, "the output is too short: %u are needed", (unsigned)answer.place); return true;
-    case 15: snprintf(text, room, "a field exceeds its bits"); return true;
+    case LANYARDROVE_NOT_WORDS: snprintf(text, room, "the length of %zu bytes is no multiple of 8", list->length); return true;
+    case LANYARDROVE_WORK_TOO_SHORT:
+        snprintf(text, room, "the work buffer is too short for %u commands", (unsigned)answer.place);
+        return true;
+    case LANYARDROVE_OUTPUT_TOO_SHORT:
+        snprintf(text, room, "the output is too short: %u are needed", (unsigned)answer.place);
+        return true;
+    case LANYARDROVE_NOT_ENCODABLE: snprintf(text, room, "a field exceeds its bits"); return true;
     default: return false;
     }
 }
@@ -27,16 +31,16 @@ static bool explain_list(const List *list, Answer answer, Purpose purpose, char 
 static const char *refusal_text(unsigned number)
 {
     switch (number) {
-    case 3: return "runs past the end of the list";
-    case 4: return "stands after Sync Full";
-    case 5: return "draws with other modes, color image or scissor not set in this list";
-    case 6: return "draws in FILL mode on a 4-bit color image";
-    case 7: return "requires Sync Load";
-    case 8: return "requires Sync Tile";
-    case 9: return "requires Sync Pipe";
-    case 10: return "is not drawn: only Fill Rectangle in FILL mode is";
-    case 11: return "draws on a color image whose address is no multiple of 64";
-    case 12: return "draws a pixel outside memory";
+    case LANYARDROVE_PAST_END: return "runs past the end of the list";
+    case LANYARDROVE_AFTER_SYNC_FULL: return "stands after Sync Full";
+    case LANYARDROVE_NOT_SET: return "draws with other modes, color image or scissor not set in this list";
+    case LANYARDROVE_FILL_ON_FOUR_BITS: return "draws in FILL mode on a 4-bit color image";
+    case LANYARDROVE_SYNC_LOAD_MISSING: return "requires Sync Load";
+    case LANYARDROVE_SYNC_TILE_MISSING: return "requires Sync Tile";
+    case LANYARDROVE_SYNC_PIPE_MISSING: return "requires Sync Pipe";
+    case LANYARDROVE_NOT_A_FILL: return "is not drawn: only Fill Rectangle in FILL mode is";
+    case LANYARDROVE_MISALIGNED: return "draws on a color image whose address is no multiple of 64";
+    case LANYARDROVE_OUTSIDE_MEMORY: return "draws a pixel outside memory";
     default: return "is refused for a reason that this tool does not know";
     }
 }

@@ -11,7 +11,7 @@
 /* Reads at most one byte more than FILE_LIMIT. */
 static bool read_stream(FILE *stream, List *list)
 {
-    list->bytes = calloc(1, FILE_LIMIT + 1 + 8 * COMMAND_WORDS);
+    list->bytes = calloc(1, FILE_LIMIT + 1 + 8 * LANYARDROVE_MOST_WORDS);
     if (list->bytes == NULL) {
         errno = ENOMEM;
         return false;

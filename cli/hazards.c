@@ -2,7 +2,6 @@
    the list. The list before it must be accepted. */
 #include "cli.h"
 
-#include <lanyardrove.h>
 #include <stdlib.h>
 #include <string.h>
 
@@ -18,7 +17,6 @@
 #define FILL_RECTANGLE 0x3600000000000000u
 
 struct Prober {
-    const List *list;
     size_t words;
     uint8_t bytes[8 * (BEFORE + LIST_LIMIT / 8 + AFTER)];
 };
@@ -34,7 +32,6 @@ Prober *prober_new(const List *list)
     Prober *prober = calloc(1, sizeof *prober);
     if (prober == NULL)
         return NULL;
-    prober->list = list;
     size_t length = list->length < LIST_LIMIT ? list->length : LIST_LIMIT;
     prober->words = length / 8;
     memcpy(prober->bytes + 8 * BEFORE, list->bytes, 8 * prober->words);
@@ -69,15 +66,15 @@ static unsigned load_hazard(Prober *prober, size_t place)
 {
     Answer answer = ask(prober, BEFORE, place, FILL_RECTANGLE, 0);
     size_t first = BEFORE;
-    if (answer.number == 5) {
+    if (answer.number == LANYARDROVE_NOT_SET) {
         first = 0;
         answer = ask(prober, first, place, FILL_RECTANGLE, 0);
     }
-    if (answer.number == 6)
+    if (answer.number == LANYARDROVE_FILL_ON_FOUR_BITS)
         answer = ask(prober, first, place, SET_OTHER_MODES, FILL_RECTANGLE);
-    if (answer.number == 7)
+    if (answer.number == LANYARDROVE_SYNC_LOAD_MISSING)
         return HAZARD_LOAD;
-    return answer.number == 0 || answer.number == 4 ? 0 : HAZARD_UNKNOWN;
+    return answer.number == LANYARDROVE_ACCEPTED || answer.number == LANYARDROVE_AFTER_SYNC_FULL ? 0 : HAZARD_UNKNOWN;
 }
 
 /* The hazards before the command at a place; unknown where the list is not accepted up to there. */
@@ -85,14 +82,14 @@ unsigned hazards_before(Prober *prober, size_t place)
 {
     if (place >= LIST_LIMIT / 8)
         return HAZARD_UNKNOWN;
-    if (place > prober->words || answer_of(lanyardrove_check(prober->bytes + 8 * BEFORE, 8 * place)).number != 0)
+    if (place > prober->words || answer_of(lanyardrove_check(prober->bytes + 8 * BEFORE, 8 * place)).number != LANYARDROVE_ACCEPTED)
         return HAZARD_UNKNOWN;
     unsigned hazards = load_hazard(prober, place);
-    if (ask(prober, BEFORE, place, SET_FOG_COLOR, 0).number == 9)
+    if (ask(prober, BEFORE, place, SET_FOG_COLOR, 0).number == LANYARDROVE_SYNC_PIPE_MISSING)
         hazards |= HAZARD_PIPE;
-    if (ask(prober, BEFORE, place, SET_TILE, 0).number == 8)
+    if (ask(prober, BEFORE, place, SET_TILE, 0).number == LANYARDROVE_SYNC_TILE_MISSING)
         hazards |= HAZARD_TILE;
-    if (ask(prober, BEFORE, place, LOAD_TILE, 0).number == 7)
+    if (ask(prober, BEFORE, place, LOAD_TILE, 0).number == LANYARDROVE_SYNC_LOAD_MISSING)
         hazards |= HAZARD_DRAW;
     return hazards;
 }

@@ -1,7 +1,6 @@
 /* lanyardrove: the command line tool over the library. */
 #include "cli.h"
 
-#include <lanyardrove.h>
 #include <string.h>
 
 typedef struct {

@@ -1,7 +1,6 @@
 /* The repair, and the syncs that it inserted: found by comparing the two lists command by command. */
 #include "cli.h"
 
-#include <lanyardrove.h>
 #include <stdlib.h>
 #include <string.h>
 
@@ -32,12 +31,12 @@ bool mend(const List *list, Mended *mended)
     size_t words = list->length / 8 + 1;
     memset(mended, 0, sizeof *mended);
     uint8_t *work = calloc(words, 16);
-    mended->out = calloc(2 * words + COMMAND_WORDS, 8);
+    mended->out = calloc(2 * words + LANYARDROVE_MOST_WORDS, 8);
     mended->inserted = calloc(words, sizeof *mended->inserted);
     bool done = work != NULL && mended->out != NULL && mended->inserted != NULL;
     if (done) {
         mended->answer = answer_of(lanyardrove_repair(list->bytes, list->length, work, 16 * words, mended->out, 16 * words));
-        if (mended->answer.number == 0) {
+        if (mended->answer.number == LANYARDROVE_ACCEPTED) {
             mended->length = 8 * (size_t)mended->answer.place;
             done = find_insertions(list, mended);
         }

@@ -32,7 +32,7 @@ static void add_head(Text *text, const Report *report)
 static void add_verdict(Text *text, const Report *report)
 {
     char meaning[160];
-    bool accepted = report->answer.number == 0;
+    bool accepted = report->answer.number == LANYARDROVE_ACCEPTED;
     explain(&report->list, report->answer, FOR_CHECK, meaning, sizeof meaning);
     text_add(text, "<div id=\"verdict\" class=\"verdict %s\"><b>%s</b> <code>%u %u</code><br>", accepted ? "accepted" : "rejected",
              accepted ? "Accepted" : "Refused", report->answer.number, (unsigned)report->answer.place);
@@ -76,7 +76,7 @@ static void add_hazards(Text *text, const Report *report)
 {
     text_add(text, "<h2>Hazards before each command</h2>\n");
     add_strip(text, &report->rows);
-    if (report->answer.number != 0)
+    if (report->answer.number != LANYARDROVE_ACCEPTED)
         text_add(text, "<p class=\"note\">Red: the refused command. Grey: not known, because the list is refused before.</p>\n");
     if (report->repaired.count > 0) {
         text_add(text, "<p class=\"note\">The same of the repaired list:</p>\n");
@@ -89,7 +89,7 @@ static void add_repair(Text *text, const Report *report)
     const Mended *mended = &report->mended;
     char meaning[160];
     text_add(text, "<h2>Repair</h2>\n");
-    if (mended->answer.number != 0) {
+    if (mended->answer.number != LANYARDROVE_ACCEPTED) {
         explain(&report->list, mended->answer, FOR_REPAIR, meaning, sizeof meaning);
         text_add(text, "<p>The list cannot be repaired: <code>%u %u</code>, ", mended->answer.number, (unsigned)mended->answer.place);
         text_add_escaped(text, meaning);
@@ -124,7 +124,7 @@ static void add_picture(Text *text, const Report *report)
                  image->width * scale, image->height * scale);
         text_add_base64(text, report->png, report->png_length);
         text_add(text, "\"></p>\n");
-    } else if (report->drawing.number != 0) {
+    } else if (report->drawing.number != LANYARDROVE_ACCEPTED) {
         bool repaired = report->repaired.count > 0;
         List drawn = { report->mended.out, report->mended.length, false };
         explain(repaired ? &drawn : &report->list, report->drawing, FOR_DRAW, meaning, sizeof meaning);

@@ -21,7 +21,7 @@ static int write_repaired(const List *list, const Mended *mended, const char *ou
 {
     FILE *text = output != NULL ? stdout : stderr;
     char meaning[160];
-    if (mended->answer.number != 0) {
+    if (mended->answer.number != LANYARDROVE_ACCEPTED) {
         explain(list, mended->answer, FOR_REPAIR, meaning, sizeof meaning);
         fprintf(text, "%u %u\n%s\n", mended->answer.number, (unsigned)mended->answer.place, meaning);
         return STATUS_REFUSED;

@@ -3,7 +3,6 @@
 #include "report.h"
 
 #include <getopt.h>
-#include <lanyardrove.h>
 #include <stdlib.h>
 #include <string.h>
 
@@ -25,7 +24,7 @@ static bool rows_of(const List *list, Answer answer, Rows *rows)
     for (size_t place = 0; place < words && command_at(list, place, &command); place += command.words)
         rows->rows[rows->count++] = (Row){ place, command.number, hazards_before(prober, place) };
     rows->refused = rows->count;
-    for (size_t i = 0; answer.number >= 3 && i < rows->count; i++)
+    for (size_t i = 0; answer.number >= LANYARDROVE_PAST_END && i < rows->count; i++)
         if (rows->rows[i].place == answer.place)
             rows->refused = i;
     prober_free(prober);
@@ -40,7 +39,7 @@ static bool draw_picture(Report *report, const List *list)
         return false;
     bool done = true;
     report->drawing = answer_of(lanyardrove_draw(list->bytes, list->length, memory.bytes, memory.length, memory.start));
-    if (report->drawing.number == 0 && image_of_list(list, &report->image) && image_inside(&report->image, &memory)) {
+    if (report->drawing.number == LANYARDROVE_ACCEPTED && image_of_list(list, &report->image) && image_inside(&report->image, &memory)) {
         uint8_t *rgb = image_rgb(&report->image, &memory);
         report->png = rgb != NULL ? image_png(&report->image, rgb, &report->png_length) : NULL;
         done = report->png != NULL;
@@ -78,7 +77,7 @@ static int report_file(const char *path, const char *output)
     if (!gathered || text.failed)
         complain("the report could not be made: not enough memory");
     else if (file_write(output, text.bytes, text.length))
-        status = report.answer.number == 0 ? STATUS_ACCEPTED : STATUS_REFUSED;
+        status = report.answer.number == LANYARDROVE_ACCEPTED ? STATUS_ACCEPTED : STATUS_REFUSED;
     free(text.bytes);
     free(report.png);
     free(report.rows.rows);

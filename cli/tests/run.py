@@ -223,41 +223,79 @@ def dump_of_lists_without_whole_commands():
     assert "     0  00000000000000  no whole word\n" in dumped(bytes(7), 1)
     text = dumped(read(example("d.rdp")), 1)
     assert "Fill Triangle (STZ)" in text and ">> refused, 3 0" in text and "    20  " in text and "    21  " not in text, text
+    assert "=" not in text, text  # a cut command has no fields
     assert "1 4096" in dumped(bytes(32776), 1)
     same(len(dumped_commands(dumped(bytes(32776)))), 4097)
     assert "goes on" in run("dump", "/dev/zero")[1]
 
 
-def field_lines():
-    """Command number, field names, and bits, from document 000's tables as the tests know them: a sample of each form."""
-    return [
-        (0x35, 0xF5 << 56 | 0x00FFFFFFFFFFFFFF, {"format": "7 (I)", "size": "3 (32 bits)", "line": "511", "address": "0x1FF", "index": "7",
-         "palette": "15", "clamp_T": "1", "mirror_T": "1", "mask_T": "15", "shift_T": "15", "clamp_S": "1", "mirror_S": "1", "mask_S": "15",
-         "shift_S": "15"}),
-        (0x32, 0x32001002 << 32 | 0x07003004, {"upper_left.s": "1 (0.25)", "upper_left.t": "2 (0.50)", "index": "7", "lower_right.s": "3 (0.75)",
-         "lower_right.t": "4 (1.00)"}),
-        (0x33, 0x33001002 << 32 | 0x05003004, {"upper_left.s": "1 (0.25)", "upper_left.t": "2 (0.50)", "tile": "5", "lower_right.s": "3 (0.75)",
-         "dxt": "4"}),
-        (0x2A, 0x2A001002 << 32 | 0x01020304, {"width_G": "1", "width_B": "2", "center_G": "1", "scale_G": "2", "center_B": "3", "scale_B": "4"}),
-        (0x2B, 0x2B000000 << 32 | 0x0FFF0201, {"width_R": "4095", "center_R": "2", "scale_R": "1"}),
-        (0x2C, 0x2C << 56 | 1 << 45 | 2 << 36 | 3 << 27 | 4 << 18 | 5 << 9 | 6, {f"K{i}": str(i + 1) for i in range(6)}),
-        (0x2D, 0x2D << 56 | 3 << 24, {"upper_left.x": "0 (0.00)", "upper_left.y": "0 (0.00)", "field": "1", "odd": "1", "lower_right.x": "0 (0.00)",
-         "lower_right.y": "0 (0.00)"}),
-        (0x2E, 0x2E << 56 | 0x00010002, {"z": "1", "dz": "2"}),
-        (0x3A, 0x3A << 56 | 0x010203040506, {"min_level": "1", "prim_lod_frac": "2", "red": "3", "green": "4", "blue": "5", "alpha": "6"}),
-        (0x3C, 0x3C123456789ABCDE, {"combine": "0x123456789ABCDE"}),
-        (0x3D, 0x3DFFFFFFFFFFFFFF, {"format": "7 (I)", "size": "3 (32 bits)", "width": "1023 (1024 pixels)", "dramAddress": "0xFFFFFF"}),
-        (0x3E, 0x3EFFFFFFFFFFFFFF, {"dramAddress": "0xFFFFFF"}),
-        (0x3F, 0x3FFFFFFFFFFFFFFF, {"format": "7 (I)", "size": "3 (32 bits)", "width": "1023 (1024 pixels)", "dramAddress": "0x3FFFFFF"}),
-    ]
+def lines(text, word=0):
+    """Bit lines of document 000 as (name, word, high, low)."""
+    found = []
+    for part in text.split():
+        name, high, low = re.fullmatch(r"(.+)@(\d+)(?::(\d+))?", part).groups()
+        found.append((name, word, int(high), int(low if low is not None else high)))
+    return found
+
+
+def edge(letter, word):
+    return lines(f"x{letter}.i@59:48 x{letter}.f@47:32 dx{letter}dy.i@29:16 dx{letter}dy.f@15:0", word)
+
+
+AREA = "upper_left.s@55:44 upper_left.t@43:32 {}@26:24 lower_right.s@23:12 {}@11:0"
+IMAGE = "format@55:53 size@52:51 width@41:32 dramAddress@{}:0"
+COLOR = "red@31:24 green@23:16 blue@15:8 alpha@7:0"
+RECTANGLE = "lower_right.x@55:44 lower_right.y@43:32 {}upper_left.x@23:12 upper_left.y@11:0"
+TEXTURE_RECTANGLE = lines(RECTANGLE.format("tile@26:24 ")) + lines("s@63:48 t@47:32 dsdx@31:16 dtdy@15:0", 1)
+TRIANGLE = (lines("shade@58 texture@57 zbuffer@56 lmajor@55 level@53:51 tile@50:48 yl@45:32 ym@29:16 yh@13:0")
+            + edge("l", 1) + edge("h", 2) + edge("m", 3))
+LINES = {
+    **{number: TRIANGLE for number in range(8, 16)}, 0x24: TEXTURE_RECTANGLE, 0x25: TEXTURE_RECTANGLE,
+    0x2A: lines("width_G@55:44 width_B@43:32 center_G@31:24 scale_G@23:16 center_B@15:8 scale_B@7:0"),
+    0x2B: lines("width_R@27:16 center_R@15:8 scale_R@7:0"),
+    0x2C: lines("K0@53:45 K1@44:36 K2@35:27 K3@26:18 K4@17:9 K5@8:0"),
+    0x2D: lines("upper_left.x@55:44 upper_left.y@43:32 field@25 odd@24 lower_right.x@23:12 lower_right.y@11:0"),
+    0x2E: lines("z@31:16 dz@15:0"),
+    0x2F: lines("atomic_prim@55 cycle_type@53:52 persp_tex_en@51 detail_tex_en@50 sharpen_tex_en@49 tex_lod_en@48 tlut_en@47 tlut_type@46"
+                " sample_type@45 mid_texel@44 bi_lerp_0@43 bi_lerp_1@42 convert_one@41 key_en@40 rgb_dither_sel@39:38 alpha_dither_sel@37:36"
+                " bl_m1a_0@31:30 bl_m1a_1@29:28 bl_m1b_0@27:26 bl_m1b_1@25:24 bl_m2a_0@23:22 bl_m2a_1@21:20 bl_m2b_0@19:18 bl_m2b_1@17:16"
+                " force_blend@14 alpha_cvg_select@13 cvg_x_alpha@12 z_mode@11:10 cvg_dest@9:8 color_on_cvg@7 image_read_en@6 z_update_en@5"
+                " z_compare_en@4 antialias_en@3 z_source_sel@2 dither_alpha_en@1 alpha_compare_en@0"),
+    0x30: lines(AREA.format("tile", "lower_right.t")), 0x32: lines(AREA.format("index", "lower_right.t")),
+    0x33: lines(AREA.format("tile", "dxt")), 0x34: lines(AREA.format("tile", "lower_right.t")),
+    0x35: lines("format@55:53 size@52:51 line@49:41 address@40:32 index@26:24 palette@23:20 clamp_T@19 mirror_T@18 mask_T@17:14 shift_T@13:10"
+                " clamp_S@9 mirror_S@8 mask_S@7:4 shift_S@3:0"),
+    0x36: lines(RECTANGLE.format("")), 0x37: lines("color@31:0"), 0x38: lines(COLOR), 0x39: lines(COLOR), 0x3B: lines(COLOR),
+    0x3A: lines("min_level@47:40 prim_lod_frac@39:32 " + COLOR), 0x3C: lines("combine@55:0"),
+    0x3D: lines(IMAGE.format(23)), 0x3E: lines("dramAddress@23:0"), 0x3F: lines(IMAGE.format(25))}
+SIGNED = {"yl", "ym", "yh", "xl.i", "xh.i", "xm.i", "dxldy.i", "dxhdy.i", "dxmdy.i", "s", "t", "dsdx", "dtdy"}
+
+
+def value_of(given, name, word, high, low):
+    value = given[word] >> low & (1 << (high - low + 1)) - 1
+    return value - (1 << (high - low + 1)) if name in SIGNED and value >> (high - low) else value
 
 
 @test
 def dump_shows_the_fields_of_document_000():
-    for number, word, fields in field_lines():
-        same(dumped_commands(dumped(words(word)))[0][4], fields, hex(number))
-    for number in (0x38, 0x39, 0x3B):
-        same(dumped_commands(dumped(words(number << 56 | 0x01020304)))[0][4], {"red": "1", "green": "2", "blue": "3", "alpha": "4"})
+    rng = random.Random(3)
+    for number in list(range(64)) * 2:
+        given = [rng.getrandbits(64) for _ in range(length_of(number))]
+        given[0] = given[0] & ~(63 << 56) | number << 56
+        fields = dumped_commands(dumped(words(*given)))[0][4]
+        found = {name: int(text.split(" ")[0], 0) for name, text in fields.items()}
+        same(found, {line[0]: value_of(given, *line) for line in LINES.get(number, [])}, hex(number))
+
+
+@test
+def dump_says_what_a_value_means():
+    tile = dumped_commands(dumped(words(0x35 << 56 | 3 << 53 | 1 << 51 | 0x1FF << 32)))[0][4]
+    same((tile["format"], tile["size"], tile["address"]), ("3 (IA)", "1 (8 bits)", "0x1FF"))
+    image = dumped_commands(dumped(words(0x3FFFFFFFFFFFFFFF)))[0][4]
+    same(image, {"format": "7 (I)", "size": "3 (32 bits)", "width": "1023 (1024 pixels)", "dramAddress": "0x3FFFFFF"})
+    same(dumped_commands(dumped(words(0x2F10 << 48)))[0][4]["cycle_type"], "1 (2-Cycle)")
+    same(dumped_commands(dumped(words(0x3200100207003004)))[0][4], {
+        "upper_left.s": "1 (0.25)", "upper_left.t": "2 (0.50)", "index": "7", "lower_right.s": "3 (0.75)", "lower_right.t": "4 (1.00)"})
 
 
 @test
@@ -403,6 +441,32 @@ def repair_inserts_the_least_syncs():
 
 
 @test
+def repair_says_what_it_wrote():
+    """The list with the syncs that the text names is the list written, and the cycles are theirs."""
+    rng = random.Random(2)
+    kinds = {"Load": (LOAD, 25), "Tile": (TILE, 33), "Pipe": (PIPE, 50)}
+    for _ in range(12):
+        given = [0x2F00000000000000, *S[1:]]
+        for _ in range(60):
+            number = rng.choice([0x36, 0x36, 0x24, 0x34, 0x35, 0x37, 0x26, 0x27, 0x28, 0x3A])
+            given += [number << 56] + [rng.getrandbits(64)] * (length_of(number) - 1)
+        write("in.rdp", words(*given))
+        status, out, err = run("repair", "in.rdp", "-o", "out.rdp")
+        same((status, err), (0, ""))
+        told = re.findall(r"^Sync (Load|Tile|Pipe) before word (\d+), (.+)$", out, re.M)
+        expected, before = [], {int(place): kind for kind, place, _ in told}
+        for place, word in enumerate(given):
+            expected += [kinds[before[place]][0]] if place in before else []
+            expected.append(word)
+        same(read("out.rdp"), words(*expected))
+        same(out.split("\n")[-2], f"{len(told)} inserted, {sum(kinds[k][1] for k, _, _ in told)} cycles, {len(expected)} words in all")
+        same([NAMES[given[int(place)] >> 56] for _, place, _ in told], [name for _, _, name in told])
+        same(run("check", "-q", "out.rdp")[0], 0)
+    write("in.rdp", words(*S, R, TILE, C))
+    same(run("repair", "in.rdp", "-o", "out.rdp")[1].split("\n")[0], "Sync Pipe before word 5, Set Fill Color")
+
+
+@test
 def repair_to_standard_output():
     done = subprocess.run([TOOL, "repair", "-"], input=words(*S, R, L, C), capture_output=True)
     same((done.returncode, done.stdout), (0, words(*S, R, PIPE, L, C)))
@@ -522,6 +586,10 @@ def draw_writes_memory():
     same(read("i.bin"), memory_of_i()[16:48])
     same(run("draw", example("i.rdp"), "--memory", "20", "--start", "0x12", "-o", "i.bin")[0], 0)
     same(read("i.bin"), memory_of_i()[18:38])
+    same(run("draw", example("i.rdp"), "--memory", "30", "--start", "16", "--image", "18,1,10,16", "-o", "i.bin")[0], 0)
+    same(read("i.bin"), memory_of_i()[18:38])
+    same(run("draw", example("i.rdp"), "--memory", "30", "--start", "16", "--image", "18,1,10,16", "-o", "i.ppm")[0], 0)
+    same(read("i.ppm"), b"P6\n1 10\n255\n" + b"".join(rgb_of(v) for v in struct.unpack(">10H", memory_of_i()[18:38])))
     same(run("draw", example("i.rdp"), "--memory", "1K", "-o", "i.bin")[0], 0)
     same(len(read("i.bin")), 1024)
     same(run("draw", example("a.rdp"), "--memory", "0", "-o", "a.bin")[0], 0)
