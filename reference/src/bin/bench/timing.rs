@@ -1,7 +1,8 @@
 //! Timing: several turns, one after the other in every round.
 
+use std::ffi::{c_int, c_long};
 use std::hint::black_box;
-use std::time::{Duration, Instant};
+use std::time::Duration;
 
 use crate::rows::Buffers;
 
@@ -36,11 +37,35 @@ fn enough(turn: &Turn, buffers: &mut Buffers) -> u32 {
 }
 
 fn time(turn: &Turn, calls: u32, buffers: &mut Buffers) -> Duration {
-    let start = Instant::now();
+    let start = processor_time();
     for _ in 0..calls {
         black_box(turn(black_box(buffers)));
     }
-    start.elapsed()
+    processor_time() - start
+}
+
+/// C's `struct timespec` on Linux.
+#[repr(C)]
+#[derive(Default)]
+struct Time {
+    seconds: c_long,
+    nanoseconds: c_long,
+}
+
+extern "C" {
+    fn clock_gettime(clock: c_int, time: *mut Time) -> c_int;
+}
+
+/// Linux's CLOCK_PROCESS_CPUTIME_ID.
+const PROCESSOR_TIME: c_int = 2;
+
+/// The time that a processor spent on this program: what other programs take does
+/// not count.
+fn processor_time() -> Duration {
+    let mut time = Time::default();
+    let status = unsafe { clock_gettime(PROCESSOR_TIME, &mut time) };
+    assert_eq!(status, 0, "the clock can be read");
+    Duration::new(time.seconds as u64, time.nanoseconds as u32)
 }
 
 fn median(mut times: Vec<f64>) -> f64 {
