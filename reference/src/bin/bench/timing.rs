@@ -14,8 +14,17 @@ const ROUNDS: usize = 31;
 /// How long the calls of one turn last, at least.
 const LEAST: Duration = Duration::from_millis(2);
 
-/// The median of each turn over all rounds, in nanoseconds a call.
-pub fn medians(turns: &[Turn], buffers: &mut Buffers) -> Vec<f64> {
+/// What one turn measured.
+pub struct Measured {
+    /// The median over all rounds, a call.
+    pub nanoseconds: f64,
+    /// The first turn's speed divided by this one's: the median over all rounds,
+    /// each compared within itself.
+    pub ratio: f64,
+}
+
+/// Measures all turns.
+pub fn measure(turns: &[Turn], buffers: &mut Buffers) -> Vec<Measured> {
     let calls: Vec<u32> = turns.iter().map(|turn| enough(turn, buffers)).collect();
     let mut times = vec![Vec::new(); turns.len()];
     for _ in 0..ROUNDS {
@@ -24,7 +33,16 @@ pub fn medians(turns: &[Turn], buffers: &mut Buffers) -> Vec<f64> {
             times[index].push(time.as_nanos() as f64 / f64::from(calls[index]));
         }
     }
-    times.into_iter().map(median).collect()
+    let measured = |own: &Vec<f64>| Measured {
+        nanoseconds: median(own.clone()),
+        ratio: median(
+            own.iter()
+                .zip(&times[0])
+                .map(|(own, first)| own / first)
+                .collect(),
+        ),
+    };
+    times.iter().map(measured).collect()
 }
 
 /// A number of calls that lasts long enough.
@@ -68,7 +86,7 @@ fn processor_time() -> Duration {
     Duration::new(time.seconds as u64, time.nanoseconds as u32)
 }
 
-fn median(mut times: Vec<f64>) -> f64 {
-    times.sort_by(f64::total_cmp);
-    times[times.len() / 2]
+fn median(mut numbers: Vec<f64>) -> f64 {
+    numbers.sort_by(f64::total_cmp);
+    numbers[numbers.len() / 2]
 }
