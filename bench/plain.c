@@ -119,6 +119,13 @@ static unsigned number_at(const uint8_t *command)
     return command[0] & 0x3F;
 }
 
+/* A command's words. Only draws have more than one, and this branch is foretold: where the words of all commands come from the table, each command
+   waits for the one before, and the check takes more than twice as long. */
+static size_t words_in(unsigned number)
+{
+    return draws[number] ? lengths[number] : 1;
+}
+
 static uint64_t word_at(const uint8_t *command)
 {
     uint64_t word;
@@ -282,7 +289,8 @@ static inline __attribute__((always_inline)) uint64_t judge(const uint8_t *list,
         const uint8_t *command = list + 8 * at;
         unsigned number = number_at(command);
         unsigned step = steps[number][hazards];
-        if (words - at < lengths[number])
+        size_t count = words_in(number);
+        if (words - at < count)
             return answer(3, 0, at);
         if (ended)
             return answer(4, 0, at);
@@ -298,7 +306,7 @@ static inline __attribute__((always_inline)) uint64_t judge(const uint8_t *list,
         run(&set, number, command);
         ended = number == SYNC_FULL;
         hazards = step & 15;
-        at += lengths[number];
+        at += count;
     }
     return undrawable != 0 ? undrawable : answer(0, 0, words);
 }
@@ -318,7 +326,7 @@ static const uint8_t option_sync[4] = {0, SYNC_LOAD, SYNC_TILE, SYNC_PIPE};
 static size_t count_commands(const uint8_t *list, size_t words)
 {
     size_t count = 0;
-    for (size_t at = 0; at < words; at += lengths[number_at(list + 8 * at)])
+    for (size_t at = 0; at < words; at += words_in(number_at(list + 8 * at)))
         count++;
     return count;
 }
@@ -329,7 +337,7 @@ static void note_numbers(const uint8_t *list, size_t words, uint8_t *work)
     for (size_t at = 0; at < words; work += 16) {
         unsigned number = number_at(list + 8 * at);
         work[0] = number;
-        at += lengths[number];
+        at += words_in(number);
     }
 }
 
@@ -386,7 +394,7 @@ static void write_plan(const uint8_t *list, size_t words, const uint8_t *work, u
             out[0] = option_sync[choice >> 4];
             out += 8;
         }
-        size_t bytes = 8 * lengths[number_at(list)];
+        size_t bytes = 8 * words_in(number_at(list));
         memcpy(out, list, bytes);
         out += bytes;
         list += bytes;
@@ -448,7 +456,7 @@ static void paint_fills(const uint8_t *list, size_t words, const struct memory *
         if (number == FILL_RECTANGLE)
             paint(area_of(word_at(list), &set), set.color, memory);
         run(&set, number, list);
-        list += 8 * lengths[number];
+        list += 8 * words_in(number);
     }
 }
 

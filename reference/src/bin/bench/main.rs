@@ -11,9 +11,8 @@ mod versions;
 use std::ops::Range;
 use std::process::ExitCode;
 
-use report::Times;
 use rows::{Buffers, Job, Row};
-use timing::{medians, Turn};
+use timing::{Measured, Turn};
 use versions::VERSIONS;
 
 fn main() -> ExitCode {
@@ -32,7 +31,8 @@ fn main() -> ExitCode {
     ExitCode::SUCCESS
 }
 
-fn measure(row: &Row) -> Times {
+/// The versions in their order, and memset where the row draws.
+fn measure(row: &Row) -> Vec<Measured> {
     let mut turns: Vec<Turn> = Vec::new();
     for (_, version) in VERSIONS {
         turns.push(Box::new(move |buffers| row.call(version, buffers)));
@@ -40,13 +40,7 @@ fn measure(row: &Row) -> Times {
     if let Job::Draw(runs) = &row.job {
         turns.push(Box::new(move |buffers| set_runs(buffers, runs)));
     }
-    let medians = medians(&turns, &mut Buffers::new(row));
-    Times {
-        library: medians[0],
-        rust: medians[1],
-        c: medians[2],
-        memset: medians.get(3).copied(),
-    }
+    timing::measure(&turns, &mut Buffers::new(row))
 }
 
 /// The runs set to one byte, which `fill` does by memset.

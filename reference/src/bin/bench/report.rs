@@ -2,14 +2,7 @@
 
 use std::fs;
 
-/// The nanoseconds a call of one row.
-pub struct Times {
-    pub library: f64,
-    pub rust: f64,
-    pub c: f64,
-    /// Of memset over the same bytes, where the row draws.
-    pub memset: Option<f64>,
-}
+use crate::timing::Measured;
 
 /// The machine, the compilers and what else the machine did.
 pub fn print_heading() {
@@ -43,21 +36,27 @@ pub fn print_columns() {
     println!("|---|--:|--:|--:|--:|--:|--:|--:|");
 }
 
-pub fn print_row(name: &str, times: &Times) {
-    let speed = |other: f64| format!("{:.2}", other / times.library);
-    let nanoseconds = |time: f64| format!("{time:.0}");
+/// What was measured of the library, Rust and C, and of memset where the row
+/// draws.
+pub fn print_row(name: &str, measured: &[Measured]) {
+    let nanoseconds = |index: usize| cell(measured.get(index).map(|m| m.nanoseconds), 0);
+    let ratio = |index: usize| cell(measured.get(index).map(|m| m.ratio), 2);
     print_cells(
         name,
         &[
-            nanoseconds(times.library),
-            nanoseconds(times.rust),
-            nanoseconds(times.c),
-            times.memset.map(nanoseconds).unwrap_or_default(),
-            speed(times.rust),
-            speed(times.c),
-            times.memset.map(speed).unwrap_or_default(),
+            nanoseconds(0),
+            nanoseconds(1),
+            nanoseconds(2),
+            nanoseconds(3),
+            ratio(1),
+            ratio(2),
+            ratio(3),
         ],
     );
+}
+
+fn cell(number: Option<f64>, digits: usize) -> String {
+    number.map_or(String::new(), |number| format!("{number:.digits$}"))
 }
 
 fn print_cells(name: &str, cells: &[String; 7]) {
