@@ -103,7 +103,7 @@ int LLVMFuzzerTestOneInput(const uint8_t *data, size_t size) {
     const uint8_t *list = in->list;
     const size_t length = in->length, words = length / 8;
     const uint64_t check = lanyardrove_check(list, length), start = chosen_start(in);
-    size_t memory_length = chosen_length(in, 0, 8192, ROOM);
+    const size_t memory_length = chosen_length(in, 0, in->choice & 128 ? 40000 : 8192, ROOM);
     uint32_t seed = in->number;
     for (size_t i = 0; i < memory_length; i++) before[i] = (uint8_t)((seed = seed * 1664525u + 1013904223u) >> 24);
 

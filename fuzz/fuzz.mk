@@ -36,7 +36,7 @@ $(FUZZ_DRIVERS:%=$(FUZZ_OUT)/%): $(FUZZ_OUT)/%: fuzz/%.c $(FUZZ_COMMON) $(FUZZ_H
 
 $(FUZZ_OUT)/memcheck: fuzz/memcheck.c fuzz/lent.c fuzz/lists.c fuzz/fields.c $(FUZZ_HEADERS) $(FUZZ_ARCHIVE)
 	mkdir -p $(FUZZ_OUT)
-	clang $(FUZZ_FLAGS) -o $@ fuzz/memcheck.c fuzz/lent.c fuzz/lists.c fuzz/fields.c $(FUZZ_ARCHIVE)
+	clang $(FUZZ_FLAGS) -gdwarf-4 -o $@ fuzz/memcheck.c fuzz/lent.c fuzz/lists.c fuzz/fields.c $(FUZZ_ARCHIVE)
 
 # The library's functions renamed, behind those of fuzz/wrong.c
 $(FUZZ_OUT)/wrong.o: $(FUZZ_OUT)/lanyardrove.o fuzz/wrong.c

@@ -18,14 +18,18 @@ static void put_word(uint8_t *at, uint64_t word) {
     for (int i = 0; i < 8; i++) at[i] = (uint8_t)(word >> (56 - 8 * i));
 }
 
-static uint64_t small_corner(void) { return below(4) ? below(80) << 12 | below(80) : below(4096) << 12 | below(4096); }
+// A corner, x above y; often near the origin, sometimes far to the right only
+static uint64_t small_corner(void) {
+    const unsigned x = below(3) ? below(80) : below(4096);
+    return x << 12 | (below(4) ? below(80) : below(4096));
+}
 
 // The first word of a command of some number, with fields that are often near those that matter.
 static uint64_t some_word(unsigned number) {
     uint64_t word = (uint64_t)number << 56;
     if (below(64) == 0) word |= any() << 62;  // ignored bits
     switch (number) {
-    case 0x2D: return word | (below(3) ? 0 : small_corner()) << 32 | (below(4) ? 0 : below(4)) << 24 | (below(2) ? 0x100100 : small_corner());
+    case 0x2D: return word | (below(3) ? 0 : small_corner()) << 32 | (below(4) ? 0 : below(4)) << 24 | (below(3) == 0 ? 0x100100 : below(2) ? 0xFFFFFF : small_corner());
     case 0x2F: return word | (uint64_t)(below(4) ? 3 : below(4)) << 52 | (below(4) ? 0 : any() & 0x0FFFFFFFFFFFFF);
     case 0x3F:
         return word | (uint64_t)below(8) << 53 | (uint64_t)(below(8) ? 1 + below(3) : 0) << 51 | (uint64_t)(below(4) ? below(33) : below(1024)) << 32 |
