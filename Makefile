@@ -1,6 +1,9 @@
 # make        proves the library and writes build/liblanyardrove.a, for C and C++ on x86-64 Linux (some minutes on a fresh machine)
 # make test   compiles tests/c against the archive, as C11 and as C++17, and runs both
+# make compare   runs 200,000 seeded cases through the archive and the second program, reference/
+# make soak   the same with SOAK_CASES cases from SOAK_SEED on
 # make clean  removes build/
+# bench/bench.mk, fuzz/fuzz.mk and cli/cli.mk have further targets
 CC = gcc
 CXX = g++
 WARNINGS = -Wall -Wextra -Werror
@@ -24,7 +27,22 @@ test: build/test_c build/test_cpp
 	build/test_c
 	build/test_cpp
 
+COMPARE = LANYARDROVE_LIB=$(abspath build) cargo run --quiet --manifest-path reference/Cargo.toml --release --features compare --bin compare --
+SOAK_SEED ?= 2
+SOAK_CASES ?= 20000000
+
+compare: $(ARCHIVE)
+	cargo test --quiet --manifest-path reference/Cargo.toml
+	$(COMPARE) 1 200000
+
+soak: $(ARCHIVE)
+	$(COMPARE) $(SOAK_SEED) $(SOAK_CASES)
+
 clean:
 	rm -rf build
 
-.PHONY: test clean
+.PHONY: test compare soak clean
+
+include bench/bench.mk
+include fuzz/fuzz.mk
+include cli/cli.mk
