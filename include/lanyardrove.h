@@ -1,8 +1,9 @@
 /*
  * Lanyardrove: checks, repairs, draws, decodes and encodes command lists of the Nintendo 64's display processor (RDP).
  *
- * Link with build/liblanyardrove.a (`make`) and the C library. The functions allocate nothing, keep no state between calls
- * and touch only the bytes that they are lent, so calls on different buffers may run at the same time.
+ * Link with build/liblanyardrove.a (`make`) and the C library. The functions allocate nothing, keep no state between calls,
+ * use less than 4 KiB of stack and touch only the bytes that they are lent, so calls on different buffers may run at the
+ * same time. Lists that are only read may be shared.
  *
  * A list is 64-bit words, most significant byte first, at any alignment. Places are counted in words from 0.
  *
@@ -71,8 +72,9 @@ uint64_t lanyardrove_check(const uint8_t *list, size_t list_length);
    Answers 0, the words written as the place and the cycles inserted; or the first of refusals 1 to 6 of the list (7 to 9 are
    what it repairs), then 13 at the number of commands, then 14 at the words needed.
    work: 16 bytes for each command of the list; a command has at least one word, so 2 * list_length bytes always suffice.
-   out:  at most one sync stands before each command, so 2 * list_length bytes always suffice: for 16,384 bytes of list,
-         32,768. To learn the words needed, lend an out of length 0 and read the place of 14.
+   out:  at most one sync is put before a command, so 2 * list_length bytes always suffice. None is put before the first
+         four commands, so n words come out as at most 2 * n - 4 (as n, below four): 4,092 words for the longest list.
+         To learn the words needed, lend an out of length 0 and read the place of 14.
    At 0 and at 14 the first 16 bytes a command of work are left zero, and its rest as received. Every other refusal leaves
    both buffers as received. Bytes of out beyond the words written are not touched. */
 uint64_t lanyardrove_repair(const uint8_t *list, size_t list_length,
