@@ -41,11 +41,13 @@ def reached(path, runs):
     for line in open(path):
         at, name = line.rstrip('\n').split(' ', 1)
         functions.setdefault(name, []).append(at)
-    whole = sum(len(all) for all in functions.values())
-    for name, all in functions.items():
-        missed = [at for at in all if at not in seen]
-        print(f'{len(all) - len(missed):5} of {len(all):5}  {name}' + (f'  not: {" ".join(missed[:12])}' if missed else ''))
-    print(f'{sum(at in seen for all in functions.values() for at in all):5} of {whole:5}  in all')
+    whole = hit = 0
+    for name, begins in functions.items():
+        missed = [at for at in begins if at not in seen]
+        whole += len(begins)
+        hit += len(begins) - len(missed)
+        print(f'{len(begins) - len(missed):5} of {len(begins):5}  {name}' + (f'  not: {" ".join(missed[:12])}' if missed else ''))
+    print(f'{hit:5} of {whole:5}  in all')
 
 
 if len(sys.argv) == 2:

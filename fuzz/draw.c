@@ -21,14 +21,16 @@ static uint64_t draw_at(enum place place, const uint8_t *list, size_t length, co
     return answer;
 }
 
-// The four bytes of each fill colour that the list sets, and of zero: allowed[k] has byte k of each.
+// The fill colours that are set where the list has a Fill Rectangle, zero before the first is set: allowed[k] has byte k of each.
 static bool allowed[4][256];
 static void colours(const uint8_t *list, size_t words) {
+    uint8_t colour[4] = {0};
     memset(allowed, 0, sizeof allowed);
-    for (int k = 0; k < 4; k++) allowed[k][0] = true;
-    for (size_t at = 0, here; at < words && (here = whole_at(list, words, at)); at += here)
-        if (command_number(list + 8 * at) == 0x37)
-            for (int k = 0; k < 4; k++) allowed[k][list[8 * at + 4 + (size_t)k]] = true;
+    for (size_t at = 0; at < words; at += words_of(command_number(list + 8 * at))) {
+        const uint8_t *word = list + 8 * at;
+        if (command_number(word) == 0x37) memcpy(colour, word + 4, 4);
+        for (int k = 0; k < 4 && command_number(word) == 0x36; k++) allowed[k][colour[k]] = true;
+    }
 }
 
 // A byte is painted if it is the same after drawing on some memory and on that memory with all bits turned over; else it is what it was in both.
@@ -112,6 +114,8 @@ int LLVMFuzzerTestOneInput(const uint8_t *data, size_t size) {
     memcpy(first, after, memory_length);
     DEMAND(draw_both(list, length, start, 0, memory_length) == answer);
     DEMAND(same(first, after, memory_length));
+    static uint8_t beside[ROOM];
+    DEMAND(draw_at(SIDE_BY_SIDE, list, length, before, memory_length, start, beside) == answer && same(first, beside, memory_length));
     const unsigned number = number_of(answer);
     const size_t place = place_of(answer);
     count_answer(number);

@@ -1,4 +1,4 @@
-# Fault-finding at the C boundary; see fuzz/README.md. For a top Makefile: include fuzz/fuzz.mk
+# Fault-finding at the C boundary; see fuzz/README.md. For a top Makefile, after its first target: include fuzz/fuzz.mk
 #   make fuzz           each driver for FUZZ_SECONDS, one after the other
 #   make fuzz-wrong     that the drivers find the faults of fuzz/wrong.c, a few seconds for each at most
 #   make fuzz-memcheck  every function under valgrind
@@ -15,7 +15,7 @@ FUZZ_NAMES := $(FUZZ_DRIVERS:%=-u lanyardrove_%)
 FUZZ_WRONG := check:1 check:2 check:3 check:4 check:5 check:6 repair:11 repair:12 repair:13 repair:14 repair:15 repair:16 \
     draw:21 draw:22 draw:23 draw:24 draw:25 decode:31 decode:32 decode:33 decode:34 encode:41 encode:42 encode:43 encode:44 encode:45
 
-.PHONY: fuzz-build fuzz fuzz-wrong fuzz-memcheck
+.PHONY: fuzz-build fuzz fuzz-wrong fuzz-memcheck fuzz-always
 fuzz-build: $(FUZZ_DRIVERS:%=$(FUZZ_OUT)/%) $(FUZZ_OUT)/blocks $(FUZZ_OUT)/memcheck
 
 fuzz: $(FUZZ_DRIVERS:%=$(FUZZ_OUT)/%.log)
@@ -54,7 +54,7 @@ fuzz-wrong: $(FUZZ_DRIVERS:%=$(FUZZ_OUT)/wrong-%)
 	    then echo "$$one not found"; exit 1; else echo "$$one found: $$(grep -m1 -E 'DEMAND|SUMMARY' $(FUZZ_OUT)/wrong.log)"; fi; done
 
 # The corpus begins with document 01's examples, behind settings that are all zero. An input that fails is left in $(FUZZ_OUT) as DRIVER-crash-..
-$(FUZZ_OUT)/%.log: $(FUZZ_OUT)/% $(FUZZ_OUT)/blocks examples/*.rdp
+$(FUZZ_OUT)/%.log: $(FUZZ_OUT)/% $(FUZZ_OUT)/blocks examples/*.rdp fuzz-always
 	mkdir -p $(FUZZ_OUT)/$*.corpus
 	for list in examples/*.rdp; do (head -c 24 /dev/zero; cat $$list) > $(FUZZ_OUT)/$*.corpus/$$(basename $$list); done
 	FUZZ_BLOCKS=$(FUZZ_OUT)/blocks FUZZ_REACHED=$(FUZZ_OUT)/$*.reached $< -max_total_time=$(FUZZ_SECONDS) -timeout=10 -max_len=4096 -len_control=0 \

@@ -25,8 +25,28 @@ static uint8_t *arena_of(int slot, int class) {
     return *arena;
 }
 
+static bool unused(const uint8_t *from, const uint8_t *to) {
+    return from >= to || (*from == UNUSED && memcmp(from, from + 1, (size_t)(to - from) - 1) == 0);
+}
+
+static struct lent lend_beside(int slot, size_t length) {
+    static uint8_t *row, *next;
+    if (!row) {
+        row = next = malloc(SLOTS * LONGEST + 64);
+        memset(row, UNUSED, SLOTS * LONGEST + 64);
+    }
+    if (slot == 0) {
+        DEMAND(unused(next, next + 64));
+        next = row;
+    }
+    uint8_t *bytes = next;
+    next += (length + 7) / 8 * 8;
+    return (struct lent){bytes, length, bytes, (size_t)(next - bytes)};
+}
+
 struct lent lend(int slot, enum place place, size_t length, bool null_if_empty) {
     if (length > LONGEST) abort();
+    if (place == SIDE_BY_SIDE) return lend_beside(slot, length);
     if (place == HEAP) {
         if (length == 0 && null_if_empty) return (struct lent){NULL, 0, NULL, 0};
         return (struct lent){malloc(length), length, NULL, 0};
@@ -42,10 +62,6 @@ struct lent lend_copy(int slot, enum place place, const uint8_t *bytes, size_t l
     struct lent lent = lend(slot, place, length, null_if_empty);
     if (length) memcpy(lent.bytes, bytes, length);
     return lent;
-}
-
-static bool unused(const uint8_t *from, const uint8_t *to) {
-    return from >= to || (*from == UNUSED && memcmp(from, from + 1, (size_t)(to - from) - 1) == 0);
 }
 
 void give_back(struct lent lent) {

@@ -1,14 +1,15 @@
-// Buffers that are lent to the library, each with exactly the length that is stated, in three places:
+// Buffers that are lent to the library, each with exactly the length that is stated, in four places:
 //   HEAP         from malloc, under AddressSanitizer: it sees the driver's own accesses and the library's calls of memcpy and memset
 //   BEFORE_GUARD ending at a page that may not be touched: any access beyond the end faults, also one by the library's own code
 //   AFTER_GUARD  beginning after such a page: any access before the beginning faults
+//   SIDE_BY_SIDE the buffers of a call one directly behind the other (at multiples of 8), in the order in which they are lent, from slot 0 on
 #ifndef FUZZ_LENT_H
 #define FUZZ_LENT_H
 #include <stdbool.h>
 #include <stddef.h>
 #include <stdint.h>
 
-enum place { HEAP, BEFORE_GUARD, AFTER_GUARD, PLACES };
+enum place { HEAP, BEFORE_GUARD, AFTER_GUARD, SIDE_BY_SIDE, PLACES };
 
 // Two buffers of one call are in two slots.
 enum { SLOTS = 4, LONGEST = 65536 };

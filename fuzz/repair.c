@@ -16,8 +16,8 @@ static void fill(uint8_t *bytes, size_t length, uint32_t seed) {
 // One call; the buffers before and after it stand in the four arrays.
 static uint64_t repair_at(enum place place, const uint8_t *list, size_t length, size_t work_length, size_t out_length) {
     struct lent given = lend_copy(0, place, list, length, null_if_empty);
-    struct lent work = lend_copy(1, place, work_before, work_length, null_if_empty);
-    struct lent out = lend_copy(2, place, out_before, out_length, null_if_empty);
+    struct lent out = lend_copy(1, place, out_before, out_length, null_if_empty);
+    struct lent work = lend_copy(2, place, work_before, work_length, null_if_empty);
     uint64_t answer = lanyardrove_repair(given.bytes, given.length, work.bytes, work.length, out.bytes, out.length);
     DEMAND(same(given.bytes, list, length));
     if (work_length) memcpy(work_after, work.bytes, work_length);
