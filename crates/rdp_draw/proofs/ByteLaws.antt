@@ -9,13 +9,9 @@ use Rattle.rdp_command.proofs.Tests.{true-of}
 use Rattle.rdp_draw.specs.Fill.{colorByte, covers, painted}
 use Rattle.rdp_draw.specs.Draw.{Draw, drawsOf, drawAnswer, paintedAll, drawMemory}
 use Rattle.rdp_draw.specs.Refusals.{someCovers, LastCovers}
-use Rattle.rdp_draw.proofs.BoolLaws.{or-not}
+use Rattle.rdp_draw.proofs.BoolLaws.{false-of, or-not}
 use Rattle.rdp_draw.proofs.DrawLaws.{memory-kept, memory-painted}
 use Rattle.rdp_draw.proofs.OverlayLaws.{length-overlay, getD-overlay}
-
-not-of : (b : Bool) → T (not b) → b ≡ false
-not-of true t = absurd t
-not-of false t = refl
 
 module _ (start : ℕ) where
   painted-join : (xs ys : List Draw) (m : List ℕ) → paintedAll start (xs ++ ys) m ≡ paintedAll start ys (paintedAll start xs m)
@@ -74,8 +70,8 @@ module _ (list : List ℕ) (start : ℕ) (m : List ℕ) where
       pub drawn-covered : (d : Draw) → LastCovers list (start + i) d → getD (drawMemory list start m) i 0 ≡ colorByte (d .fill .color) (start + i)
       drawn-covered d l =
           ap (λ (x : List ℕ). getD x i 0) (all ∙ ap (λ (ds : List Draw). paintedAll start ds m) (l .split)) ∙
-          painted-last start (l .before) d (l .after) m i h (true-of _ (l .covering)) (not-of _ (l .staying))
+          painted-last start (l .before) d (l .after) m i h (true-of _ (l .covering)) (false-of _ (l .staying))
 
       -- what was there, where none covers it
       pub drawn-free : T (not (someCovers (drawsOf list) (start + i))) → getD (drawMemory list start m) i 0 ≡ getD m i 0
-      drawn-free t = ap (λ (x : List ℕ). getD x i 0) all ∙ painted-free start (drawsOf list) m i h (not-of _ t)
+      drawn-free t = ap (λ (x : List ℕ). getD x i 0) all ∙ painted-free start (drawsOf list) m i h (false-of _ t)

@@ -1,5 +1,5 @@
 -- What the drawing's loops carry is a view of the registers, before and after each command, and leads them from draw to draw. Assumes nothing.
-use mathlib.Core.Bool.{Bool, true, false, cond, not, _&&_, _||_, true≢false}
+use mathlib.Core.Bool.{Bool, true, false, cond, not, _&&_}
 use mathlib.Core.List.{List, [], _∷_}
 use mathlib.Core.Path.{_≡_, refl, sym, _∙_, ap}
 use Prim.Native.Nat.{ℕ, _+_, _*_, _/_, _%_, _^_, _≤_, _<_}
@@ -22,16 +22,13 @@ use Rattle.rdp_check.specs.Check.{draws}
 use Rattle.rdp_check.specs.declared.Registers.{Registers}
 use Rattle.rdp_check.proofs.KeptLaws.{keeps}
 use Rattle.rdp_check.proofs.ListLaws.{commandAt, commands-at, rest-at, commands-past, rest-past, command-word, command-number, command-there}
+use Rattle.rdp_draw.proofs.BoolLaws.{false-of, or-not}
 use Rattle.rdp_draw.specs.declared.walk.FillRegisters.{FillRegisters}
 use Rattle.rdp_draw.specs.Draw.{Draw, drawAt, drawsFrom, drawsOf}
 use Rattle.rdp_command.specs.declared.WordFields.{WordFields}
 use Rattle.rdp_draw.specs.Seen.{seen, sets, seenAfter, Due, Next, Reaches}
 
 -- ---- the kinds of steps
-
-false-of : (b : Bool) → T (not b) → b ≡ false
-false-of true t = absurd t
-false-of false t = refl
 
 -- the constants of the code
 abbrev drawMask : ℕ
@@ -64,19 +61,15 @@ draw-keeps n h e = false-of (sets n) (rw e at (step-test n h))
 
 -- ---- the registers that are seen
 
-or-false : (a b : Bool) → a || b ≡ false → (a ≡ false) × (b ≡ false)
-or-false true b e = absurd (true≢false e)
-or-false false b e = (refl, e)
-
 -- a word of a command that sets none of them changes nothing
 pub seen-kept : (q : FillRegisters) (w : ℕ) → sets (numberIn w) ≡ false → seenAfter q (wordFields w) ≡ q
 unfolding sets seenAfter
 seen-kept q w e =
     let n = numberIn w in
-    let a = or-false (eqb n 0x2D) _ e in
-    let b = or-false (eqb n 0x2F) _ (a .1) in
-    let c = or-false (eqb n 0x37) _ (b .1) in
-    let d = or-false (eqb n 0x3F) _ (c .1) in
+    let a = or-not (eqb n 0x2D) _ e in
+    let b = or-not (eqb n 0x2F) _ (a .1) in
+    let c = or-not (eqb n 0x37) _ (b .1) in
+    let d = or-not (eqb n 0x3F) _ (c .1) in
     rw (a .0, b .0, c .0, d .0)
 
 -- a command that sets none of them
