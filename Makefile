@@ -1,4 +1,6 @@
-# make        proves the library and writes build/liblanyardrove.a, for C and C++ on x86-64 Linux (some minutes on a fresh machine)
+# make        proves the library and writes build/liblanyardrove.a, for C and C++ on x86-64 Linux (some minutes on a fresh machine),
+#             and build/lanyardrove, the command line tool
+# make install PREFIX=/usr/local DESTDIR=   and make uninstall: library, header, tool, manual page
 # make test   compiles tests/c against the archive, as C11 and as C++17, and runs both
 # make compare   runs 200,000 seeded cases through the archive and the second program, reference/
 # make soak   the same with SOAK_CASES cases from SOAK_SEED on
@@ -11,6 +13,8 @@ WARNINGS = -Wall -Wextra -Werror
 SOURCES = crates.txt $(shell find crates -name '*.rt' -o -name '*.antt')
 ARCHIVE = build/liblanyardrove.a
 TEST = tests/c/test_boundary.c
+
+all: cli-png $(ARCHIVE) cli
 
 $(ARCHIVE): $(SOURCES)
 	rt staticlib lanyardrove
@@ -41,7 +45,7 @@ soak: $(ARCHIVE)
 clean:
 	rm -rf build
 
-.PHONY: test compare soak clean
+.PHONY: all test compare soak clean
 
 include bench/bench.mk
 include fuzz/fuzz.mk

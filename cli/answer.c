@@ -1,7 +1,82 @@
-/* The parts of an answer. */
+/* The parts of an answer, and what it means. */
 #include "cli.h"
 
 Answer answer_of(uint64_t packed)
 {
     return (Answer){ lanyardrove_number(packed), lanyardrove_third(packed), lanyardrove_place(packed) };
+}
+
+bool is_accepted(Answer answer)
+{
+    return answer.number == LANYARDROVE_ACCEPTED;
+}
+
+int status_of(Answer answer)
+{
+    return is_accepted(answer) ? STATUS_ACCEPTED : STATUS_REFUSED;
+}
+
+/* What follows the name of a command in a refusal. */
+static const char *refusal_text(unsigned number)
+{
+    switch (number) {
+    case LANYARDROVE_PAST_END: return "runs past the end of the list";
+    case LANYARDROVE_AFTER_SYNC_FULL: return "stands after Sync Full";
+    case LANYARDROVE_NOT_SET: return "draws with other modes, colour image or scissor not set in this list";
+    case LANYARDROVE_FILL_ON_FOUR_BITS: return "draws in FILL mode on a 4-bit colour image";
+    case LANYARDROVE_SYNC_LOAD_MISSING: return "requires Sync Load";
+    case LANYARDROVE_SYNC_TILE_MISSING: return "requires Sync Tile";
+    case LANYARDROVE_SYNC_PIPE_MISSING: return "requires Sync Pipe";
+    case LANYARDROVE_NOT_A_FILL: return "is not drawn: only Fill Rectangle in FILL mode is";
+    case LANYARDROVE_MISALIGNED: return "draws on a colour image whose address is no multiple of 64";
+    case LANYARDROVE_OUTSIDE_MEMORY: return "draws a pixel outside memory";
+    default: return "is refused for a reason that this tool does not know";
+    }
+}
+
+/* What an answer means, in one line. */
+void explain(const List *list, Answer answer, Purpose purpose, char *text, size_t room)
+{
+    unsigned place = answer.place;
+    switch (answer.number) {
+    case LANYARDROVE_ACCEPTED:
+        if (place == 0)
+            snprintf(text, room, "accepted: 0 words, the list is empty");
+        else
+            snprintf(text, room, "accepted: %u %s", place, place == 1 ? "word" : "words");
+        break;
+    case LANYARDROVE_TOO_LONG: snprintf(text, room, "the list is over %s bytes", purpose == FOR_REPAIR ? "16,384" : "32,768"); break;
+    case LANYARDROVE_NOT_WORDS: snprintf(text, room, "the length of %zu bytes is no multiple of 8", list->length); break;
+    default: snprintf(text, room, "word %u: %s %s", place, name_at(list, place), refusal_text(answer.number));
+    }
+}
+
+/* `number place`, and on the next line what it means. */
+void print_answer(FILE *stream, const List *list, Answer answer, Purpose purpose)
+{
+    char meaning[MEANING_ROOM];
+    explain(list, answer, purpose, meaning, sizeof meaning);
+    fprintf(stream, "%u %u\n%s\n", answer.number, (unsigned)answer.place, meaning);
+}
+
+/* Why the check refuses, for a person who does not know the rule. */
+const char *reason_of(unsigned number)
+{
+    switch (number) {
+    case LANYARDROVE_TOO_LONG: return "A list may have up to 4,096 words of 8 bytes. A longer one has to be split.";
+    case LANYARDROVE_NOT_WORDS: return "A list is made of words of 8 bytes. This file may be cut, or may be no command list.";
+    case LANYARDROVE_PAST_END: return "The file ends before the command has all its words. The console would take what comes next for the rest.";
+    case LANYARDROVE_AFTER_SYNC_FULL: return "Sync Full has to be the last command of a list; otherwise the console may hang.";
+    case LANYARDROVE_NOT_SET:
+        return "Set Other Modes, Set Color Image and Set Scissor have to stand before a draw in the same list. Otherwise it draws with what an "
+               "earlier list left.";
+    case LANYARDROVE_FILL_ON_FOUR_BITS: return "Drawing in FILL mode on a colour image of 4 bits a pixel crashes the console.";
+    case LANYARDROVE_SYNC_LOAD_MISSING:
+        return "A load and a draw must not run at the same time. The earlier of the two may still run here; a Sync Load (25 cycles), or any longer "
+               "sync, waits for it.";
+    case LANYARDROVE_SYNC_TILE_MISSING:
+        return "A textured draw may still read the tile that this command changes; a Sync Tile (33 cycles), or a Sync Pipe, waits for it.";
+    case LANYARDROVE_SYNC_PIPE_MISSING: return "A draw may still use what this command changes; a Sync Pipe (50 cycles) waits for it.";
+    default: return "";
+    }
 }

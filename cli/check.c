@@ -1,27 +1,25 @@
 /* lanyardrove check: the verdict on lists. */
-#define _GNU_SOURCE
 #include "cli.h"
 
-#include <getopt.h>
-
 typedef struct {
-    bool quiet, several;
-    unsigned accepted, refused, unread;
+    unsigned accepted, empty, refused, unread;
 } Tally;
 
-static void print_verdict(const char *path, const List *list, Answer answer, const Tally *tally)
+/* With several lists the verdict is one line, with the list's name. */
+static void print_verdict(const Arguments *arguments, const char *path, const List *list, Answer answer)
 {
-    char text[160];
-    explain(list, answer, FOR_CHECK, text, sizeof text);
-    if (tally->quiet)
+    char meaning[MEANING_ROOM];
+    if (arguments->quiet)
         printf("%u %u\n", answer.number, (unsigned)answer.place);
-    else if (tally->several)
-        printf("%u %u %s: %s\n", answer.number, (unsigned)answer.place, path, text);
-    else
-        printf("%u %u\n%s\n", answer.number, (unsigned)answer.place, text);
+    else if (arguments->count <= 1)
+        print_answer(stdout, list, answer, FOR_CHECK);
+    else {
+        explain(list, answer, FOR_CHECK, meaning, sizeof meaning);
+        printf("%u %u %s: %s\n", answer.number, (unsigned)answer.place, path, meaning);
+    }
 }
 
-static void check_file(const char *path, Tally *tally)
+static void check_file(const Arguments *arguments, const char *path, Tally *tally)
 {
     List list;
     if (!list_read(path, &list)) {
@@ -29,43 +27,37 @@ static void check_file(const char *path, Tally *tally)
         return;
     }
     Answer answer = answer_of(lanyardrove_check(list.bytes, list.length));
-    print_verdict(path, &list, answer, tally);
-    if (answer.number == LANYARDROVE_ACCEPTED)
-        tally->accepted++;
-    else
+    print_verdict(arguments, path, &list, answer);
+    if (!is_accepted(answer))
         tally->refused++;
+    else {
+        tally->accepted++;
+        tally->empty += list.length == 0;
+    }
     list_free(&list);
 }
 
-static int check_files(int count, char **paths, Tally *tally)
+static void print_tally(int lists, const Tally *tally)
 {
-    tally->several = count > 1;
-    if (count == 0)
-        check_file("-", tally);
-    for (int i = 0; i < count; i++)
-        check_file(paths[i], tally);
-    if (tally->several && !tally->quiet) {
-        printf("%d lists: %u accepted, %u refused", count, tally->accepted, tally->refused);
-        printf(tally->unread > 0 ? ", %u not read\n" : "\n", tally->unread);
-    }
+    printf("%d lists: %u accepted", lists, tally->accepted);
+    if (tally->empty > 0)
+        printf(" (%u empty)", tally->empty);
+    printf(", %u refused", tally->refused);
     if (tally->unread > 0)
-        return STATUS_ERROR;
-    return tally->refused > 0 ? STATUS_REFUSED : STATUS_ACCEPTED;
+        printf(", %u not read", tally->unread);
+    putchar('\n');
 }
 
-int run_check(int argc, char **argv)
+int run_check(const Arguments *arguments)
 {
-    static const struct option options[] = { { "quiet", no_argument, NULL, 'q' }, { "help", no_argument, NULL, 'h' }, { 0 } };
     Tally tally = { 0 };
-    int option;
-    while ((option = getopt_long(argc, argv, "qh", options, NULL)) != -1) {
-        if (option == 'h') {
-            print_help(stdout, "check");
-            return STATUS_ACCEPTED;
-        }
-        if (option != 'q')
-            return usage_error("check");
-        tally.quiet = true;
-    }
-    return check_files(argc - optind, argv + optind, &tally);
+    if (arguments->count == 0)
+        check_file(arguments, "-", &tally);
+    for (int i = 0; i < arguments->count; i++)
+        check_file(arguments, arguments->paths[i], &tally);
+    if (arguments->count > 1 && !arguments->quiet)
+        print_tally(arguments->count, &tally);
+    if (tally.unread > 0)
+        return STATUS_ERROR;
+    return tally.refused > 0 ? STATUS_REFUSED : STATUS_ACCEPTED;
 }

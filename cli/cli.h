@@ -15,16 +15,6 @@ enum { STATUS_ACCEPTED = 0, STATUS_REFUSED = 1, STATUS_ERROR = 2 };
 #define LIST_LIMIT 32768u
 #define FILE_LIMIT (1024u * 1024u)
 
-/* -- answer.c: the library's answers ------------------------------------ */
-
-typedef struct {
-    unsigned number; /* an enum lanyardrove_ground */
-    uint32_t third;  /* cycles of repair, command number of decode */
-    uint32_t place;
-} Answer;
-
-Answer answer_of(uint64_t packed);
-
 /* -- file.c: lists are read, outputs are written whole or not at all ---- */
 
 typedef struct {
@@ -36,6 +26,26 @@ typedef struct {
 bool list_read(const char *path, List *list);
 void list_free(List *list);
 bool file_write(const char *path, const void *bytes, size_t length);
+bool is_same_file(const char *path, const char *other);
+
+/* -- answer.c: the parts of an answer, and what it means ---------------- */
+
+typedef struct {
+    unsigned number; /* an enum lanyardrove_ground */
+    uint32_t third;  /* cycles of repair, command number of decode */
+    uint32_t place;
+} Answer;
+
+typedef enum { FOR_CHECK, FOR_REPAIR, FOR_DRAW } Purpose;
+
+#define MEANING_ROOM 160 /* bytes that the longest meaning fits in */
+
+Answer answer_of(uint64_t packed);
+bool is_accepted(Answer answer);
+int status_of(Answer answer);
+void explain(const List *list, Answer answer, Purpose purpose, char *text, size_t room);
+void print_answer(FILE *stream, const List *list, Answer answer, Purpose purpose);
+const char *reason_of(unsigned number);
 
 /* -- command.c: a list command by command ------------------------------- */
 
@@ -54,14 +64,10 @@ uint64_t word_at(const uint8_t *bytes, size_t place);
 /* -- names.c: names and values as N64brew has them ---------------------- */
 
 const char *command_name(unsigned number);
+const char *name_at(const List *list, size_t place);
 const char *field_name(unsigned number, size_t field);
 void field_value(const Command *command, size_t field, char *text, size_t room);
 const char *suffix_name(const Command *command, size_t word);
-
-/* -- explain.c: what an answer means, in one line ----------------------- */
-
-typedef enum { FOR_CHECK, FOR_REPAIR, FOR_DRAW } Purpose;
-void explain(const List *list, Answer answer, Purpose purpose, char *text, size_t room);
 
 /* -- hazards.c: the hazards before a command ---------------------------- */
 
@@ -70,9 +76,10 @@ typedef struct Prober Prober;
 Prober *prober_new(const List *list);
 void prober_free(Prober *prober);
 unsigned hazards_before(Prober *prober, size_t place);
+const char *hazard_name(unsigned bit);
 void hazards_text(unsigned hazards, char *text, size_t room);
 
-/* -- mend.c: the repair, and the syncs that it inserted ----------------- */
+/* -- repaired.c: the repair, and the syncs that it inserted ------------- */
 
 typedef struct {
     size_t place;    /* the first word of the command after it, in the given list */
@@ -81,14 +88,13 @@ typedef struct {
 
 typedef struct {
     Answer answer;
-    uint8_t *out;
-    size_t length;
+    List list;
     Insertion *inserted;
     size_t count;
-} Mended;
+} Repaired;
 
-bool mend(const List *list, Mended *mended);
-void mended_free(Mended *mended);
+bool repaired_of(const List *list, Repaired *repaired);
+void repaired_free(Repaired *repaired);
 
 /* -- picture.c: the picture in memory ----------------------------------- */
 
@@ -104,30 +110,47 @@ typedef struct {
 } Memory;
 
 bool image_of_list(const List *list, Image *image);
+size_t image_length(const Image *image);
 bool image_inside(const Image *image, const Memory *memory);
+void image_text(const Image *image, char *text, size_t room);
 uint8_t *image_rgb(const Image *image, const Memory *memory);
 uint8_t *image_png(const Image *image, const uint8_t *rgb, size_t *length);
 uint8_t *image_ppm(const Image *image, const uint8_t *rgb, size_t *length);
 
 /* -- options.c: arguments and messages ---------------------------------- */
 
+typedef struct {
+    const char *command;
+    char **paths; /* the lists */
+    int count;
+    const char *output; /* NULL where -o is not given */
+    bool quiet, has_memory, has_image;
+    uint64_t memory, start;
+    Image image;
+} Arguments;
+
+/* A command of the tool. */
+typedef struct {
+    const char *name;
+    int (*run)(const Arguments *arguments);
+    const char *letters; /* of its options; --memory is m, --start s and --image i */
+    int least, most;     /* lists that it takes */
+} Entry;
+
 void complain(const char *format, ...) __attribute__((format(printf, 1, 2)));
 int usage_error(const char *command);
-bool number_of(const char *text, uint64_t limit, uint64_t *number);
-bool bytes_of(const char *text, uint64_t limit, uint64_t *number);
-bool image_of(const char *text, Image *image);
-bool wants_colour(FILE *stream);
+int run_entry(const Entry *entry, int argc, char **argv);
 
-/* -- help.c --------------------------------------------------------------- */
+/* -- help.c ------------------------------------------------------------- */
 
 void print_help(FILE *stream, const char *command);
 
-/* -- the commands --------------------------------------------------------- */
+/* -- the commands ------------------------------------------------------- */
 
-int run_check(int argc, char **argv);
-int run_repair(int argc, char **argv);
-int run_dump(int argc, char **argv);
-int run_draw(int argc, char **argv);
-int run_report(int argc, char **argv);
+int run_check(const Arguments *arguments);
+int run_repair(const Arguments *arguments);
+int run_dump(const Arguments *arguments);
+int run_draw(const Arguments *arguments);
+int run_report(const Arguments *arguments);
 
 #endif

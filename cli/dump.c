@@ -1,10 +1,10 @@
 /* lanyardrove dump: a list command by command. */
-#define _GNU_SOURCE
+#define _POSIX_C_SOURCE 200809L
 #include "cli.h"
 
-#include <getopt.h>
 #include <inttypes.h>
-#include <string.h>
+#include <stdlib.h>
+#include <unistd.h>
 
 #define WIDTH 100 /* columns of the field lines */
 
@@ -15,15 +15,16 @@ typedef struct {
     Prober *prober;
 } Dump;
 
-static const char *style(const Dump *dump, const char *code)
-{
-    return dump->colour ? code : "";
-}
 #define RED "\033[1;31m"
 #define GREEN "\033[1;32m"
 #define BOLD "\033[1m"
 #define DIM "\033[2m"
 #define RESET "\033[0m"
+
+static const char *style(const Dump *dump, const char *code)
+{
+    return dump->colour ? code : "";
+}
 
 /* The fields, several to a line. */
 static void print_fields(const Dump *dump, const Command *command)
@@ -56,27 +57,30 @@ static void print_further_words(const Dump *dump, const Command *command)
     }
 }
 
+/* The ground stands at the line of the refused command. */
 static void print_refusal(const Dump *dump)
 {
-    char text[160];
-    explain(dump->list, dump->answer, FOR_CHECK, text, sizeof text);
-    printf("        %s>> refused, %u %u: %s%s\n", style(dump, RED), dump->answer.number, (unsigned)dump->answer.place, text,
+    char meaning[MEANING_ROOM];
+    explain(dump->list, dump->answer, FOR_CHECK, meaning, sizeof meaning);
+    printf("        %s>> refused, %u %u: %s%s\n", style(dump, RED), dump->answer.number, (unsigned)dump->answer.place, meaning,
            style(dump, RESET));
 }
 
-static void print_command(const Dump *dump, const Command *command, bool refused)
+static void print_command(const Dump *dump, const Command *command)
 {
+    bool refused = dump->answer.number >= LANYARDROVE_PAST_END && command->place == dump->answer.place;
     char hazards[64];
     hazards_text(hazards_before(dump->prober, command->place), hazards, sizeof hazards);
     printf("%6zu  %016" PRIX64 "  %s%-24s%s  hazards: %s\n", command->place, word_at(dump->list->bytes, command->place),
            style(dump, refused ? RED : BOLD), command_name(command->number), style(dump, RESET), hazards);
+    if (refused)
+        print_refusal(dump);
     print_further_words(dump, command);
     if (command->whole)
         print_fields(dump, command);
-    if (refused)
-        print_refusal(dump);
 }
 
+/* What is left after the last word. */
 static void print_rest(const Dump *dump)
 {
     if (dump->list->cut)
@@ -89,60 +93,39 @@ static void print_rest(const Dump *dump)
     }
 }
 
-static void print_verdict(const Dump *dump)
-{
-    char text[160];
-    explain(dump->list, dump->answer, FOR_CHECK, text, sizeof text);
-    printf("%s%u %u%s\n%s\n", style(dump, dump->answer.number == LANYARDROVE_ACCEPTED ? GREEN : RED), dump->answer.number,
-           (unsigned)dump->answer.place, style(dump, RESET), text);
-}
-
 static void print_list(const Dump *dump)
 {
     Command command;
-    bool in_list = dump->answer.number >= LANYARDROVE_PAST_END;
-    print_verdict(dump);
+    fputs(style(dump, is_accepted(dump->answer) ? GREEN : RED), stdout);
+    print_answer(stdout, dump->list, dump->answer, FOR_CHECK);
+    fputs(style(dump, RESET), stdout);
     if (dump->list->length >= 8)
         printf("\n place  word              command\n");
-    for (size_t place = 0; command_at(dump->list, place, &command); place += command.words) {
-        print_command(dump, &command, in_list && place == dump->answer.place);
-        if (!command.whole)
-            return;
-    }
+    for (size_t place = 0; command_at(dump->list, place, &command); place += command.words)
+        print_command(dump, &command);
     print_rest(dump);
 }
 
-static int dump_file(const char *path)
+/* Colour where the output is a terminal and NO_COLOR is unset. */
+static bool wants_colour(void)
+{
+    return isatty(STDOUT_FILENO) && getenv("NO_COLOR") == NULL;
+}
+
+int run_dump(const Arguments *arguments)
 {
     List list;
-    if (!list_read(path, &list))
+    if (!list_read(arguments->count > 0 ? arguments->paths[0] : "-", &list))
         return STATUS_ERROR;
-    Dump dump = { wants_colour(stdout), answer_of(lanyardrove_check(list.bytes, list.length)), &list, prober_new(&list) };
+    Dump dump = { wants_colour(), answer_of(lanyardrove_check(list.bytes, list.length)), &list, prober_new(&list) };
     int status = STATUS_ERROR;
     if (dump.prober == NULL)
         complain("not enough memory");
     else {
         print_list(&dump);
-        status = dump.answer.number == LANYARDROVE_ACCEPTED ? STATUS_ACCEPTED : STATUS_REFUSED;
+        status = status_of(dump.answer);
     }
     prober_free(dump.prober);
     list_free(&list);
     return status;
-}
-
-int run_dump(int argc, char **argv)
-{
-    static const struct option options[] = { { "help", no_argument, NULL, 'h' }, { 0 } };
-    int option;
-    while ((option = getopt_long(argc, argv, "h", options, NULL)) != -1) {
-        if (option != 'h')
-            return usage_error("dump");
-        print_help(stdout, "dump");
-        return STATUS_ACCEPTED;
-    }
-    if (argc - optind > 1) {
-        complain("dump takes one list");
-        return usage_error("dump");
-    }
-    return dump_file(optind < argc ? argv[optind] : "-");
 }

@@ -94,14 +94,17 @@ unsigned hazards_before(Prober *prober, size_t place)
     return hazards;
 }
 
-void hazards_text(unsigned hazards, char *text, size_t room)
+const char *hazard_name(unsigned bit)
 {
     static const char *const names[] = { "pipe", "tile", "draw", "load", "unknown" };
+    return names[bit];
+}
+
+void hazards_text(unsigned hazards, char *text, size_t room)
+{
     size_t length = 0;
     snprintf(text, room, "none");
-    for (unsigned i = 0; i < 5; i++)
-        if (hazards & 1u << i) {
-            snprintf(text + length, room - length, "%s%s", length > 0 ? " " : "", names[i]);
-            length = strlen(text);
-        }
+    for (unsigned bit = 0; 1u << bit <= HAZARD_UNKNOWN; bit++)
+        if (hazards & 1u << bit)
+            length += (size_t)snprintf(text + length, room - length, "%s%s", length > 0 ? " " : "", hazard_name(bit));
 }

@@ -3,28 +3,28 @@
 _lanyardrove()
 {
     local current=${COMP_WORDS[COMP_CWORD]} previous=${COMP_WORDS[COMP_CWORD-1]}
-    local words="" files=1
+    local options
     COMPREPLY=()
     if [ "$COMP_CWORD" -eq 1 ]; then
-        COMPREPLY=($(compgen -W "check repair dump draw report --help --version" -- "$current"))
+        mapfile -t COMPREPLY < <(compgen -W "check repair dump draw report --help --version" -- "$current")
         return
     fi
+    case ${COMP_WORDS[1]} in
+    check) options="-q --quiet --help" ;;
+    repair|report) options="-o --output --help" ;;
+    dump) options="--help" ;;
+    draw) options="--memory --start --image -o --output --help" ;;
+    *) return ;;
+    esac
     case $previous in
-    --memory) COMPREPLY=($(compgen -W "64K 1M 4M 8M" -- "$current")); return ;;
+    --memory) mapfile -t COMPREPLY < <(compgen -W "64K 1M 4M 8M" -- "$current"); return ;;
     --start|--image) return ;;
     esac
-    case ${COMP_WORDS[1]} in
-    check) words="-q --quiet --help" ;;
-    repair|report) words="-o --output --help" ;;
-    dump) words="--help" ;;
-    draw) words="--memory --start --image -o --output --help" ;;
-    *) files=0 ;;
-    esac
     if [[ $current == -* ]]; then
-        COMPREPLY=($(compgen -W "$words" -- "$current"))
-    elif [ "$files" -eq 1 ]; then
+        mapfile -t COMPREPLY < <(compgen -W "$options" -- "$current")
+    else
         compopt -o filenames 2>/dev/null
-        COMPREPLY=($(compgen -f -- "$current"))
+        mapfile -t COMPREPLY < <(compgen -f -- "$current")
     fi
 }
 complete -F _lanyardrove lanyardrove

@@ -1,4 +1,4 @@
-/* The names of commands and fields as the N64brew wiki has them, fields in the order of its bit lines. */
+/* The names of commands and fields as the N64brew wiki (document 000) has them, fields in the order of its bit lists. */
 #include "cli.h"
 
 #include <inttypes.h>
@@ -31,7 +31,7 @@ static const Field triangle[] = {
     { "xm.i", SIGNED }, { "xm.f", PLAIN }, { "dxmdy.i", SIGNED }, { "dxmdy.f", PLAIN }, END
 };
 static const Field texture_rectangle[] = {
-    { "lower_right.x", QUARTER }, { "lower_right.y", QUARTER }, { "tile", PLAIN }, { "upper_left.x", QUARTER }, { "upper_left.y", QUARTER },
+    { "lrx", QUARTER }, { "lry", QUARTER }, { "tile", PLAIN }, { "ulx", QUARTER }, { "uly", QUARTER },
     { "s", SIGNED }, { "t", SIGNED }, { "dsdx", SIGNED }, { "dtdy", SIGNED }, END
 };
 static const Field key_gb[] = {
@@ -80,7 +80,7 @@ static const Field color[] = { { "red", PLAIN }, { "green", PLAIN }, { "blue", P
 static const Field primitive_color[] = {
     { "min_level", PLAIN }, { "prim_lod_frac", PLAIN }, { "red", PLAIN }, { "green", PLAIN }, { "blue", PLAIN }, { "alpha", PLAIN }, END
 };
-static const Field combine[] = { { "combine", HEX }, END };
+static const Field combine[] = { { "mode", HEX }, END }; /* one number by document 01, named as in the header */
 static const Field image[] = { { "format", FORMAT }, { "size", SIZE }, { "width", LESS_ONE }, { "dramAddress", HEX }, END };
 static const Field depth_image[] = { { "dramAddress", HEX }, END };
 
@@ -121,6 +121,12 @@ const char *command_name(unsigned number)
     return entry_of(number)->name;
 }
 
+const char *name_at(const List *list, size_t place)
+{
+    Command command;
+    return command_at(list, place, &command) ? command_name(command.number) : "the command";
+}
+
 static Field field_of(unsigned number, size_t field)
 {
     static const Field unnamed = { "?", HEX };
@@ -145,7 +151,7 @@ static const char *format_name(uint64_t value)
 static const char *cycle_name(uint64_t value)
 {
     static const char *const names[] = { "1-Cycle", "2-Cycle", "COPY", "FILL" };
-    return value < 4 ? names[value] : "?";
+    return names[value & 3];
 }
 
 /* The value of a field, with its meaning where the number alone says little. */

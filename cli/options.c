@@ -1,19 +1,19 @@
 /* Arguments and messages. */
-#define _XOPEN_SOURCE 700
+#define _GNU_SOURCE
 #include "cli.h"
 
-#include <ctype.h>
-#include <errno.h>
+#include <getopt.h>
 #include <stdarg.h>
-#include <stdlib.h>
 #include <string.h>
-#include <unistd.h>
+
+#define MEMORY_LIMIT (256u * 1024u * 1024u)
+#define SIDE_LIMIT 4096u
 
 void complain(const char *format, ...)
 {
     va_list values;
     va_start(values, format);
-    fflush(stdout);
+    fflush(stdout); /* so that the two stand in order where they go to one place */
     fputs("lanyardrove: ", stderr);
     vfprintf(stderr, format, values);
     fputc('\n', stderr);
@@ -26,62 +26,110 @@ int usage_error(const char *command)
     return STATUS_ERROR;
 }
 
-/* A number in decimal, or in hexadecimal after 0x; `rest` is what follows it. */
-static bool leading_number(const char *text, uint64_t limit, uint64_t *number, const char **rest)
+/* The digits' values by their place. */
+static unsigned digit_of(char c)
 {
-    bool hex = text[0] == '0' && (text[1] == 'x' || text[1] == 'X');
-    const char *digits = hex ? text + 2 : text;
-    if (!(hex ? isxdigit((unsigned char)*digits) : isdigit((unsigned char)*digits)))
-        return false;
-    char *end;
-    errno = 0;
-    unsigned long long value = strtoull(digits, &end, hex ? 16 : 10);
-    if (errno != 0 || value > limit)
-        return false;
-    *number = value;
-    *rest = end;
-    return true;
+    static const char digits[] = "0123456789abcdef0123456789ABCDEF";
+    const char *found = c != '\0' ? strchr(digits, c) : NULL;
+    return found != NULL ? (unsigned)(found - digits) % 16 : 16;
 }
 
-bool number_of(const char *text, uint64_t limit, uint64_t *number)
+/* A number in decimal, or in hexadecimal after 0x, up to a limit. What follows it is handed back; NULL where there is no number. */
+static const char *take_number(const char *text, uint64_t limit, uint64_t *number)
 {
-    const char *rest;
-    return leading_number(text, limit, number, &rest) && *rest == '\0';
+    bool hex = text[0] == '0' && (text[1] == 'x' || text[1] == 'X');
+    unsigned base = hex ? 16 : 10;
+    const char *digits = hex ? text + 2 : text;
+    const char *rest = digits;
+    for (*number = 0; digit_of(*rest) < base; rest++) {
+        unsigned digit = digit_of(*rest);
+        if (digit > limit || *number > (limit - digit) / base)
+            return NULL;
+        *number = *number * base + digit;
+    }
+    return rest > digits ? rest : NULL;
 }
 
 /* A number of bytes, with K or M for 1,024 or 1,048,576 of them. */
-bool bytes_of(const char *text, uint64_t limit, uint64_t *number)
+static bool take_bytes(const char *text, uint64_t *number)
 {
-    const char *rest;
-    if (!leading_number(text, limit, number, &rest))
+    const char *rest = take_number(text, MEMORY_LIMIT, number);
+    if (rest == NULL)
         return false;
     uint64_t unit = *rest == 'K' ? 1024 : *rest == 'M' ? 1024 * 1024 : 1;
-    if (unit != 1)
-        rest++;
-    *number *= *number <= limit ? unit : 1;
-    return *rest == '\0' && *number <= limit;
+    *number *= unit;
+    return rest[unit > 1] == '\0' && *number <= MEMORY_LIMIT;
+}
+
+static bool take_address(const char *text, uint64_t *number)
+{
+    const char *rest = take_number(text, UINT64_MAX, number);
+    return rest != NULL && *rest == '\0';
 }
 
 /* ADDRESS,WIDTH,HEIGHT,SIZE */
-bool image_of(const char *text, Image *image)
+static bool take_image(const char *text, Image *image)
 {
-    static const uint64_t limits[4] = { UINT64_MAX, 4096, 4096, 32 };
+    static const uint64_t limits[4] = { UINT64_MAX, SIDE_LIMIT, SIDE_LIMIT, 32 };
     uint64_t parts[4];
     for (int i = 0; i < 4; i++) {
-        if (!leading_number(text, limits[i], &parts[i], &text) || *text != (i < 3 ? ',' : '\0'))
+        text = take_number(text, limits[i], &parts[i]);
+        if (text == NULL || *text++ != (i < 3 ? ',' : '\0'))
             return false;
-        text++;
     }
-    image->address = parts[0];
-    image->width = (uint32_t)parts[1];
-    image->height = (uint32_t)parts[2];
-    image->bits = (uint32_t)parts[3];
+    *image = (Image){ parts[0], (uint32_t)parts[1], (uint32_t)parts[2], (uint32_t)parts[3] };
     return parts[1] > 0 && parts[2] > 0 && (parts[3] == 8 || parts[3] == 16 || parts[3] == 32);
 }
 
-/* Colour where the output is a terminal and NO_COLOR is unset. */
-bool wants_colour(FILE *stream)
+static bool refuse_value(const char *option, const char *expected)
 {
-    const char *no_colour = getenv("NO_COLOR");
-    return isatty(fileno(stream)) && (no_colour == NULL || no_colour[0] == '\0');
+    complain("%s %s: not %s", option, optarg, expected);
+    return false;
+}
+
+static bool take_option(Arguments *arguments, int option)
+{
+    switch (option) {
+    case 'q': arguments->quiet = true; return true;
+    case 'o': arguments->output = optarg; return true;
+    case 'm':
+        arguments->has_memory = take_bytes(optarg, &arguments->memory);
+        return arguments->has_memory || refuse_value("--memory", "a number of bytes up to 256M");
+    case 's': return take_address(optarg, &arguments->start) || refuse_value("--start", "an address");
+    case 'i':
+        arguments->has_image = take_image(optarg, &arguments->image);
+        return arguments->has_image || refuse_value("--image", "ADDRESS,WIDTH,HEIGHT,SIZE with sides of 1 to 4096 and SIZE 8, 16 or 32");
+    default: return false;
+    }
+}
+
+/* Reads the arguments of a command and runs it; argv[0] is its name. */
+int run_entry(const Entry *entry, int argc, char **argv)
+{
+    static const struct option options[] = {
+        { "help", no_argument, NULL, 'h' }, { "quiet", no_argument, NULL, 'q' }, { "output", required_argument, NULL, 'o' },
+        { "memory", required_argument, NULL, 'm' }, { "start", required_argument, NULL, 's' }, { "image", required_argument, NULL, 'i' }, { 0 }
+    };
+    static char program[] = "lanyardrove";
+    Arguments arguments = { .command = entry->name };
+    int option;
+    argv[0] = program; /* the name in getopt's messages */
+    while ((option = getopt_long(argc, argv, "hqo:", options, NULL)) != -1) {
+        bool known = strchr(entry->letters, option) != NULL;
+        if (known && option == 'h') {
+            print_help(stdout, entry->name);
+            return STATUS_ACCEPTED;
+        }
+        if (!known && option != '?')
+            complain("%s takes no such option: %s", entry->name, argv[optind - 1]);
+        if (!known || !take_option(&arguments, option))
+            return usage_error(entry->name);
+    }
+    arguments.paths = argv + optind;
+    arguments.count = argc - optind;
+    if (arguments.count < entry->least || arguments.count > entry->most) {
+        complain("%s takes one list", entry->name);
+        return usage_error(entry->name);
+    }
+    return entry->run(&arguments);
 }

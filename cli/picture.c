@@ -1,6 +1,7 @@
 /* The picture in memory, as PNG or PPM. */
 #include "cli.h"
 
+#include <inttypes.h>
 #include <png.h>
 #include <stdlib.h>
 #include <string.h>
@@ -12,7 +13,7 @@
 /* The places of fields in the order of the bit lines. */
 enum { IMAGE_SIZE = 1, IMAGE_WIDTH = 2, IMAGE_ADDRESS = 3, SCISSOR_LOWER_Y = 5 };
 
-/* The color image of the last Fill Rectangle of a list, as high as the scissor there. */
+/* The colour image of the last Fill Rectangle of a list, as high as the scissor there. */
 bool image_of_list(const List *list, Image *image)
 {
     Command command;
@@ -33,13 +34,23 @@ bool image_of_list(const List *list, Image *image)
     return drawn && image->height > 0 && image->width > 0 && image->bits >= 8;
 }
 
+size_t image_length(const Image *image)
+{
+    return (size_t)image->width * image->height * (image->bits / 8);
+}
+
 /* All bytes of the picture are in memory. */
 bool image_inside(const Image *image, const Memory *memory)
 {
-    uint64_t length = (uint64_t)image->width * image->height * (image->bits / 8);
     if (image->address < memory->start || image->address - memory->start > memory->length)
         return false;
-    return length <= memory->length - (image->address - memory->start);
+    return image_length(image) <= memory->length - (image->address - memory->start);
+}
+
+void image_text(const Image *image, char *text, size_t room)
+{
+    snprintf(text, room, "%" PRIu32 " by %" PRIu32 " pixels of %" PRIu32 " bits at address 0x%" PRIX64, image->width, image->height, image->bits,
+             image->address);
 }
 
 /* One pixel: 32 bits are red, green, blue and alpha; 16 bits are 5, 5, 5 and 1; 8 bits are an intensity. */

@@ -4,7 +4,7 @@
 
 #include "cli.h"
 
-/* -- text.c: a text that grows ------------------------------------------- */
+/* -- text.c: a text that grows ------------------------------------------ */
 
 typedef struct {
     char *bytes;
@@ -16,12 +16,11 @@ void text_add(Text *text, const char *format, ...) __attribute__((format(printf,
 void text_add_escaped(Text *text, const char *plain);
 void text_add_base64(Text *text, const uint8_t *bytes, size_t length);
 
-/* -- what the page is about ---------------------------------------------- */
+/* -- what the page is about --------------------------------------------- */
 
 typedef struct {
     size_t place;
-    unsigned number;
-    unsigned hazards;
+    unsigned hazards; /* before the command */
 } Row;
 
 typedef struct {
@@ -35,17 +34,19 @@ typedef struct {
     List list;
     Answer answer;
     Rows rows;
-    Mended mended;  /* its answer says whether the list can be repaired */
-    Rows repaired;  /* of the repaired list, where syncs were inserted */
-    Answer drawing; /* what drawing the list, or the repaired list, answers */
+    Repaired repaired;  /* its answer says whether the list can be repaired */
+    Rows repaired_rows; /* of the repaired list, where syncs were inserted */
+    Answer drawing;     /* what drawing the list, or the repaired list, answers */
     Image image;
     uint8_t *png; /* NULL where there is no picture */
     size_t png_length;
 } Report;
 
-/* -- page.c, table.c: the page ------------------------------------------- */
+/* -- report_page.c, report_style.c, report_strip.c, report_table.c ------ */
 
+void style_add(Text *text);
 void page_add(Text *text, const Report *report);
+void strip_add(Text *text, const Rows *rows);
 void table_add(Text *text, const Report *report);
 
 #endif

@@ -1,10 +1,11 @@
 #!/usr/bin/env python3
-"""Document 01's examples A to O as files, from the paper's hexadecimal words, with what the check answers.
+"""Document 01's examples A to O as files, from the paper's hexadecimal words, and a picture of fill rectangles, with what the check answers.
 
     tools/examples.py           writes examples/*.rdp, and example G as the program's input for its test
     tools/examples.py --check   says which of these files differ, and exits with 1 where one does
     tools/examples.py --run     runs each list, and the longest and one byte more, through the program rdpcheck, compiled without its proofs
 """
+import math
 import pathlib
 import shutil
 import subprocess
@@ -21,10 +22,51 @@ COLOR = '37000000F801003F'
 LOAD = '3400000000000000'
 TILE_SYNC = '2800000000000000'
 PIPE_SYNC = '2700000000000000'
+FULL_SYNC = '2900000000000000'
 
 
 def of(words):
     return bytes.fromhex(''.join(words))
+
+
+# The picture: 160 by 120 pixels of 16 bits at address 0. Corners are pixels and belong to the rectangle; colours are red, green and blue of 5 bits.
+PICTURE_SETUP = ['2F30000000000000', '3F10009F00000000', '2D000000002801E0']
+
+
+def fill(left, top, right, bottom):
+    return f'36{4 * right:03X}{4 * bottom:03X}00{4 * left:03X}{4 * top:03X}'
+
+
+def bands(top, height, colours):
+    return [(colour, [fill(0, y, 159, y + height - 1)]) for y, colour in zip(range(top, 120, height), colours)]
+
+
+def disc(x, y, radius, bottom):
+    widths = ((row, math.isqrt(radius * (radius + 1) - (row - y) ** 2)) for row in range(y - radius, bottom))
+    return [fill(x - width, row, x + width, row) for row, width in widths]
+
+
+def ridge(points, bottom):
+    """Columns of two pixels from a line of points down to a row."""
+    columns = []
+    for (left, high), (right, low) in zip(points, points[1:]):
+        columns += [fill(x, high + (low - high) * (x - left) // (right - left), x + 1, bottom) for x in range(left, right, 2)]
+    return columns
+
+
+def sunset():
+    sky = bands(0, 6, [(5 + 2 * i, 3 + i, 13 - i // 2) for i in range(12)])
+    sea = bands(72, 6, [(9 - i, 6 - i // 2, 15 - i) for i in range(8)])
+    sun = ((31, 28, 14), disc(80, 62, 22, 72))
+    glitter = ((31, 22, 10), [fill(62 + i + i % 3 * 3, 74 + 3 * i, 98 - i - i % 2 * 4, 74 + 3 * i) for i in range(13)])
+    far = ((10, 5, 11), ridge([(0, 52), (18, 60), (34, 50), (64, 72)], 71) + ridge([(100, 72), (122, 56), (134, 62), (160, 48)], 71))
+    near = ((4, 3, 7), ridge([(0, 62), (12, 66), (20, 64), (40, 74)], 75) + ridge([(128, 75), (146, 66), (160, 60)], 75))
+    sail = ((30, 29, 27), [fill(112, 70 + i, 112 + i // 2, 70 + i) for i in range(22)])
+    boat = ((6, 3, 3), [fill(110, 68, 110, 94), fill(100, 93, 126, 94), fill(102, 95, 124, 96), fill(104, 97, 122, 98)])
+    words = []
+    for (red, green, blue), rectangles in sky + [sun, far] + sea + [glitter, near, sail, boat]:
+        words += [PIPE_SYNC, '37000000' + 2 * f'{red << 11 | green << 6 | blue << 1 | 1:04X}'] + rectangles
+    return PICTURE_SETUP + words[1:] + [FULL_SYNC]  # nothing is drawn before the first colour
 
 
 # name: the list, and the check's number and place; those of A to H stand in document 01
@@ -43,6 +85,7 @@ LISTS = {
     'k': (of(SETUP + [RECTANGLE, LOAD, RECTANGLE]), '7 4'),
     'm': (of(SETUP + [RECTANGLE, NOTHING, COLOR]), '9 5'),
     'o': (of(SETUP_WIDTH_7 + [COLOR, FIRST_COLUMN]), '0 5'),
+    'sunset': (of(sunset()), '0 244'),
 }
 LONGEST = {'32,768 bytes': (bytes(32768), '0 4096'), '32,769 bytes': (bytes(32769), '1 4096')}
 

@@ -29,13 +29,13 @@ static void add_fields(Text *text, const Command *command)
         text_add(text, "<span class=\"field\">%s%zu fields are 0</span>", zeros < command->count ? "the other " : "all ", zeros);
 }
 
-/* Why a command is refused. */
+/* Why a command is refused: what it waits for, where a sync is missing. */
 static void add_reason(Text *text, const Report *report)
 {
-    char reason[160];
-    explain(&report->list, report->answer, FOR_CHECK, reason, sizeof reason);
-    text_add(text, "<div class=\"reason\">&#9654; Refused, %u: ", report->answer.number);
-    text_add_escaped(text, reason);
+    char meaning[MEANING_ROOM];
+    explain(&report->list, report->answer, FOR_CHECK, meaning, sizeof meaning);
+    text_add(text, "<div class=\"reason\">&#9654; Refused, %u %u: ", report->answer.number, (unsigned)report->answer.place);
+    text_add_escaped(text, meaning);
     text_add(text, "</div>");
 }
 
@@ -65,15 +65,20 @@ static void add_insertion(Text *text, const Insertion *insertion)
 
 void table_add(Text *text, const Report *report)
 {
+    const Repaired *repaired = &report->repaired;
     size_t next = 0;
-    text_add(text, "<h2>Commands</h2>\n<table>\n<thead><tr><th>Place</th><th>Words</th><th>Command</th><th>Fields</th>"
-                   "<th>Hazards before</th></tr></thead>\n<tbody>\n");
+    text_add(text, "<h2>Commands</h2>\n");
+    if (report->rows.count == 0)
+        text_add(text, "<p>The list holds no command.</p>\n");
+    else
+        text_add(text, "<table>\n<thead><tr><th class=\"place\">Place</th><th>Words</th><th>Command</th><th>Fields</th><th>Hazards before</th></tr>"
+                       "</thead>\n<tbody>\n");
     for (size_t row = 0; row < report->rows.count; row++) {
-        if (next < report->mended.count && report->mended.inserted[next].place == report->rows.rows[row].place)
-            add_insertion(text, &report->mended.inserted[next++]);
+        if (next < repaired->count && repaired->inserted[next].place == report->rows.rows[row].place)
+            add_insertion(text, &repaired->inserted[next++]);
         add_row(text, report, row);
     }
-    text_add(text, "</tbody>\n</table>\n");
+    text_add(text, report->rows.count > 0 ? "</tbody>\n</table>\n" : "");
     if (report->list.length > LIST_LIMIT)
         text_add(text, "<p class=\"note\">The list goes on; the commands of its first 32,768 bytes are shown.</p>\n");
     else if (report->list.length % 8 != 0)

@@ -1,0 +1,57 @@
+/* The repair, and the syncs that it inserted: found by comparing the two lists command by command. */
+#include "cli.h"
+
+#include <stdlib.h>
+#include <string.h>
+
+/* Before each command the repair inserts one sync at most, and none before a sync. */
+static bool find_insertions(const List *list, Repaired *repaired)
+{
+    const List *out = &repaired->list;
+    Command command, found;
+    size_t at = 0;
+    for (size_t place = 0; command_at(list, place, &command) && command.whole; place += command.words) {
+        const uint8_t *given = list->bytes + 8 * place;
+        if (memcmp(given, out->bytes + 8 * at, 8) != 0) {
+            if (!command_at(out, at, &found))
+                return false;
+            repaired->inserted[repaired->count++] = (Insertion){ place, found.number };
+            at++;
+        }
+        if (8 * (at + command.words) > out->length || memcmp(given, out->bytes + 8 * at, 8 * command.words) != 0)
+            return false;
+        at += command.words;
+    }
+    return 8 * at == out->length;
+}
+
+/* False where memory is short or the lists cannot be compared; a refusal is in the answer. */
+bool repaired_of(const List *list, Repaired *repaired)
+{
+    size_t words = list->length / 8 + 1;
+    memset(repaired, 0, sizeof *repaired);
+    uint8_t *work = calloc(words, 16);
+    repaired->list.bytes = calloc(2 * words + LANYARDROVE_MOST_WORDS, 8);
+    repaired->inserted = calloc(words, sizeof *repaired->inserted);
+    bool done = work != NULL && repaired->list.bytes != NULL && repaired->inserted != NULL;
+    if (done) {
+        repaired->answer = answer_of(lanyardrove_repair(list->bytes, list->length, work, 16 * words, repaired->list.bytes, 16 * words));
+        if (is_accepted(repaired->answer)) {
+            repaired->list.length = 8 * (size_t)repaired->answer.place;
+            done = find_insertions(list, repaired);
+        }
+    }
+    free(work);
+    if (!done) {
+        complain("the repair could not be made");
+        repaired_free(repaired);
+    }
+    return done;
+}
+
+void repaired_free(Repaired *repaired)
+{
+    list_free(&repaired->list);
+    free(repaired->inserted);
+    memset(repaired, 0, sizeof *repaired);
+}

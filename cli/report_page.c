@@ -1,0 +1,139 @@
+/* The page of a report: the verdict, the hazards, the repair, the picture, the commands. */
+#include "report.h"
+
+#define OPEN_LIMIT 20     /* insertions that are shown without a click */
+#define PICTURE_WIDTH 480 /* small pictures are shown larger, up to this many pixels */
+
+static void add_head(Text *text, const Report *report)
+{
+    text_add(text, "<!DOCTYPE html>\n<html lang=\"en\">\n<head>\n<meta charset=\"utf-8\">\n"
+                   "<meta name=\"viewport\" content=\"width=device-width,initial-scale=1\">\n<title>%s: ",
+             is_accepted(report->answer) ? "Accepted" : "Refused");
+    text_add_escaped(text, report->path);
+    text_add(text, "</title>\n");
+    style_add(text);
+    text_add(text, "</head>\n<body>\n<p class=\"kind\">Check of an RDP command list</p>\n<h1>");
+    text_add_escaped(text, report->path);
+    text_add(text, "</h1>\n");
+}
+
+/* `number place` and what it means, in the middle of a sentence. */
+static void add_answer(Text *text, const List *list, Answer answer, Purpose purpose)
+{
+    char meaning[MEANING_ROOM];
+    explain(list, answer, purpose, meaning, sizeof meaning);
+    text_add(text, "<code>%u %u</code>, ", answer.number, (unsigned)answer.place);
+    text_add_escaped(text, meaning);
+}
+
+static void add_verdict(Text *text, const Report *report)
+{
+    char meaning[MEANING_ROOM];
+    bool accepted = is_accepted(report->answer);
+    explain(&report->list, report->answer, FOR_CHECK, meaning, sizeof meaning);
+    text_add(text, "<section id=\"verdict\" class=\"verdict %s\">\n<p class=\"word\">%s</p>\n<p class=\"meaning\">",
+             accepted ? "is-accepted" : "is-refused", accepted ? "Accepted" : "Refused");
+    text_add_escaped(text, meaning);
+    text_add(text, "</p>\n");
+    if (!accepted)
+        text_add(text, "<p class=\"why\">%s</p>\n", reason_of(report->answer.number));
+    if (report->rows.refused < report->rows.count)
+        text_add(text, "<p><a href=\"#refused\">Show the command</a></p>\n");
+    text_add(text, "</section>\n<dl class=\"facts\"><div><dt>number place</dt><dd><code>%u %u</code></dd></div>"
+                   "<div><dt>bytes</dt><dd>%s%zu</dd></div><div><dt>commands</dt><dd>%zu</dd></div></dl>\n",
+             report->answer.number, (unsigned)report->answer.place, report->list.cut ? "over " : "", report->list.length, report->rows.count);
+}
+
+/* What the lines of a strip mean. */
+static void add_legend(Text *text)
+{
+    static const char *const meanings[] = { "a draw since the last Sync Pipe", "a textured draw since the last Sync Tile or Sync Pipe",
+                                            "a draw since the last sync", "a load since the last sync" };
+    text_add(text, "<ul class=\"legend\">\n");
+    for (unsigned bit = 0; bit < sizeof meanings / sizeof meanings[0]; bit++)
+        text_add(text, "<li><svg viewBox=\"0 0 1 1\" aria-hidden=\"true\"><rect class=\"h-%s\" width=\"1\" height=\"1\"/></svg><b>%s</b>: %s</li>\n",
+                 hazard_name(bit), hazard_name(bit), meanings[bit]);
+    text_add(text, "</ul>\n");
+}
+
+static void add_hazards(Text *text, const Report *report)
+{
+    if (report->rows.count == 0)
+        return;
+    text_add(text, "<h2>Hazards before each command</h2>\n<p class=\"note\">A hazard is earlier work that may still run. The list goes from left "
+                   "to right, one column for each command.%s</p>\n",
+             is_accepted(report->answer) ? "" : " Red marks the refused command; grey is not known, because it comes after a refused command.");
+    strip_add(text, &report->rows);
+    if (report->repaired_rows.count > 0) {
+        text_add(text, "<p class=\"note\">The same of the repaired list:</p>\n");
+        strip_add(text, &report->repaired_rows);
+    }
+    add_legend(text);
+}
+
+static void add_insertions(Text *text, const Report *report)
+{
+    const Repaired *repaired = &report->repaired;
+    text_add(text, "<details%s><summary>%zu %s inserted, %u cycles</summary>\n<ul id=\"inserted\">\n", repaired->count <= OPEN_LIMIT ? " open" : "",
+             repaired->count, repaired->count == 1 ? "sync would be" : "syncs would be", (unsigned)repaired->answer.third);
+    for (size_t i = 0; i < repaired->count; i++)
+        text_add(text, "<li>%s before word %zu, %s</li>\n", command_name(repaired->inserted[i].number), repaired->inserted[i].place,
+                 name_at(&report->list, repaired->inserted[i].place));
+    text_add(text, "</ul></details>\n");
+}
+
+static void add_repair(Text *text, const Report *report)
+{
+    text_add(text, "<section>\n<h2>Repair</h2>\n");
+    if (!is_accepted(report->repaired.answer)) {
+        text_add(text, "<p>The list cannot be repaired: ");
+        add_answer(text, &report->list, report->repaired.answer, FOR_REPAIR);
+        text_add(text, ".</p>\n");
+    } else if (report->repaired.count == 0)
+        text_add(text, "<p>No sync is missing.</p>\n");
+    else
+        add_insertions(text, report);
+    text_add(text, "</section>\n");
+}
+
+static void add_png(Text *text, const Report *report)
+{
+    const Image *image = &report->image;
+    unsigned scale = image->width < PICTURE_WIDTH ? PICTURE_WIDTH / image->width : 1;
+    char size[128];
+    image_text(image, size, sizeof size);
+    text_add(text, "<p class=\"note\">%s%s.</p>\n<p class=\"picture\"><img alt=\"what the list draws\" width=\"%u\" height=\"%u\" "
+                   "src=\"data:image/png;base64,", size, report->repaired.count > 0 ? ", drawn by the repaired list" : "",
+             image->width * scale, image->height * scale);
+    text_add_base64(text, report->png, report->png_length);
+    text_add(text, "\"></p>\n");
+}
+
+static void add_picture(Text *text, const Report *report)
+{
+    bool repaired = report->repaired.count > 0;
+    text_add(text, "<section>\n<h2>Picture</h2>\n");
+    if (report->png != NULL)
+        add_png(text, report);
+    else if (is_accepted(report->drawing))
+        text_add(text, "<p>The list draws no picture.</p>\n");
+    else {
+        text_add(text, "<p>The %slist cannot be drawn: ", repaired ? "repaired " : "");
+        add_answer(text, repaired ? &report->repaired.list : &report->list, report->drawing, FOR_DRAW);
+        text_add(text, ".</p>\n");
+    }
+    text_add(text, "</section>\n");
+}
+
+void page_add(Text *text, const Report *report)
+{
+    add_head(text, report);
+    add_verdict(text, report);
+    add_hazards(text, report);
+    text_add(text, "<div class=\"beside\">\n");
+    add_repair(text, report);
+    add_picture(text, report);
+    text_add(text, "</div>\n");
+    table_add(text, report);
+    text_add(text, "</body>\n</html>\n");
+}

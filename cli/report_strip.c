@@ -1,0 +1,40 @@
+/* A strip that shows the hazards along a list: a column for each command, a line for each hazard. */
+#include "report.h"
+
+#define LINE 18  /* height of a line, as in the style */
+#define LINES 4  /* pipe, tile, draw, load */
+#define MARGIN 2 /* above and below a bar */
+
+/* A bar for each run of commands that have a hazard before them. What is not known goes over all lines. */
+static void add_bars(Text *text, const Rows *rows, unsigned bit)
+{
+    bool all_lines = 1u << bit == HAZARD_UNKNOWN;
+    unsigned top = all_lines ? 0 : bit * LINE + MARGIN;
+    unsigned height = all_lines ? LINES * LINE : LINE - 2 * MARGIN;
+    size_t length;
+    for (size_t start = 0; start < rows->count; start += length) {
+        bool on = rows->rows[start].hazards >> bit & 1;
+        for (length = 1; start + length < rows->count && (rows->rows[start + length].hazards >> bit & 1) == on; length++) { }
+        if (on)
+            text_add(text, "<rect class=\"h-%s\" x=\"%zu\" y=\"%u\" width=\"%zu\" height=\"%u\"><title>%s: before the commands at words %zu to %zu"
+                           "</title></rect>\n",
+                     hazard_name(bit), start, top, length, height, hazard_name(bit), rows->rows[start].place, rows->rows[start + length - 1].place);
+    }
+}
+
+void strip_add(Text *text, const Rows *rows)
+{
+    text_add(text, "<div class=\"strip\"><div class=\"labels\">");
+    for (unsigned bit = 0; bit < LINES; bit++)
+        text_add(text, "<div>%s</div>", hazard_name(bit));
+    text_add(text, "</div>\n<svg viewBox=\"0 0 %zu %d\" preserveAspectRatio=\"none\" role=\"img\" aria-label=\"hazards before each command\">\n",
+             rows->count, LINES * LINE);
+    add_bars(text, rows, LINES);
+    for (unsigned bit = 0; bit < LINES; bit++)
+        add_bars(text, rows, bit);
+    if (rows->refused < rows->count)
+        text_add(text, "<rect class=\"h-refused\" x=\"%zu\" y=\"0\" width=\"1\" height=\"%d\" vector-effect=\"non-scaling-stroke\">"
+                       "<title>refused: word %zu</title></rect>\n", rows->refused, LINES * LINE, rows->rows[rows->refused].place);
+    text_add(text, "</svg>\n<div class=\"ends\"><span>word %zu</span><span>word %zu</span></div></div>\n", rows->rows[0].place,
+             rows->rows[rows->count - 1].place);
+}

@@ -1,0 +1,62 @@
+"""Commands and hazards, as documents 000 and 01 have them. The bit lists are those of tools/vectors.py, typed from document 000."""
+import os
+import sys
+
+from support import TOP, words
+
+sys.path.append(os.path.join(TOP, "tools"))
+import vectors  # noqa: E402
+
+words_of = vectors.words_of
+
+NAMES = (["No Operation"] * 8 + ["Fill Triangle"] + [f"Fill Triangle ({s})" for s in ("Z", "T", "TZ", "S", "SZ", "ST", "STZ")]
+         + ["No Operation"] * 20 + ["Texture Rectangle", "Texture Rectangle Flip", "Sync Load", "Sync Pipe", "Sync Tile", "Sync Full",
+         "Set Key GB", "Set Key R", "Set Convert", "Set Scissor", "Set Primitive Depth", "Set Other Modes", "Load TLUT", "No Operation",
+         "Set Tile Size", "Load Block", "Load Tile", "Set Tile", "Fill Rectangle", "Set Fill Color", "Set Fog Color", "Set Blend Color",
+         "Set Primitive Color", "Set Environment Color", "Set Combine Mode", "Set Texture Image", "Set Depth Image", "Set Color Image"])
+ATTRIBUTES = (0x2A, 0x2B, 0x2C, 0x2F, 0x37, 0x38, 0x39, 0x3B, 0x3C, 0x3E, 0x3F)
+LOADS = (0x30, 0x33, 0x34)
+
+
+def fields_of(number, given):
+    """Names and values of a command's fields, in order."""
+    names = [name for *_, name in vectors.LAYOUT[number]]
+    if number == 0x32:
+        names[2] = "index"  # as 000 calls the tile of Set Tile Size
+    return list(zip(names, vectors.decoded(number, given)))
+
+
+def is_draw(number):
+    return 8 <= number < 16 or number in (0x24, 0x25, 0x36)
+
+
+def after(hazards, number):
+    """The hazards after a command."""
+    if number in (0x27, 0x29):
+        return set()
+    if number == 0x28:
+        return hazards - {"tile", "draw", "load"}
+    if number == 0x26:
+        return hazards - {"draw", "load"}
+    if is_draw(number):
+        textured = number in (0x24, 0x25) or (number < 16 and number & 2)
+        return hazards | {"pipe", "draw"} | ({"tile"} if textured else set())
+    return hazards | {"load"} if number in LOADS else hazards
+
+
+def misses_sync(hazards, number):
+    return ((number in ATTRIBUTES and "pipe" in hazards) or (number == 0x35 and "tile" in hazards)
+            or (number in LOADS and "draw" in hazards) or (is_draw(number) and "load" in hazards))
+
+
+def accepted_list(rng, setup, commands):
+    """A random list that the check accepts, and the hazards before each of its commands. Without a setup nothing is drawn."""
+    data, hazards, expected = list(setup), set(), [set() for _ in setup]
+    draws = [8, 0xA, 0xF, 0x24, 0x25, 0x36] if setup else []
+    while len(expected) < commands:
+        number = rng.choice(draws * 2 + [0x26, 0x27, 0x28, 0x34, 0x33, 0x30, 0x35, 0x38, 0x3A, 0x32, 0])
+        if not misses_sync(hazards, number):
+            expected.append(hazards)
+            data += [number << 56] + [0] * (words_of(number) - 1)
+            hazards = after(hazards, number)
+    return words(*data), expected

@@ -1,0 +1,89 @@
+"""Arguments, help, and standard output that cannot be written."""
+import os
+import re
+import subprocess
+
+from support import COMMANDS, TOOL, S, R, example, files, run, same, test, words, write
+
+DRAW = ["draw", "a", "--memory", "64"]
+WRONG = {
+    "Usage: lanyardrove": [[]],
+    "'chek' is no command": [["chek"]],
+    "unrecognized option '--what'": [["check", "--what"]],
+    "invalid option -- 'x'": [["dump", "-x"]],
+    "option requires an argument -- 'o'": [["repair", "a", "-o"]],
+    "check takes no such option: --memory=5": [["check", "--memory=5"]],
+    "dump takes no such option: -q": [["dump", "-q", "a"]],
+    "takes one list": [["dump", "a", "b"], ["repair"], ["repair", "a", "b"], ["draw"], ["draw", "a", "b"], ["report"],
+                       ["report", "a", "b", "-o", "x.html"]],
+    "draw needs --memory BYTES": [["draw", "a"], ["draw", "a", "-o", "x.bin"]],
+    "draw needs -o OUT": [DRAW],
+    "report needs -o OUT": [["report", "a"]],
+    "ends in none of .png, .ppm and .bin": [[*DRAW, "-o", name] for name in ("x.gif", "x", ".png", "-", "")],
+    "not a number of bytes up to 256M": [["draw", "a", "--memory", text, "-o", "x.bin"] for text in (
+        "", "-1", "+1", " 1", "64x", "K", "0x", "0xG", "0x0x5", "1KK", "257M", "268435457", "99999999999999999999", "17592186044416M",
+        "18446744073709551616")],
+    "not an address": [[*DRAW, "--start", text, "-o", "x.bin"] for text in ("", "x", "1,", "-1", "0x10000000000000000", "18446744073709551616")],
+    "not ADDRESS,WIDTH,HEIGHT,SIZE": [[*DRAW, "--image", text, "-o", "x.png"] for text in (
+        "", "0,8,4", "0,8,4,4", "0,8,4,24", "0,0,4,16", "0,8,0,16", "0,8,4,16,", "0,4097,4,16", "0,8,4097,16", "0,8,,16", "0 ,8,4,16")],
+}
+
+
+@test
+def wrong_arguments_are_told():
+    for reason, calls in WRONG.items():
+        for arguments in calls:
+            status, out, err = run(*arguments)
+            same((status, out), (2, ""), arguments)
+            assert reason in err and "--help" in err, (arguments, err)
+            assert err.startswith(("lanyardrove: ", "Usage: ")), (arguments, err)
+    same(files(), [])
+
+
+@test
+def numbers_are_decimal_or_hexadecimal():
+    for memory, length in (("0", 0), ("0x40", 64), ("0X4f", 79), ("1K", 1024), ("0x1K", 1024), ("007", 7)):
+        same(run("draw", example("a.rdp"), "--memory", memory, "--start", "0xFFFFFFFFFFFFFFFF", "-o", "x.bin")[0], 0, memory)
+        same(os.path.getsize("x.bin"), length, memory)
+
+
+@test
+def options_may_stand_anywhere():
+    write("-q.rdp", words(*S, R))
+    same(run("check", "--", "-q.rdp")[:2], (0, "0 4\naccepted: 4 words\n"))
+    same(run("check", "-q", "--", "-q.rdp")[:2], (0, "0 4\n"))
+    same(run("check", "./-q.rdp", "--quiet")[:2], (0, "0 4\n"))
+    same(run("repair", "--output=--.rdp", "--", "-q.rdp")[0], 0)
+    same(files(), ["--.rdp", "-q.rdp"])
+    status, out, err = run("check", "-q.rdp")
+    same((status, out), (2, ""))
+    assert "invalid option -- '.'" in err, err
+
+
+@test
+def help_and_version():
+    overview = run("--help")[1]
+    same(run("-h"), (0, overview, ""))
+    for command in COMMANDS:
+        status, out, err = run(command, "--help")
+        same((status, err), (0, ""), command)
+        assert out.startswith(f"Usage: lanyardrove {command}"), out
+        assert f"\n  {command} " in overview, command
+        assert max(map(len, out.split("\n"))) <= 80, command
+        same(run(command, "-h"), (0, out, ""), command)
+    status, out, err = run("--version")
+    same((status, err), (0, ""))
+    assert re.fullmatch(r"lanyardrove \d+\.\d+\.\d+\n", out), out
+
+
+@test
+def output_that_cannot_be_written_is_an_error():
+    for command in (["check", example("i.rdp")], ["dump", example("i.rdp")], ["repair", example("i.rdp")], ["--version"], ["check", "--help"]):
+        with open("/dev/full", "wb") as full:
+            done = subprocess.run([TOOL, *command], stdout=full, stderr=subprocess.PIPE)
+        same(done.returncode, 2, command)
+        assert b"standard output" in done.stderr, done.stderr
+        done = subprocess.run(["sh", "-c", 'exec "$@" >&-', "sh", TOOL, *command], stderr=subprocess.PIPE)
+        same(done.returncode, 2, command)
+    done = subprocess.run(["sh", "-c", 'exec "$@" >&-', "sh", TOOL, "report", example("i.rdp"), "-o", "i.html"], stderr=subprocess.PIPE)
+    same((done.returncode, done.stderr, files()), (0, b"", ["i.html"]))  # nothing is printed, so nothing is missing

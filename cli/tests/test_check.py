@@ -1,0 +1,82 @@
+"""lanyardrove check."""
+import os
+import re
+import shutil
+import subprocess
+
+from support import C, N, ONE_CYCLE, R, S, TOOL, example, read, run, same, test, words, write
+
+
+def example_table():
+    """Name, number and place of each list in examples/README.md."""
+    rows = re.findall(r"\| `([a-z0-9-]+\.rdp)` \|.*\| `(\d+) (\d+)` \|", read(example("README.md")).decode())
+    same(sorted(name for name, *_ in rows), sorted(name for name in os.listdir(example("")) if name.endswith(".rdp")))
+    return rows
+
+
+@test
+def check_answers_for_each_example():
+    for name, number, place in example_table():
+        status, out, err = run("check", example(name))
+        lines = out.split("\n")
+        same((status, lines[0], err, len(lines)), (0 if number == "0" else 1, f"{number} {place}", "", 3), name)
+        same(run("check", "-q", example(name)), (status, f"{number} {place}\n", ""), name)
+        same(run("check", "-q", stdin=read(example(name))), (status, f"{number} {place}\n", ""), name)
+
+
+@test
+def check_says_what_an_answer_means():
+    triangle = words(0x0F << 56, *[0] * 21)
+    for data, text in (
+            (b"", "0 0\naccepted: 0 words, the list is empty"), (words(N), "0 1\naccepted: 1 word"), (words(N, N), "0 2\naccepted: 2 words"),
+            (bytes(32776), "1 4096\nthe list is over 32,768 bytes"), (bytes(7), "2 0\nthe length of 7 bytes is no multiple of 8"),
+            (triangle[:168], "3 0\nword 0: Fill Triangle (STZ) runs past the end of the list"),
+            (words(0x29 << 56, N), "4 1\nword 1: No Operation stands after Sync Full"),
+            (triangle, "5 0\nword 0: Fill Triangle (STZ) draws with other modes, colour image or scissor not set in this list"),
+            (words(S[0], 0x3F00000700000000, S[2], R), "6 3\nword 3: Fill Rectangle draws in FILL mode on a 4-bit colour image"),
+            (words(*S, R, 0x34 << 56), "7 4\nword 4: Load Tile requires Sync Load"),
+            (words(ONE_CYCLE, *S[1:], 0x24 << 56, 0, 0x35 << 56), "8 5\nword 5: Set Tile requires Sync Tile"),
+            (words(*S, R, C), "9 4\nword 4: Set Fill Color requires Sync Pipe")):
+        same(run("check", stdin=data), (0 if text[0] == "0" else 1, text + "\n", ""))
+
+
+@test
+def check_of_several_files_has_a_line_each_and_a_count():
+    accepted, refused = example("i.rdp"), example("g.rdp")
+    same(run("check", accepted, refused, "-", stdin=words(N)), (1, "\n".join((
+        f"0 5 {accepted}: accepted: 5 words", f"9 4 {refused}: word 4: Set Fill Color requires Sync Pipe", "0 1 -: accepted: 1 word",
+        "3 lists: 2 accepted, 1 refused", "")), ""))
+    same(run("check", "-q", accepted, refused), (1, "0 5\n9 4\n", ""))
+    status, out, _ = run("check", accepted, example("a.rdp"))
+    same((status, out.split("\n")[2]), (0, "2 lists: 2 accepted (1 empty), 0 refused"))
+
+
+@test
+def check_of_a_file_that_cannot_be_read():
+    same(run("check", "no-such-file"), (2, "", "lanyardrove: no-such-file: No such file or directory\n"))
+    same(run("check", "."), (2, "", "lanyardrove: .: Is a directory\n"))
+    same(run("check", ""), (2, "", "lanyardrove: : No such file or directory\n"))
+    status, out, err = run("check", example("g.rdp"), "no-such-file", example("i.rdp"))
+    same((status, out.split("\n")[2]), (2, "3 lists: 1 accepted, 1 refused, 1 not read"))
+    same(err, "lanyardrove: no-such-file: No such file or directory\n")
+    done = subprocess.run(["sh", "-c", 'exec "$@" <&-', "sh", TOOL, "check"], capture_output=True)
+    same((done.returncode, done.stdout, done.stderr), (2, b"", b"lanyardrove: standard input: Bad file descriptor\n"))
+
+
+@test
+def check_of_a_file_without_permission():
+    tool = shutil.copy(TOOL, "tool")
+    os.chmod(".", 0o755)
+    write("list.rdp", words(N))
+    os.chmod("list.rdp", 0)
+    user = 65534 if os.geteuid() == 0 else None  # nobody, since root reads everything
+    done = subprocess.run(["./tool", "check", "list.rdp"], capture_output=True, user=user)
+    same((tool, done.returncode, done.stderr), ("tool", 2, b"lanyardrove: list.rdp: Permission denied\n"))
+
+
+@test
+def check_at_the_limit_of_length():
+    same(run("check", "-q", stdin=bytes(32768)), (0, "0 4096\n", ""))
+    same(run("check", "-q", stdin=bytes(32769)), (1, "1 4096\n", ""))
+    same(run("check", "-q", "/dev/zero"), (1, "1 4096\n", ""))
+    same(run("check", "-q", "/dev/stdin", stdin=words(*S, R, C)), (1, "9 4\n", ""))

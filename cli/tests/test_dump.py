@@ -1,0 +1,169 @@
+"""lanyardrove dump."""
+import os
+import pty
+import random
+import re
+import subprocess
+
+from rules import NAMES, accepted_list, fields_of, words_of
+from support import C, FULL, L, N, ONE_CYCLE, PIPE, R, S, TILE, TOOL, example, read, run, same, test, words
+
+
+def dumped(data, status=None):
+    found, out, err = run("dump", stdin=data)
+    same(err, "")
+    if status is not None:
+        same(found, status)
+    return out
+
+
+def dumped_commands(text):
+    """[place, first word, name, hazards, fields] of each command of a dump; the fields keep their order."""
+    commands = []
+    for line in text.split("\n"):
+        head = re.match(r" *(\d+)  ([0-9A-F]{16})  (.+?) +hazards: (.*)$", line)
+        if head:
+            commands.append([int(head[1]), head[2], head[3], head[4], {}])
+        elif re.match(r" {8}[A-Za-z]", line) and commands:
+            commands[-1][4].update(re.findall(r"([A-Za-z0-9_.]+)=([^,]*)", line))
+    return commands
+
+
+@test
+def dump_shows_names_fields_and_hazards():
+    found = dumped_commands(dumped(words(*S, R, C), 1))
+    same([c[:4] for c in found], [[0, "2F30000000000000", "Set Other Modes", "none"], [1, "3F10000700000000", "Set Color Image", "none"],
+                                  [2, "2D00000000020010", "Set Scissor", "none"], [3, "3600800800004004", "Fill Rectangle", "none"],
+                                  [4, "37000000F801003F", "Set Fill Color", "pipe draw"]])
+    same(len(found[0][4]), 37)
+    same(found[0][4]["cycle_type"], "3 (FILL)")
+    same(found[1][4], {"format": "0 (RGBA)", "size": "2 (16 bits)", "width": "7 (8 pixels)", "dramAddress": "0x0"})
+    same(found[3][4], {"lower_right.x": "8 (2.00)", "lower_right.y": "8 (2.00)", "upper_left.x": "4 (1.00)", "upper_left.y": "4 (1.00)"})
+    same(found[4][4], {"color": "0xF801003F"})
+
+
+@test
+def dump_shows_the_refusal_at_its_line_and_what_follows():
+    text = dumped(words(*S, R, C, L, FULL), 1)
+    assert text.startswith("9 4\nword 4: Set Fill Color requires Sync Pipe\n"), text
+    lines = text.split("\n")
+    at = [i for i, line in enumerate(lines) if line == "        >> refused, 9 4: word 4: Set Fill Color requires Sync Pipe"]
+    same(len(at), 1)
+    assert "  Set Fill Color  " in lines[at[0] - 1] and "color=0xF801003F" in lines[at[0] + 1], text
+    same([c[2:4] for c in dumped_commands(text)][5:], [["Load Tile", "unknown"], ["Sync Full", "unknown"]])
+    assert ">>" not in dumped(read(example("i.rdp")), 0)
+
+
+@test
+def dump_shows_what_is_no_whole_command():
+    same(dumped(b"", 0), "0 0\naccepted: 0 words, the list is empty\n")
+    assert "     0  00000000000000  no whole word\n" in dumped(bytes(7), 1)
+    text = dumped(read(example("d.rdp")), 1)
+    assert "Fill Triangle (STZ)" in text and ">> refused, 3 0" in text and "    20  " in text and "    21  " not in text, text
+    assert "=" not in text, text  # a cut command has no fields
+    text = dumped(words(*S, 0x24 << 56) + b"\xAB", 1)
+    assert "     4  AB  no whole word\n" in text and "Texture Rectangle" in text, text
+    same(dumped_commands(text)[3][3], "none")  # the words before are known, though the length is refused
+
+
+@test
+def dump_of_a_list_that_is_too_long():
+    found = dumped_commands(dumped(words(*S, *[N] * 4094), 1))
+    same((len(found), found[4095][3], found[4096][3]), (4097, "none", "unknown"))
+    assert "the file goes on after 1048576 bytes" in run("dump", "/dev/zero")[1]
+
+
+@test
+def dump_shows_the_fields_of_document_000():
+    rng = random.Random(3)
+    for number in list(range(64)) * 2:
+        given = [rng.getrandbits(64) for _ in range(words_of(number))]
+        given[0] = given[0] & ~(63 << 56) | number << 56
+        fields = dumped_commands(dumped(words(*given)))[0][4]
+        same([(name, int(text.split(" ")[0], 0)) for name, text in fields.items()], fields_of(number, given), hex(number))
+
+
+@test
+def dump_says_what_a_value_means():
+    tile = dumped_commands(dumped(words(0x35 << 56 | 3 << 53 | 1 << 51 | 0x1FF << 32)))[0][4]
+    same((tile["format"], tile["size"], tile["address"]), ("3 (IA)", "1 (8 bits)", "0x1FF"))
+    image = dumped_commands(dumped(words(0x3FFFFFFFFFFFFFFF)))[0][4]
+    same(image, {"format": "7 (I)", "size": "3 (32 bits)", "width": "1023 (1024 pixels)", "dramAddress": "0x3FFFFFF"})
+    same(dumped_commands(dumped(words(0x2F10 << 48)))[0][4]["cycle_type"], "1 (2-Cycle)")
+    same(dumped_commands(dumped(words(0x3200100207003004)))[0][4], {
+        "upper_left.s": "1 (0.25)", "upper_left.t": "2 (0.50)", "index": "7", "lower_right.s": "3 (0.75)", "lower_right.t": "4 (1.00)"})
+
+
+@test
+def dump_shows_signed_fields():
+    triangle = words(0x0ABD3FFF20001FFF, 0x0800FFFF20000001, 0x07FF000010001234, 0x0FFF00010FFF0002, *range(8))
+    text = dumped(triangle)
+    found = dumped_commands(text)[0]
+    same((found[2], found[4]), ("Fill Triangle (T)", {
+        "shade": "0", "texture": "1", "zbuffer": "0", "lmajor": "1", "level": "7", "tile": "5", "yl": "-1 (-0.25)", "ym": "-8192 (-2048.00)",
+        "yh": "8191 (2047.75)", "xl.i": "-2048", "xl.f": "65535", "dxldy.i": "-8192", "dxldy.f": "1", "xh.i": "2047", "xh.f": "0",
+        "dxhdy.i": "4096", "dxhdy.f": "4660", "xm.i": "-1", "xm.f": "1", "dxmdy.i": "4095", "dxmdy.f": "2"}))
+    same(len(re.findall(r"^ *\d+  [0-9A-F]{16}    texture$", text, re.M)), 8)
+    rectangle = words(0x2500100205003004, 0xFFFF80007FFF0001)
+    found = dumped_commands(dumped(rectangle))[0]
+    same((found[2], found[4]), ("Texture Rectangle Flip", {
+        "lrx": "1 (0.25)", "lry": "2 (0.50)", "tile": "5", "ulx": "3 (0.75)", "uly": "4 (1.00)",
+        "s": "-1", "t": "-32768", "dsdx": "32767", "dtdy": "1"}))
+
+
+@test
+def dump_names_every_command_number():
+    same(len(NAMES), 64)
+    for number in range(64):
+        found = dumped_commands(dumped(words(number << 56, *[0] * (words_of(number) - 1), 0)))
+        same([(c[0], c[2]) for c in found], [(0, NAMES[number]), (words_of(number), "No Operation")], hex(number))
+
+
+@test
+def dump_shows_the_hazards_of_document_01():
+    rng = random.Random(1)
+    modes = [ONE_CYCLE, S[1], S[2]]
+    four_bits = [S[0], 0x3F00000000000000, S[2]]  # no draw may follow
+    for setup, commands in ((modes, 150), (modes, 150), ([], 60)):
+        data, expected = accepted_list(rng, setup, commands)
+        same([set(c[3].split()) - {"none"} for c in dumped_commands(dumped(data, 0))], expected)
+    found = [c[3] for c in dumped_commands(dumped(words(*four_bits, L, N), 0))]
+    same(found, ["none"] * 4 + ["load"])
+    found = [c[3] for c in dumped_commands(dumped(words(*modes, 0x24 << 56, 0, TILE, L, PIPE, *four_bits[:2], L, N, FULL), 0))]
+    same(found, ["none"] * 4 + ["pipe tile draw", "pipe", "pipe load", "none", "none", "none", "load", "load"])
+
+
+@test
+def dump_of_the_longest_list():
+    found = dumped_commands(dumped(words(L, *[N] * 4095), 0))
+    same(len(found), 4096)
+    same({c[3] for c in found[1:4093]}, {"load"})
+    found = dumped_commands(dumped(words(*S, *[N] * 4091, L, N), 0))
+    same((len(found), found[-1][3]), (4096, "load"))
+
+
+def on_a_terminal(env):
+    """What dump writes to a terminal."""
+    terminal, end = pty.openpty()
+    done = subprocess.Popen([TOOL, "dump", example("g.rdp")], stdout=end, env=env)
+    os.close(end)
+    text = b""
+    try:
+        while part := os.read(terminal, 4096):
+            text += part
+    except OSError:  # the other end is closed
+        pass
+    done.wait()
+    os.close(terminal)
+    return text.decode().replace("\r\n", "\n")
+
+
+@test
+def dump_has_colour_on_a_terminal_only():
+    env = {name: value for name, value in os.environ.items() if name != "NO_COLOR"}
+    plain = run("dump", example("g.rdp"), env=env)[1]
+    coloured = on_a_terminal(env)
+    assert "\033" not in plain and "\033[1;31m" in coloured, coloured
+    same(re.sub(r"\033\[[0-9;]*m", "", coloured), plain)
+    for value in ("1", ""):
+        same(on_a_terminal({**env, "NO_COLOR": value}), plain, value)

@@ -1,0 +1,112 @@
+"""What is installed: the six files, linking from C, the manual page, completion."""
+import os
+import re
+import shlex
+import shutil
+import subprocess
+
+from support import COMMANDS, TOOL, TOP, example, read, run, same, test, write
+
+PROGRAM = b"""#include <lanyardrove.h>
+#include <stdio.h>
+int main(void) {
+    static unsigned char list[32769];
+    uint64_t answer = lanyardrove_check(list, fread(list, 1, sizeof list, stdin));
+    printf("%u %u\\n", lanyardrove_number(answer), lanyardrove_place(answer));
+    return lanyardrove_number(answer) != LANYARDROVE_ACCEPTED;
+}
+"""
+INSTALLED = ["bin/lanyardrove", "include/lanyardrove.h", "lib/liblanyardrove.a", "lib/pkgconfig/lanyardrove.pc",
+             "share/bash-completion/completions/lanyardrove", "share/man/man1/lanyardrove.1"]
+
+
+def make(*arguments):
+    """Runs make on the tool's build; the archive is taken as it is."""
+    done = subprocess.run(["make", "-s", "-o", "build/liblanyardrove.a", f"CLI_BUILD={os.path.dirname(TOOL)}", *arguments], cwd=TOP,
+                          capture_output=True)
+    same((done.returncode, done.stderr), (0, b""), arguments)
+    return done.stdout.decode()
+
+
+def files_below(root):
+    return sorted(os.path.relpath(os.path.join(folder, name), root) for folder, _, names in os.walk(root) for name in names)
+
+
+@test
+def make_makes_archive_and_tool():
+    plan = make("-n", "-B")
+    assert re.search(r"^gcc .*-o \S*/lanyardrove ", plan, re.M) and "build/liblanyardrove.a" in plan, plan
+
+
+@test
+def install_and_uninstall():
+    root = os.path.abspath("a root")
+    make("install", f"DESTDIR={root}", "PREFIX=/usr")
+    same(files_below(root), ["usr/" + name for name in INSTALLED])
+    same([name for name in INSTALLED if os.access(f"{root}/usr/{name}", os.X_OK)], ["bin/lanyardrove"])
+    done = subprocess.run([f"{root}/usr/bin/lanyardrove", "check", "-q", example("g.rdp")], capture_output=True)
+    same((done.returncode, done.stdout), (1, b"9 4\n"))
+    write(f"{root}/usr/lib/other", b"")
+    make("uninstall", f"DESTDIR={root}", "PREFIX=/usr")
+    same(files_below(root), ["usr/lib/other"])
+
+
+def pkg_config(prefix, *arguments):
+    env = {**os.environ, "PKG_CONFIG_PATH": f"{prefix}/lib/pkgconfig"}
+    return subprocess.run(["pkg-config", *arguments, "lanyardrove"], capture_output=True, env=env, check=True).stdout.decode()
+
+
+@test
+def a_program_is_linked_with_pkg_config():
+    prefix = os.path.abspath("prefix")
+    make("install", f"PREFIX={prefix}")
+    same("lanyardrove " + pkg_config(prefix, "--modversion"), run("--version")[1])
+    write("program.c", PROGRAM)
+    flags = shlex.split(pkg_config(prefix, "--static", "--cflags", "--libs"))
+    subprocess.run(["cc", "program.c", "-o", "program", *flags], check=True)
+    shutil.rmtree(prefix)  # the library is linked in, and not looked for at run time
+    for name, answer in (("g.rdp", "9 4\n"), ("i.rdp", "0 5\n")):
+        done = subprocess.run(["./program"], input=read(example(name)), capture_output=True)
+        same((done.returncode, done.stdout.decode()), (int(answer[0] != "0"), answer))
+
+
+def completed(*typed):
+    """What completion offers for the last of the typed words."""
+    script = os.path.join(TOP, "cli", "lanyardrove.bash")
+    line = (f"source {shlex.quote(script)}; COMP_WORDS=(lanyardrove {' '.join(map(shlex.quote, typed))}); COMP_CWORD={len(typed)}; "
+            "_lanyardrove; printf '%s\\n' \"${COMPREPLY[@]}\"")
+    done = subprocess.run(["bash", "-c", line], capture_output=True)
+    same((done.returncode, done.stderr), (0, b""), typed)
+    return done.stdout.decode().split("\n")[:-1] if done.stdout != b"\n" else []
+
+
+@test
+def completion_offers_commands_options_and_files():
+    write("list one.rdp", b"")
+    os.mkdir("lists")
+    same(completed(""), [*COMMANDS, "--help", "--version"])
+    for typed, expected in ((["d"], ["dump", "draw"]), (["draw", "--m"], ["--memory"]), (["check", "-"], ["-q", "--quiet", "--help"]),
+                            (["check", "li"], ["list one.rdp", "lists"]), (["check", "-q", "list "], ["list one.rdp"]),
+                            (["repair", "x", "-o", "li"], ["list one.rdp", "lists"]), (["draw", "--start", "l"], []),
+                            (["draw", "--memory", "6"], ["64K"]), (["what", "li"], [])):
+        same(sorted(completed(*typed)), sorted(expected), typed)
+
+
+@test
+def completion_and_manual_page_name_all_options():
+    page = read(os.path.join(TOP, "cli", "lanyardrove.1")).decode().replace("\\-", "-")
+    for command in COMMANDS:
+        assert f".B lanyardrove {command}\n" in page, command
+        options = re.findall(r"(?<!\S)--?[a-z]+", run(command, "--help")[1])
+        assert len(options) >= 1
+        same(sorted(set(completed(command, "-"))), sorted(set(options)), command)
+        for option in options:
+            assert option in page, (command, option)
+
+
+@test
+def the_manual_page_is_well_formed():
+    page = os.path.join(TOP, "cli", "lanyardrove.1")
+    done = subprocess.run(["man", "--warnings", "-l", page], capture_output=True, env={**os.environ, "LC_ALL": "C.UTF-8", "MANWIDTH": "80"})
+    same((done.returncode, done.stderr), (0, b""))
+    assert b"NAME" in done.stdout and b"EXIT STATUS" in done.stdout

@@ -1,0 +1,94 @@
+"""lanyardrove repair."""
+import os
+import pty
+import random
+import re
+import subprocess
+
+from rules import NAMES, words_of
+from support import C, L, LOAD, N, ONE_CYCLE, PIPE, R, S, TILE, TOOL, example, files, read, run, same, test, words, write
+
+
+@test
+def repair_inserts_the_least_syncs():
+    for name, text, expected in (
+            ("j.rdp", "Sync Pipe before word 4, Load Tile\n1 inserted, 50 cycles, 7 words in all\n", [*S, R, PIPE, L, C]),
+            ("k.rdp", "Sync Load before word 4, Load Tile\nSync Load before word 5, Fill Rectangle\n2 inserted, 50 cycles, 8 words in all\n",
+             [*S, R, LOAD, L, LOAD, R]),
+            ("m.rdp", "Sync Pipe before word 5, Set Fill Color\n1 inserted, 50 cycles, 7 words in all\n", [*S, R, N, PIPE, C]),
+            ("i.rdp", "0 inserted, 0 cycles, 5 words in all\n", [*S, C, R]),
+            ("a.rdp", "0 inserted, 0 cycles, 0 words in all\n", [])):
+        same(run("repair", example(name), "-o", "out.rdp"), (0, text, ""), name)
+        same(read("out.rdp"), words(*expected), name)
+        same(run("check", "-q", "out.rdp")[0], 0, name)
+        same(files(), ["out.rdp"])
+        os.remove("out.rdp")
+
+
+@test
+def repair_says_what_it_wrote():
+    """The list with the syncs that the text names is the list written, and the cycles are theirs."""
+    rng = random.Random(2)
+    kinds = {"Load": (LOAD, 25), "Tile": (TILE, 33), "Pipe": (PIPE, 50)}
+    for _ in range(12):
+        given = [ONE_CYCLE, *S[1:]]
+        for _ in range(60):
+            number = rng.choice([0x36, 0x36, 0x24, 0x34, 0x35, 0x37, 0x26, 0x27, 0x28, 0x3A])
+            given += [number << 56] + [rng.getrandbits(64)] * (words_of(number) - 1)
+        write("in.rdp", words(*given))
+        status, out, err = run("repair", "in.rdp", "-o", "out.rdp")
+        same((status, err), (0, ""))
+        told = re.findall(r"^Sync (Load|Tile|Pipe) before word (\d+), (.+)$", out, re.M)
+        expected, before = [], {int(place): kind for kind, place, _ in told}
+        for place, word in enumerate(given):
+            expected += [kinds[before[place]][0]] if place in before else []
+            expected.append(word)
+        same(read("out.rdp"), words(*expected))
+        same(out.split("\n")[-2], f"{len(told)} inserted, {sum(kinds[k][1] for k, _, _ in told)} cycles, {len(expected)} words in all")
+        same([NAMES[given[int(place)] >> 56] for _, place, _ in told], [name for _, _, name in told])
+        same(run("check", "-q", "out.rdp")[0], 0)
+    write("in.rdp", words(*S, R, TILE, C))
+    same(run("repair", "in.rdp", "-o", "out.rdp")[1].split("\n")[0], "Sync Pipe before word 5, Set Fill Color")
+
+
+@test
+def repair_to_standard_output():
+    for output in ([], ["-o", "-"]):
+        done = subprocess.run([TOOL, "repair", "-", *output], input=words(*S, R, L, C), capture_output=True)
+        same((done.returncode, done.stdout), (0, words(*S, R, PIPE, L, C)))
+        same(done.stderr, b"Sync Pipe before word 4, Load Tile\n1 inserted, 50 cycles, 7 words in all\n")
+    same(run("repair", example("f.rdp")), (1, "", "4 1\nword 1: No Operation stands after Sync Full\n"))
+
+
+@test
+def repair_writes_no_list_to_a_terminal():
+    terminal, end = pty.openpty()
+    done = subprocess.run([TOOL, "repair", example("j.rdp")], stdout=end, stderr=subprocess.PIPE)
+    os.close(end)
+    os.close(terminal)
+    same(done.returncode, 2)
+    assert b"standard output is a terminal: give -o OUT" in done.stderr, done.stderr
+
+
+@test
+def repair_writes_nothing_at_a_refusal():
+    write("kept.rdp", b"as it was")
+    for name, number, place in (("b.rdp", 2, 0), ("c1.rdp", 3, 0), ("e.rdp", 5, 0), ("f.rdp", 4, 1)):
+        status, out, err = run("repair", example(name), "-o", "kept.rdp")
+        same((status, out.split("\n")[0], err), (1, f"{number} {place}", ""), name)
+        same(read("kept.rdp"), b"as it was")
+        same(run("repair", example(name), "-o", "new.rdp")[0], 1)
+    write("long.rdp", bytes(16392))
+    status, out, err = run("repair", "long.rdp", "-o", "new.rdp")
+    same((status, out), (1, "1 2048\nthe list is over 16,384 bytes\n"))
+    same(files(), ["kept.rdp", "long.rdp"])
+    write("longest.rdp", bytes(16384))
+    same(run("repair", "longest.rdp", "-o", "new.rdp")[:2], (0, "0 inserted, 0 cycles, 2048 words in all\n"))
+
+
+@test
+def repair_of_the_list_with_most_syncs():
+    write("in.rdp", words(*S, *[R, L] * 1022, R))
+    status, out, err = run("repair", "in.rdp", "-o", "out.rdp")
+    same((status, out.split("\n")[-2]), (0, f"2044 inserted, {2044 * 25} cycles, {2048 + 2044} words in all"))
+    same(run("check", "-q", "out.rdp")[1], f"0 {2048 + 2044}\n")

@@ -1,0 +1,131 @@
+"""lanyardrove report: what the page says. test_browser.py looks at it in a browser."""
+import base64
+import html.parser
+import os
+import re
+import struct
+
+from support import C, L, N, ONE_CYCLE, R, S, example, memory_of_i, png_pixels, read, rgb_of, run, same, test, words, write
+
+
+class Page(html.parser.HTMLParser):
+    """A page whose elements are all closed in order; its text, rows and pictures are kept."""
+
+    def __init__(self, source):
+        super().__init__()
+        self.source, self.text, self.open, self.rows, self.images, self.tags = source, "", [], [], [], set()
+        self.feed(source)
+        self.close()
+        same(self.open, [])
+
+    def handle_starttag(self, tag, attributes):
+        self.tags.add(tag)
+        if tag == "tr":
+            self.rows.append([dict(attributes), ""])
+        if tag == "img":
+            self.images.append(dict(attributes)["src"])
+        if tag not in ("meta", "br", "img"):
+            self.open.append(tag)
+
+    def handle_endtag(self, tag):
+        same(self.open.pop(), tag)
+
+    def handle_data(self, data):
+        self.text += data
+        if "tr" in self.open:
+            self.rows[-1][1] += data + " "
+
+    def rows_of(self, kind):
+        return [text for attributes, text in self.rows if attributes.get("class") == kind]
+
+    def picture(self):
+        same(len(self.images), 1)
+        head = "data:image/png;base64,"
+        assert self.images[0].startswith(head)
+        return png_pixels(base64.b64decode(self.images[0][len(head):], validate=True))
+
+
+def reported(data, status, name="list.rdp"):
+    write(name, data)
+    same(run("report", name, "-o", "out.html"), (status, "", ""), name)
+    page = Page(read("out.html").decode())
+    assert not page.tags & {"script", "link", "iframe"}, page.tags
+    assert not re.search(r"https?:|@import|url\(|\033", page.source), "the page needs another file"
+    os.remove("out.html")
+    os.remove(name)
+    return page
+
+
+@test
+def report_of_a_refused_list():
+    page = reported(words(*S, R, C), 1)
+    verdict = re.search(r'<section id="verdict" class="verdict is-refused">(.*?)</section>', page.source, re.S)[1]
+    assert '<p class="word">Refused</p>' in verdict and "word 4: Set Fill Color requires Sync Pipe" in verdict, verdict
+    assert "A draw may still use what this command changes" in verdict and '<a href="#refused">' in verdict, verdict
+    assert "<code>9 4</code>" in page.source
+    refused = page.rows_of("refused")
+    same(len(refused), 1)
+    assert "37000000F801003F" in refused[0] and "Refused, 9 4: word 4: Set Fill Color requires Sync Pipe" in refused[0], refused
+    same(len([row for row in page.rows_of("inserted") if "+ Sync Pipe" in row]), 1)
+    assert "1 sync would be inserted, 50 cycles" in page.text and "Sync Pipe before word 4, Set Fill Color" in page.text
+    same(page.source.count('class="strip"'), 2)  # the list and the repaired list
+    assert "drawn by the repaired list" in page.text
+    same(page.picture(), (8, 4, bytes(96)))  # the colour is set after the rectangle
+
+
+@test
+def report_of_an_accepted_list():
+    page = reported(read(example("i.rdp")), 0)
+    assert 'class="verdict is-accepted"' in page.source and "accepted: 5 words" in page.text and "No sync is missing." in page.text
+    same((page.rows_of("refused"), page.source.count('class="strip"')), ([], 1))
+    same(page.picture(), (8, 4, b"".join(rgb_of(v) for v in struct.unpack(">32H", memory_of_i()))))
+    same([text.split()[0] for _, text in page.rows][1:], ["0", "1", "2", "3", "4"])
+
+
+@test
+def report_of_lists_that_cannot_be_drawn_or_repaired():
+    for name, texts in (("a.rdp", ["accepted: 0 words, the list is empty", "The list draws no picture.", "The list holds no command."]),
+                        ("b.rdp", ["7 bytes follow that are no whole word"]), ("d.rdp", ["The list cannot be repaired: 3 0"]),
+                        ("e.rdp", ["The list cannot be drawn: 5 0"]), ("f.rdp", ["The list cannot be repaired: 4 1"])):
+        page = reported(read(example(name)), 0 if name == "a.rdp" else 1)
+        for text in texts:
+            assert text in page.text, (name, page.text)
+    page = reported(words(ONE_CYCLE, *S[1:], R, C), 1)
+    assert "The repaired list cannot be drawn: 10 3, word 3: Fill Rectangle is not drawn" in page.text, page.text
+    page = reported(bytes(40000), 1)
+    assert "the commands of its first 32,768 bytes are shown" in page.text
+    same(len(page.rows), 4097)
+
+
+@test
+def report_gives_a_reason_for_each_refusal():
+    lists = [bytes(32776), bytes(7), words(0x24 << 56), words(0x29 << 56, N), words(R), words(S[0], 0x3F00000700000000, S[2], R),
+             words(*S, R, L), words(ONE_CYCLE, *S[1:], 0x24 << 56, 0, 0x35 << 56), words(*S, R, C)]
+    reasons = [re.search('<p class="why">(.+)</p>', reported(data, 1).source)[1] for data in lists]
+    same(len(set(reasons)), 9)
+
+
+@test
+def report_of_a_file_with_an_odd_name():
+    page = reported(words(N), 0, "<b>&'\"\n\033[1m.rdp")
+    assert "<h1>&#60;b&#62;&#38;&#39;&#34;??[1m.rdp</h1>" in page.source, page.source
+
+
+@test
+def report_of_standard_input_and_to_standard_output():
+    status, out, err = run("report", "-", "-o", "-", stdin=words(*S, R, C))
+    same((status, err), (1, ""))
+    assert "<h1>standard input</h1>" in Page(out).source
+
+
+@test
+def report_shows_hazards_along_the_list():
+    page = reported(words(*S, R, N, L, C), 1)
+    strips = re.findall(r'<svg viewBox="0 0 (\d+) 72".*?>(.*?)</svg>', page.source, re.S)
+    bars = [re.findall(r'<rect class="h-(\w+)" x="(\d+)" y="\d+" width="(\d+)"', strip) for _, strip in strips]
+    same([columns for columns, _ in strips], ["7", "8"])
+    # before words 4 and 5 pipe and draw; from word 6 on unknown; the refused command is word 5
+    same(bars[0], [("unknown", "6", "1"), ("pipe", "4", "2"), ("draw", "4", "2"), ("refused", "5", "1")])
+    # repaired: S R N Pipe L C
+    same(bars[1], [("pipe", "4", "2"), ("draw", "4", "2"), ("load", "7", "1")])
+    assert "pipe: before the commands at words 4 to 5" in page.text
