@@ -133,7 +133,7 @@ typedef struct {
 typedef struct {
     const char *name;
     int (*run)(const Arguments *arguments);
-    const char *letters; /* of its options; --memory is m, --start s and --image i */
+    const char *letters; /* the first letters of its options, but for --help, which all have */
     int least, most;     /* lists that it takes */
 } Entry;
 

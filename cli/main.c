@@ -6,8 +6,8 @@
 #include <string.h>
 
 static const Entry entries[] = {
-    { "check", run_check, "hq", 0, INT_MAX }, { "repair", run_repair, "ho", 1, 1 }, { "dump", run_dump, "h", 0, 1 },
-    { "draw", run_draw, "homsi", 1, 1 }, { "report", run_report, "ho", 1, 1 }
+    { "check", run_check, "q", 0, INT_MAX }, { "repair", run_repair, "o", 1, 1 }, { "dump", run_dump, "", 0, 1 },
+    { "draw", run_draw, "omsi", 1, 1 }, { "report", run_report, "o", 1, 1 }
 };
 
 /* The version is major, minor and patch number, eight bits each. */

@@ -103,25 +103,35 @@ static bool take_option(Arguments *arguments, int option)
     }
 }
 
+/* The options of all commands. */
+static const struct option options[] = {
+    { "help", no_argument, NULL, 'h' }, { "quiet", no_argument, NULL, 'q' }, { "output", required_argument, NULL, 'o' },
+    { "memory", required_argument, NULL, 'm' }, { "start", required_argument, NULL, 's' }, { "image", required_argument, NULL, 'i' }, { 0 }
+};
+
+/* An option that another command has; getopt complains of the others. */
+static void refuse_option(const char *command, int option)
+{
+    for (const struct option *each = options; each->name != NULL; each++)
+        if (each->val == option)
+            complain("%s has no option --%s", command, each->name);
+}
+
 /* Reads the arguments of a command and runs it; argv[0] is its name. */
 int run_entry(const Entry *entry, int argc, char **argv)
 {
-    static const struct option options[] = {
-        { "help", no_argument, NULL, 'h' }, { "quiet", no_argument, NULL, 'q' }, { "output", required_argument, NULL, 'o' },
-        { "memory", required_argument, NULL, 'm' }, { "start", required_argument, NULL, 's' }, { "image", required_argument, NULL, 'i' }, { 0 }
-    };
     static char program[] = "lanyardrove";
     Arguments arguments = { .command = entry->name };
     int option;
     argv[0] = program; /* the name in getopt's messages */
     while ((option = getopt_long(argc, argv, "hqo:", options, NULL)) != -1) {
-        bool known = strchr(entry->letters, option) != NULL;
-        if (known && option == 'h') {
+        if (option == 'h') {
             print_help(stdout, entry->name);
             return STATUS_ACCEPTED;
         }
-        if (!known && option != '?')
-            complain("%s takes no such option: %s", entry->name, argv[optind - 1]);
+        bool known = strchr(entry->letters, option) != NULL;
+        if (!known)
+            refuse_option(entry->name, option);
         if (!known || !take_option(&arguments, option))
             return usage_error(entry->name);
     }

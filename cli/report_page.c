@@ -38,7 +38,7 @@ static void add_verdict(Text *text, const Report *report)
     if (!accepted)
         text_add(text, "<p class=\"why\">%s</p>\n", reason_of(report->answer.number));
     if (report->rows.refused < report->rows.count)
-        text_add(text, "<p><a href=\"#refused\">Show the command</a></p>\n");
+        text_add(text, "<p class=\"show\"><a href=\"#refused\">Show the command</a></p>\n");
     text_add(text, "</section>\n<dl class=\"facts\"><div><dt>number place</dt><dd><code>%u %u</code></dd></div>"
                    "<div><dt>bytes</dt><dd>%s%zu</dd></div><div><dt>commands</dt><dd>%zu</dd></div></dl>\n",
              report->answer.number, (unsigned)report->answer.place, report->list.cut ? "over " : "", report->list.length, report->rows.count);

@@ -46,11 +46,11 @@ static const char table[] =
     ".place{text-align:right;font-variant-numeric:tabular-nums}.name{white-space:nowrap;font-weight:600}\n"
     ".field{display:inline-block;margin-right:.9rem;color:var(--soft)}.field b{color:var(--ink);font-weight:600}\n"
     "tr.refused td{background:var(--bad-soft)}tr.refused td:first-child{box-shadow:inset .4rem 0 var(--bad)}\n"
-    ".reason{color:var(--bad);font-weight:700}tr.inserted td{background:var(--good-soft);color:var(--good)}\n";
+    "#refused{scroll-margin-top:7rem}.reason{color:var(--bad);font-weight:700}tr.inserted td{background:var(--good-soft);color:var(--good)}\n";
 
 /* In a narrow window each command is a block. */
 static const char narrow[] =
-    "@media (max-width:48rem){body{padding:1rem .8rem 3rem}thead{display:none}table,tbody{display:block}\n"
+    "@media screen and (max-width:48rem){body{padding:1rem .8rem 3rem}thead{display:none}table,tbody{display:block}\n"
     "tr{display:grid;grid-template-columns:3.4rem 1fr;border-bottom:1px solid var(--line);padding:.4rem 0}\n"
     "td{border:0;padding:.1rem .5rem;grid-column:2;min-width:0;overflow-wrap:anywhere}.place{grid-column:1;grid-row:1}.name{grid-row:1}\n"
     "td:empty{display:none}.hazards::before{content:\"hazards before: \";color:var(--soft)}\n"
@@ -58,8 +58,8 @@ static const char narrow[] =
     "tr.refused td,tr.inserted td{background:none}tr.refused td:first-child{box-shadow:none}}\n";
 
 static const char print[] =
-    "@media print{body{max-width:none;padding:0;font-size:10pt}a{color:inherit;text-decoration:none}h2{break-after:avoid}\n"
-    "tr,.strip,.picture,.verdict{break-inside:avoid}th{position:static}*{print-color-adjust:exact;-webkit-print-color-adjust:exact}}\n";
+    "@media print{html{font-size:11px}body{font-size:1rem;max-width:none;padding:0}.show{display:none}h2{break-after:avoid}\n"
+    "tr,.strip,.beside,.verdict{break-inside:avoid}th{position:static}*{print-color-adjust:exact;-webkit-print-color-adjust:exact}}\n";
 
 void style_add(Text *text)
 {

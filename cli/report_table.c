@@ -59,7 +59,7 @@ static void add_row(Text *text, const Report *report, size_t row)
 
 static void add_insertion(Text *text, const Insertion *insertion)
 {
-    text_add(text, "<tr class=\"inserted\"><td></td><td></td><td class=\"name\">+ %s</td><td colspan=\"2\">inserted by the repair</td></tr>\n",
+    text_add(text, "<tr class=\"inserted\"><td></td><td></td><td class=\"name\">+ %s</td><td colspan=\"2\">a repair would insert this</td></tr>\n",
              command_name(insertion->number));
 }
 
