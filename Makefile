@@ -17,6 +17,7 @@ TEST = tests/c/test_boundary.c
 all: cli-png $(ARCHIVE) cli
 
 $(ARCHIVE): $(SOURCES)
+	@command -v rt > /dev/null || { echo 'The library is proved and built by the Rattle toolchain, whose command rt is not at hand' >&2; exit 1; }
 	rt staticlib lanyardrove
 	mkdir -p build
 	cp target/staticlib/liblanyardrove.a $@

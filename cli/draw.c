@@ -5,6 +5,8 @@
 #include <stdlib.h>
 #include <string.h>
 
+#define TEXT_ROOM 128 /* bytes that what is said of a picture or of memory fits in */
+
 typedef enum { AS_BIN, AS_PNG, AS_PPM, AS_UNKNOWN } Form;
 
 /* What is written, by the ending of its name. */
@@ -33,11 +35,16 @@ static bool write_picture(const char *output, const Image *image, const Memory *
     return done;
 }
 
+static void memory_text(const Memory *memory, char *text, size_t room)
+{
+    snprintf(text, room, "%zu bytes of memory from address 0x%" PRIX64, memory->length, memory->start);
+}
+
 /* Writes the picture or its bytes; all of memory where `image` is NULL. `text` says what was written. */
 static bool write_drawn(const char *output, const Image *image, const Memory *memory, char *text, size_t room)
 {
     if (image == NULL) {
-        snprintf(text, room, "%zu bytes of memory from address 0x%" PRIX64, memory->length, memory->start);
+        memory_text(memory, text, room);
         return file_write(output, memory->bytes, memory->length);
     }
     image_text(image, text, room);
@@ -50,25 +57,35 @@ static bool write_drawn(const char *output, const Image *image, const Memory *me
     return write_picture(output, image, memory);
 }
 
+static int refuse(const List *list, Answer answer, const Memory *memory)
+{
+    char text[TEXT_ROOM];
+    print_answer(stdout, list, answer, FOR_DRAW);
+    if (answer.number == LANYARDROVE_OUTSIDE_MEMORY) {
+        memory_text(memory, text, sizeof text);
+        printf("--memory and --start give %s\n", text);
+    }
+    return STATUS_REFUSED;
+}
+
 /* Draws, and writes what was asked for; nothing where the list is refused. */
 static int draw_list(const Arguments *arguments, const List *list, const Memory *memory)
 {
     Answer answer = answer_of(lanyardrove_draw(list->bytes, list->length, memory->bytes, memory->length, memory->start));
     bool memory_alone = !arguments->has_image && form_of(arguments->output) == AS_BIN;
     Image image = arguments->image;
-    char written[128] = "";
-    if (is_accepted(answer)) {
-        if (!memory_alone && !arguments->has_image && !image_of_list(list, &image)) {
-            complain("the list draws no picture: give --image ADDRESS,WIDTH,HEIGHT,SIZE");
-            return STATUS_ERROR;
-        }
-        if (!write_drawn(arguments->output, memory_alone ? NULL : &image, memory, written, sizeof written))
-            return STATUS_ERROR;
+    char written[TEXT_ROOM];
+    if (!is_accepted(answer))
+        return refuse(list, answer, memory);
+    if (!memory_alone && !arguments->has_image && !image_of_list(list, &image)) {
+        complain("the list draws no picture: give --image ADDRESS,WIDTH,HEIGHT,SIZE");
+        return STATUS_ERROR;
     }
+    if (!write_drawn(arguments->output, memory_alone ? NULL : &image, memory, written, sizeof written))
+        return STATUS_ERROR;
     print_answer(stdout, list, answer, FOR_DRAW);
-    if (is_accepted(answer))
-        printf("%s: %s\n", arguments->output, written);
-    return status_of(answer);
+    printf("%s: %s\n", arguments->output, written);
+    return STATUS_ACCEPTED;
 }
 
 static int draw_file(const Arguments *arguments)
