@@ -122,10 +122,10 @@ def report_of_standard_input_and_to_standard_output():
 def report_shows_hazards_along_the_list():
     page = reported(words(*S, R, N, L, C), 1)
     strips = re.findall(r'<svg viewBox="0 0 (\d+) 72".*?>(.*?)</svg>', page.source, re.S)
-    bars = [re.findall(r'<rect class="h-(\w+)" x="(\d+)" y="\d+" width="(\d+)"', strip) for _, strip in strips]
+    bars = [re.findall(r'<rect class="h-(\w+)" x="(\d+)" y="(\d+)" width="(\d+)" height="(\d+)"', strip) for _, strip in strips]
     same([columns for columns, _ in strips], ["7", "8"])
-    # before words 4 and 5 pipe and draw; from word 6 on unknown; the refused command is word 5
-    same(bars[0], [("unknown", "6", "1"), ("pipe", "4", "2"), ("draw", "4", "2"), ("refused", "5", "1")])
+    # before words 4 and 5 pipe and draw; from word 6 on unknown, on all four lines; the refused command is word 5
+    same(bars[0], [("unknown", "6", "0", "1", "72"), ("pipe", "4", "2", "2", "14"), ("draw", "4", "38", "2", "14"), ("refused", "5", "0", "1", "72")])
     # repaired: S R N Pipe L C
-    same(bars[1], [("pipe", "4", "2"), ("draw", "4", "2"), ("load", "7", "1")])
+    same(bars[1], [("pipe", "4", "2", "2", "14"), ("draw", "4", "38", "2", "14"), ("load", "7", "56", "1", "14")])
     assert "pipe: before the commands at words 4 to 5" in page.text
