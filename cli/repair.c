@@ -11,8 +11,8 @@ static void print_insertions(FILE *stream, const List *list, const Repaired *rep
         const Insertion *insertion = &repaired->inserted[i];
         fprintf(stream, "%s before word %zu, %s\n", command_name(insertion->number), insertion->place, name_at(list, insertion->place));
     }
-    fprintf(stream, "%zu inserted, %u cycles, %u words in all\n", repaired->count, (unsigned)repaired->answer.third,
-            (unsigned)repaired->answer.place);
+    fprintf(stream, "%zu %s inserted, %u cycles, %u words in all\n", repaired->count, repaired->count == 1 ? "sync" : "syncs",
+            (unsigned)repaired->answer.third, (unsigned)repaired->answer.place);
 }
 
 /* The text goes where the list does not. */

@@ -12,12 +12,12 @@ from support import C, L, LOAD, N, ONE_CYCLE, PIPE, R, S, TILE, TOOL, example, f
 @test
 def repair_inserts_the_least_syncs():
     for name, text, expected in (
-            ("j.rdp", "Sync Pipe before word 4, Load Tile\n1 inserted, 50 cycles, 7 words in all\n", [*S, R, PIPE, L, C]),
-            ("k.rdp", "Sync Load before word 4, Load Tile\nSync Load before word 5, Fill Rectangle\n2 inserted, 50 cycles, 8 words in all\n",
+            ("j.rdp", "Sync Pipe before word 4, Load Tile\n1 sync inserted, 50 cycles, 7 words in all\n", [*S, R, PIPE, L, C]),
+            ("k.rdp", "Sync Load before word 4, Load Tile\nSync Load before word 5, Fill Rectangle\n2 syncs inserted, 50 cycles, 8 words in all\n",
              [*S, R, LOAD, L, LOAD, R]),
-            ("m.rdp", "Sync Pipe before word 5, Set Fill Color\n1 inserted, 50 cycles, 7 words in all\n", [*S, R, N, PIPE, C]),
-            ("i.rdp", "0 inserted, 0 cycles, 5 words in all\n", [*S, C, R]),
-            ("a.rdp", "0 inserted, 0 cycles, 0 words in all\n", [])):
+            ("m.rdp", "Sync Pipe before word 5, Set Fill Color\n1 sync inserted, 50 cycles, 7 words in all\n", [*S, R, N, PIPE, C]),
+            ("i.rdp", "0 syncs inserted, 0 cycles, 5 words in all\n", [*S, C, R]),
+            ("a.rdp", "0 syncs inserted, 0 cycles, 0 words in all\n", [])):
         same(run("repair", example(name), "-o", "out.rdp"), (0, text, ""), name)
         same(read("out.rdp"), words(*expected), name)
         same(run("check", "-q", "out.rdp")[0], 0, name)
@@ -44,7 +44,7 @@ def repair_says_what_it_wrote():
             expected += [kinds[before[place]][0]] if place in before else []
             expected.append(word)
         same(read("out.rdp"), words(*expected))
-        same(out.split("\n")[-2], f"{len(told)} inserted, {sum(kinds[k][1] for k, _, _ in told)} cycles, {len(expected)} words in all")
+        same(out.split("\n")[-2], f"{len(told)} {'sync' if len(told) == 1 else 'syncs'} inserted, {sum(kinds[k][1] for k, _, _ in told)} cycles, {len(expected)} words in all")
         same([NAMES[given[int(place)] >> 56] for _, place, _ in told], [name for _, _, name in told])
         same(run("check", "-q", "out.rdp")[0], 0)
     write("in.rdp", words(*S, R, TILE, C))
@@ -56,7 +56,7 @@ def repair_to_standard_output():
     for output in ([], ["-o", "-"]):
         done = subprocess.run([TOOL, "repair", "-", *output], input=words(*S, R, L, C), capture_output=True)
         same((done.returncode, done.stdout), (0, words(*S, R, PIPE, L, C)))
-        same(done.stderr, b"Sync Pipe before word 4, Load Tile\n1 inserted, 50 cycles, 7 words in all\n")
+        same(done.stderr, b"Sync Pipe before word 4, Load Tile\n1 sync inserted, 50 cycles, 7 words in all\n")
     same(run("repair", example("f.rdp")), (1, "", "4 1\nword 1: No Operation stands after Sync Full\n"))
 
 
@@ -83,12 +83,12 @@ def repair_writes_nothing_at_a_refusal():
     same((status, out), (1, "1 2048\nthe list is over 16,384 bytes\n"))
     same(files(), ["kept.rdp", "long.rdp"])
     write("longest.rdp", bytes(16384))
-    same(run("repair", "longest.rdp", "-o", "new.rdp")[:2], (0, "0 inserted, 0 cycles, 2048 words in all\n"))
+    same(run("repair", "longest.rdp", "-o", "new.rdp")[:2], (0, "0 syncs inserted, 0 cycles, 2048 words in all\n"))
 
 
 @test
 def repair_of_the_list_with_most_syncs():
     write("in.rdp", words(*S, *[R, L] * 1022, R))
     status, out, err = run("repair", "in.rdp", "-o", "out.rdp")
-    same((status, out.split("\n")[-2]), (0, f"2044 inserted, {2044 * 25} cycles, {2048 + 2044} words in all"))
+    same((status, out.split("\n")[-2]), (0, f"2044 syncs inserted, {2044 * 25} cycles, {2048 + 2044} words in all"))
     same(run("check", "-q", "out.rdp")[1], f"0 {2048 + 2044}\n")
