@@ -6,7 +6,7 @@
 #include <stdlib.h>
 #include <unistd.h>
 
-#define WIDTH 100 /* columns of the field lines */
+#define WIDTH 80 /* columns of the field lines */
 
 typedef struct {
     bool colour;

@@ -36,6 +36,7 @@ def dump_shows_names_fields_and_hazards():
                                   [2, "2D00000000020010", "Set Scissor", "none"], [3, "3600800800004004", "Fill Rectangle", "none"],
                                   [4, "37000000F801003F", "Set Fill Color", "pipe draw"]])
     same(len(found[0][4]), 37)
+    assert max(map(len, dumped(words(*S, R, C)).split("\n"))) <= 80
     same(found[0][4]["cycle_type"], "3 (FILL)")
     same(found[1][4], {"format": "0 (RGBA)", "size": "2 (16 bits)", "width": "7 (8 pixels)", "dramAddress": "0x0"})
     same(found[3][4], {"lower_right.x": "8 (2.00)", "lower_right.y": "8 (2.00)", "upper_left.x": "4 (1.00)", "upper_left.y": "4 (1.00)"})

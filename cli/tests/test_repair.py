@@ -44,7 +44,8 @@ def repair_says_what_it_wrote():
             expected += [kinds[before[place]][0]] if place in before else []
             expected.append(word)
         same(read("out.rdp"), words(*expected))
-        same(out.split("\n")[-2], f"{len(told)} {'sync' if len(told) == 1 else 'syncs'} inserted, {sum(kinds[k][1] for k, _, _ in told)} cycles, {len(expected)} words in all")
+        assert len(told) > 1
+        same(out.split("\n")[-2], f"{len(told)} syncs inserted, {sum(kinds[k][1] for k, _, _ in told)} cycles, {len(expected)} words in all")
         same([NAMES[given[int(place)] >> 56] for _, place, _ in told], [name for _, _, name in told])
         same(run("check", "-q", "out.rdp")[0], 0)
     write("in.rdp", words(*S, R, TILE, C))
