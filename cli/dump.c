@@ -51,9 +51,10 @@ static void print_further_words(const Dump *dump, const Command *command)
 {
     size_t left = dump->list->length / 8 - command->place;
     for (size_t i = 1; i < command->words && i < left; i++) {
-        bool suffix = command->words >= 4 && i >= 4;
         printf("%6zu  %016" PRIX64, command->place + i, word_at(dump->list->bytes, command->place + i));
-        printf(suffix ? "    %s\n" : "\n", suffix ? suffix_name(command, i - 4) : "");
+        if (i >= 4)
+            printf("    %s", suffix_name(command, i - 4));
+        putchar('\n');
     }
 }
 

@@ -79,7 +79,8 @@ def help_and_version():
 
 @test
 def output_that_cannot_be_written_is_an_error():
-    for command in (["check", example("i.rdp")], ["dump", example("i.rdp")], ["dump", example("sunset.rdp")], ["repair", example("i.rdp")], ["--version"], ["check", "--help"]):
+    for command in (["check", example("i.rdp")], ["dump", example("i.rdp")], ["dump", example("sunset.rdp")], ["repair", example("i.rdp")],
+                    ["--version"], ["check", "--help"]):
         with open("/dev/full", "wb") as full:
             done = subprocess.run([TOOL, *command], stdout=full, stderr=subprocess.PIPE)
         same(done.returncode, 2, command)
