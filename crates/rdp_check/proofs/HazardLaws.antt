@@ -7,6 +7,7 @@ use native.Mathlib.Nat.{mod-lt}
 use native.Mathlib.Omega.{arith}
 use borrow.Author.Tests.{le-leb, lt-leb, eqb-true}
 use lib.Dec.{T, eqb, leb, eqb→eq, leb→le, lit<}
+use lib.Bits.{bitAnd, bitOr}
 use lib.ListN.{length}
 use Rattle.rdp_command.specs.Kinds.{kindOf}
 use Rattle.rdp_command.proofs.Tests.{each, below}
@@ -65,6 +66,11 @@ pub required-most : (m n : ℕ) → n < 64 → requiredOf m n ≤ 3
 unfolding requiredOf kindOf
 required-most m n h =
     rw (← required-low m n) (leb→le _ _ (at-state (λ j k. leb (requiredOf j k) 3) tt (m % 16) n (mod-lt m (lit< tt)) h))
+
+-- the hazards after a command are those before it that the entry at all hazards keeps, with those that the entry at none is
+pub next-kept : (m n : ℕ) → m < 16 → n < 64 → bitOr (bitAnd m (entryOf 15 n)) (entryOf 0 n) ≡ nextOf m n
+unfolding entryOf nextOf requiredOf kindOf
+next-kept m n hm hn = eqb→eq _ _ (at-state (λ j k. eqb (bitOr (bitAnd j (entryOf 15 k)) (entryOf 0 k)) (nextOf j k)) tt m n hm hn)
 
 -- ---- the parts of an entry
 

@@ -2,7 +2,7 @@
 use mathlib.Core.Path.{_≡_, refl, sym, _∙_, ap}
 use mathlib.Core.Bool.{Bool, true, false, cond, not, _&&_, false≢true}
 use mathlib.Core.List.{List, [], _∷_}
-use Prim.Native.Nat.{ℕ, zero, suc, _+_, _*_, _-_, _/_, _%_, _≤_, _<_}
+use Prim.Native.Nat.{ℕ, zero, suc, _+_, _*_, _-_, _/_, _≤_, _<_}
 use native.Mathlib.Nat.{mod-eq-of-lt}
 use native.Mathlib.Omega.{arith}
 use borrow.Author.Tests.{ltb-true}
@@ -12,18 +12,17 @@ use lib.Seq.{drop-cons}
 use Rattle.rdp_command.specs.Words.{wordAt, numberIn}
 use Rattle.rdp_command.specs.Kinds.{wordsOf}
 use Rattle.rdp_command.specs.Decode.{firstNumber, headOf}
-use Rattle.rdp_check.specs.Hazards.{requiredOf, entryOf}
+use Rattle.rdp_check.specs.Hazards.{nextOf, requiredOf, entryOf}
 use Rattle.rdp_check.specs.Commands.{commandsFrom, restFrom, commandsOf, restOf}
 use Rattle.rdp_check.specs.Check.{State, start, afterCommand, refusalAt, Outcome, outcome, settle, judge, judgeList, checked}
-use Rattle.rdp_check.specs.View.{viewOf, Sound, viewAfter, refusalWith, viewRefusal, quiet}
-use Rattle.rdp_check.specs.declared.Checked.{Checked}
+use Rattle.rdp_check.specs.View.{viewOf, viewAfter, refusalWith, viewRefusal, bitAt, Watches, answerAt}
 use Rattle.rdp_command.specs.declared.Head.{Head}
 use Rattle.rdp_check.specs.declared.walk.Rest.{Rest}
 use Rattle.rdp_check.specs.declared.walk.View.{View}
-use Rattle.rdp_check.proofs.HazardLaws.{next-small, entry-parts}
+use Rattle.rdp_check.proofs.HazardLaws.{next-small, EntryParts, entry-parts}
 use Rattle.rdp_command.proofs.PlaceLaws.{number-small, some-words}
 use Rattle.rdp_check.proofs.ListLaws.{commandAt, commands-at, rest-at, command-word, command-number, command-there, commands-past, rest-past}
-use Rattle.rdp_check.proofs.ViewLaws.{quiet-is, quiet-after, refusal-seen, seen-sound, view-after}
+use Rattle.rdp_check.proofs.ViewLaws.{longBits, one-word, Unwatched, unwatched, rest-kept, refusal-seen, view-after}
 
 -- the judgement of bytes from a place on
 abbrev pub judged : Bool → State → ℕ → List ℕ → Outcome
@@ -43,19 +42,25 @@ pub record Walked (strict : Bool) (list : List ℕ) (words : ℕ) (v : View) (at
   pub within : at ≤ words
   pub same : judged strict state at (drop (8 * at) list) ≡ judgeList strict list
 
-abbrev pub answer : ℕ → ℕ → View → Checked
-answer number place v = record { number = number; place = place; hazards = v .hazards }
-
 -- the hazards of the view are those of the state
-pub shown : (number place : ℕ) (v : View) (s : State) → v ≡ viewOf s → answer number place v ≡ checked (outcome number place s)
+pub shown : (number place : ℕ) (v : View) (s : State) → v ≡ viewOf s → answerAt number place (v .hazards) ≡ checked (outcome number place s)
 unfolding viewOf
-shown number place v s e = ap (answer number place) e
+shown number place v s e = ap (λ (x : View). answerAt number place (x .hazards)) e
 
 pub first :
     (strict : Bool) (list : List ℕ) (words : ℕ) (r : Rest) → r ≡ viewOf start .rest → length list ≡ 8 * words → words ≤ 4096 →
     Walked strict list words (record { hazards = 0; rest = r }) 0
 unfolding viewOf
 first strict list words r e whole few = record { state = start; view = λ i. record { hazards = 0; rest = e i }; low = omega arith; whole = whole; few = few; within = omega arith; same = refl }
+
+no-required : (b : Bool) → _≡_ {A = ℕ} (cond b 0 0) 0
+no-required true = refl
+no-required false = refl
+
+and-not : (a b : Bool) → a && not b ≡ true → (a ≡ true) × (b ≡ false)
+and-not true false e = (refl, refl)
+and-not true true e = absurd (false≢true e)
+and-not false b e = absurd (false≢true e)
 
 div-of-lt : (e : ℕ) → e < 32 → e / 32 ≡ 0
 div-of-lt e h = omega arith
@@ -70,10 +75,11 @@ settled zero at s next ne = absurd (ne refl)
 settled (suc g) at s next ne = refl
 
 module _ {strict : Bool} {list : List ℕ} {words : ℕ} {v : View} {at : ℕ} (w : Walked strict list words v at) where
-  pub sound : Sound v
-  sound = rw (w .view) (seen-sound (w .state) (w .low))
+  pub hazards-low : v .hazards < 16
+  unfolding viewOf
+  hazards-low = rw (w .view) (w .low)
 
-  pub ended : words ≤ at → answer 0 words v ≡ checked (judgeList strict list)
+  pub ended : words ≤ at → answerAt 0 words (v .hazards) ≡ checked (judgeList strict list)
   ended h =
       let e : at ≡ words = omega arith in
       let le : length list ≤ 8 * at = omega arith in
@@ -86,7 +92,7 @@ module _ {strict : Bool} {list : List ℕ} {words : ℕ} {v : View} {at : ℕ} (
     abbrev s : State
     s = w .state
 
-    pub past : words - at < count → answer 3 at v ≡ checked (judgeList strict list)
+    pub past : words - at < count → answerAt 3 at (v .hazards) ≡ checked (judgeList strict list)
     unfolding judge
     past h =
         let short : length list / 8 < at + wordsOf n = omega arith in
@@ -118,7 +124,7 @@ module _ {strict : Bool} {list : List ℕ} {words : ℕ} {v : View} {at : ℕ} (
           ap (viewRefusal strict (viewOf s)) (sym (command-number list at n is inside)) ∙
           refusal-seen strict s c
 
-      pub refused : (g : ℕ) → g ≡ viewRefusal strict v n → (g ≡ 0 → ⊥) → answer g at v ≡ checked (judgeList strict list)
+      pub refused : (g : ℕ) → g ≡ viewRefusal strict v n → (g ≡ 0 → ⊥) → answerAt g at (v .hazards) ≡ checked (judgeList strict list)
       refused g e ne =
           shown g at v s (w .view) ∙
           ap checked (settled g at s onward ne ∙ ap (λ (x : ℕ). settle x at s onward) (e ∙ refusal-is) ∙ sym step ∙ w .same)
@@ -139,34 +145,53 @@ module _ {strict : Bool} {list : List ℕ} {words : ℕ} {v : View} {at : ℕ} (
             same = ap (λ (x : ℕ). settle x at s onward) (sym zero-is) ∙ sym step ∙ w .same;
           }
 
-  -- a turn at a quiet command that misses no sync, whose entry in the table is e
-  quick-test : (a b d : Bool) → (a && b) && not d ≡ true → (a ≡ true) × ((b ≡ true) × (d ≡ false))
-  quick-test true true false e = (refl, (refl, refl))
-  quick-test true true true e = absurd (false≢true e)
-  quick-test true false d e = absurd (false≢true e)
-  quick-test false b d e = absurd (false≢true e)
+-- a turn at a command that is not watched and whose entry e in the table says that it misses no sync
+pub record Quick {strict : Bool} {list : List ℕ} {words : ℕ} {v : View} {at : ℕ} (w : Walked strict list words v at) (h : Head) (e : ℕ) : Type 0 where
+  pub more : at < words
+  pub is-h : h ≡ headOf (wordAt list at)
+  pub is-e : e ≡ entryOf (v .hazards) (h .number)
+  pub low : e < 16
+  pub still : Unwatched (v .rest) (h .number)
 
-  no-required : (b : Bool) → _≡_ {A = ℕ} (cond b 0 0) 0
-  no-required true = refl
-  no-required false = refl
+number-is : (h : Head) (w : ℕ) → h ≡ headOf w → h .number ≡ numberIn w
+number-is h w is-h = ap (λ (x : Head). x .number) is-h
 
-  module _ (more : at < words) (e : ℕ) (is-e : e ≡ entryOf (v .hazards) (numberIn (wordAt list at))) where
-    abbrev h : Head
-    h = headOf (wordAt list at)
+small : (h : Head) (w : ℕ) → h ≡ headOf w → h .number < 64
+small h w is-h = rw (number-is h w is-h) (number-small w)
 
-    small : h .number < 64
-    small = number-small (wordAt list at)
+module _ {strict : Bool} {list : List ℕ} {words : ℕ} {v : View} {at : ℕ} where
+  pub turn :
+      (w : Walked strict list words v at) (numbers : ℕ) → Watches numbers (v .rest) → at < words → (h : Head) → h ≡ headOf (wordAt list at) → (e : ℕ) →
+      e ≡ entryOf (v .hazards) (h .number) → (b : Bool) → b ≡ bitAt numbers (h .number) → ltb e 16 && not b ≡ true → Quick w h e
+  turn w numbers watches more h is-h e is-e b is-b t =
+      let k = and-not (ltb e 16) b t in
+      record {
+        more = more;
+        is-h = is-h;
+        is-e = is-e;
+        low = ltb-true e 16 (k .0);
+        still = unwatched (v .rest) (h .number) (sym (watches (h .number) (small h _ is-h)) ∙ sym is-b ∙ k .1);
+      }
 
-    pub quick : (a : Bool) → a ≡ quiet (h .number) → (a && ltb e 16) && not (v .rest .ended) ≡ true → Walked strict list words (record { hazards = e; rest = v .rest }) (at + 1)
+  module _ {w : Walked strict list words v at} {h : Head} {e : ℕ} (q : Quick w h e) where
+    parts : EntryParts (v .hazards) (h .number) e
+    parts = entry-parts (v .hazards) (h .number) e (small h _ (q .is-h)) (q .is-e)
+
+    unrefused : 0 ≡ viewRefusal strict v (h .number)
     unfolding refusalWith
-    quick a is-a t =
-        let k = quick-test a (ltb e 16) (v .rest .ended) t in
-        let low : e < 16 = ltb-true e 16 (k .1 .0) in
-        let p = entry-parts (v .hazards) (h .number) e small is-e in
-        let none : requiredOf (v .hazards) (h .number) ≡ 0 = sym (p .required) ∙ div-of-lt e (omega arith) in
-        let silent = quiet-is (h .number) small (sym is-a ∙ k .0) in
-        let still : 0 ≡ viewRefusal strict v (h .number) = rw (k .1 .1, silent .drawless, none, no-required strict) in
-        let stays : e % 16 ≡ e = mod-eq-of-lt low in
-        let on = quiet-after strict v h sound small e is-e (cond strict (e / 32) 0) refl (sym is-a ∙ k .0) in
-        again more (h .number) refl 1 (sym (silent .single)) (omega arith) 0 still refl (record { hazards = e; rest = v .rest })
-        ((λ i. record { hazards = sym stays i; rest = v .rest }) ∙ on)
+    unrefused =
+        let none : requiredOf (v .hazards) (h .number) ≡ 0 = sym (parts .required) ∙ div-of-lt e (omega (arith, q .low)) in
+        rw (q .still .before-end, q .still .drawable, none, no-required strict)
+
+    -- the hazards stay where the entry is no other
+    pub stays : e ≡ v .hazards → v .hazards ≡ nextOf (v .hazards) (h .number)
+    stays same = sym same ∙ sym (mod-eq-of-lt (q .low)) ∙ parts .next
+
+    module _ {next : ℕ} (is-next : next ≡ nextOf (v .hazards) (h .number)) where
+      pub quick : (count : ℕ) → count ≡ wordsOf (h .number) → count ≤ words - at → Walked strict list words (record { hazards = next; rest = v .rest }) (at + count)
+      quick count long fits =
+          again w (q .more) (h .number) (number-is h _ (q .is-h)) count long fits 0 unrefused refl _
+          ((λ i. record { hazards = is-next i; rest = rest-kept (v .rest) h (q .still .keeps) i }) ∙ ap (viewAfter v) (q .is-h))
+
+      pub quick-one : (l : Bool) → l ≡ bitAt longBits (h .number) → not l ≡ true → Walked strict list words (record { hazards = next; rest = v .rest }) (at + 1)
+      quick-one l is-l f = quick 1 (one-word (h .number) (small h _ (q .is-h)) (ap not (sym is-l) ∙ f)) (omega (arith, q .more))

@@ -1,5 +1,5 @@
 -- What the check's loop carries and reads, as a view of the state and of a command. No public contract cites this.
-use Prim.Native.Nat.{ℕ, zero, suc, _+_, _<_}
+use Prim.Native.Nat.{ℕ, zero, suc, _+_, _/_, _%_, _^_, _<_}
 use mathlib.Core.Bool.{Bool, true, false, cond, not, _&&_, _||_}
 use mathlib.Core.List.{List, [], _∷_}
 use mathlib.Core.Path.{_≡_}
@@ -11,6 +11,8 @@ use Rattle.rdp_check.specs.Hazards.{nextOf, requiredOf}
 use Rattle.rdp_check.specs.Check.{State, draws, missing}
 use Rattle.rdp_check.specs.Registers.{afterDecoded}
 use Rattle.rdp_check.specs.declared.Registers.{Registers}
+use Rattle.rdp_check.specs.declared.Checked.{Checked}
+use Rattle.rdp_check.specs.declared.walk.Rest.{Rest}
 use Rattle.rdp_check.specs.declared.walk.View.{View}
 use Rattle.rdp_check.specs.declared.walk.Advanced.{Advanced}
 
@@ -25,12 +27,12 @@ abbrev pub drawRefusal : ℕ → ℕ → Bool → ℕ
 drawRefusal modes image scissor =
     cond (not ((not (eqb modes 0) && not (eqb image 0)) && scissor)) 5 (cond (eqb modes 2 && eqb image 2) 6 0)
 
--- what is carried: the hazards, whether a Sync Full has come, these three, and the refusal of a draw, which they give
+-- what is carried: the hazards, whether a Sync Full has come, and these three
 abbrev pub view : ℕ → Bool → ℕ → ℕ → Bool → View
 view hazards ended modes image scissor =
     record {
       hazards = hazards;
-      rest = record { ended = ended; draw = drawRefusal modes image scissor; modes = modes; image = image; scissor = scissor };
+      rest = record { ended = ended; modes = modes; image = image; scissor = scissor };
     }
 
 -- the view of a state
@@ -40,17 +42,19 @@ viewOf s =
     view (s .hazards) (s .ended) (code (r .modes .other .set) (eqb (r .modes .other .modes .«cycle_type») 3))
     (code (r .images .color .set) (eqb (r .images .color .image .size) 0)) (r .modes .scissor .set)
 
--- the hazards are below 16, and the refusal of a draw is the one that the other fields give
-pub record Sound (v : View) : Type 0 where
-  pub low : v .hazards < 16
-  pub drawn : v .rest .draw ≡ drawRefusal (v .rest .modes) (v .rest .image) (v .rest .scissor)
-
--- the view after a command
-unfoldable pub viewAfter : View → Head → View
-viewAfter v h =
+-- what is carried beside the hazards after a command, and the view after it
+unfoldable pub restAfter : Rest → Head → Rest
+restAfter r h =
     let n = h .number in
-    view (nextOf (v .hazards) n) (eqb n 0x29 || v .rest .ended) (cond (eqb n 0x2F) (code true (eqb (h .«cycle_type») 3)) (v .rest .modes))
-    (cond (eqb n 0x3F) (code true (eqb (h .«image_size») 0)) (v .rest .image)) (eqb n 0x2D || v .rest .scissor)
+    record {
+      ended = eqb n 0x29 || r .ended;
+      modes = cond (eqb n 0x2F) (code true (eqb (h .«cycle_type») 3)) (r .modes);
+      image = cond (eqb n 0x3F) (code true (eqb (h .«image_size») 0)) (r .image);
+      scissor = eqb n 0x2D || r .scissor;
+    }
+
+abbrev pub viewAfter : View → Head → View
+viewAfter v h = record { hazards = nextOf (v .hazards) (h .number); rest = restAfter (v .rest) h }
 
 -- of two refusals the first, where 0 is none
 abbrev pub orElse : ℕ → ℕ → ℕ
@@ -61,31 +65,36 @@ orElse (suc f) g = suc f
 unfoldable pub refusalWith : Bool → ℕ → ℕ → ℕ
 refusalWith ended draw required = cond ended 4 (orElse draw (missing required))
 
+-- the refusal of a draw by what is carried
+abbrev pub restRefusal : Rest → ℕ
+restRefusal r = drawRefusal (r .modes) (r .image) (r .scissor)
+
 abbrev pub viewRefusal : Bool → View → ℕ → ℕ
-viewRefusal strict v n = refusalWith (v .rest .ended) (cond (draws n) (v .rest .draw) 0) (cond strict (requiredOf (v .hazards) n) 0)
+viewRefusal strict v n = refusalWith (v .rest .ended) (cond (draws n) (restRefusal (v .rest)) 0) (cond strict (requiredOf (v .hazards) n) 0)
 
 -- a Sync Full, or a command that sets a register of which something is carried
 unfoldable pub sets : ℕ → Bool
 sets n = among n (0x29 ∷ 0x2D ∷ 0x2F ∷ 0x3F ∷ [])
 
--- any other command that is no draw: it has one word and changes nothing but the hazards
-unfoldable pub quiet : ℕ → Bool
-quiet n = not (draws n || sets n)
+-- a command that the walk has to look into: it changes more than the hazards, or something but a missing sync refuses it
+abbrev pub isWatched : Rest → ℕ → Bool
+isWatched r n = r .ended || (sets n || (draws n && not (eqb (restRefusal r) 0)))
 
--- a step that changes the hazards alone
-abbrev pub stepOn : View → ℕ → ℕ → ℕ → Advanced
-stepOn v next refusal words =
-    record {
-      refusal = refusal;
-      words = words;
-      view = record { hazards = next; rest = v .rest };
-    }
+-- command numbers as the bits of a number, and those of the commands that are watched
+abbrev pub bitAt : ℕ → ℕ → Bool
+bitAt numbers n = eqb (numbers / 2 ^ n % 2) 1
+
+abbrev pub Watches : ℕ → Rest → Type 0
+Watches numbers r = (n : ℕ) → n < 64 → bitAt numbers n ≡ isWatched r n
 
 -- what one step of the walk gives
 pub record AdvancedIs (strict : Bool) (v : View) (h : Head) (r : Advanced) : Type 0 where
   pub refusal : r .refusal ≡ viewRefusal strict v (h .number)
   pub words : r .words ≡ wordsOf (h .number)
   pub after : r .view ≡ viewAfter v h
+
+abbrev pub answerAt : ℕ → ℕ → ℕ → Checked
+answerAt number place hazards = record { number = number; place = place; hazards = hazards }
 
 -- the registers after the commands, from a place on, that begin before a place
 unfoldable pub registersUpTo : ℕ → ℕ → Registers → List (List ℕ) → Registers

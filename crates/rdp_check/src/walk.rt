@@ -5,19 +5,30 @@ ghost use Prim.Native.Nat.{_*_, _<_, _≤_};
 ghost use lib.ListN.{length};
 ghost use Rattle.rdp_command.specs.Words.{wordAt, numberIn};
 ghost use Rattle.rdp_command.specs.Kinds.{wordsOf};
-ghost use Rattle.rdp_check.specs.Hazards.{Agrees, nextOf, entryOf};
-ghost use Rattle.rdp_check.specs.Check.{start, judgeList, outcomeWithin, checked};
-ghost use Rattle.rdp_check.specs.View.{code, view, viewOf, Sound, viewAfter, refusalWith, sets, quiet, stepOn, AdvancedIs};
+ghost use Rattle.rdp_check.specs.Hazards.{Agrees, entryOf};
+ghost use Rattle.rdp_check.specs.Check.{start, draws, judgeList, outcomeWithin, checked};
+ghost use Rattle.rdp_check.specs.View.{code, viewOf, restAfter, restRefusal, refusalWith, bitAt, Watches, AdvancedIs, answerAt};
 use crate::Checked;
 use crate::hazards;
 use crate::table;
 use rdp_command::Head;
 
-// What few commands change of what the walk carries: whether a Sync Full has come; the refusal of a draw, or 0; and what gives it: modes (0 not set, 1
-// set, 2 set to FILL), colour image (0 not set, 1 set, 2 set to 4 bits) and scissor.
+// Command numbers, a bit for each: the commands that set what the walk carries beside the hazards (Sync Full, Set Scissor, Set Other Modes, Set Color
+// Image), the draws, both of these, all commands, and those of more than one word.
+const SETTERS: u64 = 0x8000_A200_0000_0000;
+
+const DRAWS: u64 = 0x0040_0030_0000_FF00;
+
+const SETTERS_AND_DRAWS: u64 = 0x8040_A230_0000_FF00;
+
+const ALL: u64 = 0xFFFF_FFFF_FFFF_FFFF;
+
+const LONG: u64 = 0x0000_0030_0000_FF00;
+
+// What few commands change of what the walk carries: whether a Sync Full has come; modes (0 not set, 1 set, 2 set to FILL); colour image (0 not set, 1
+// set, 2 set to 4 bits); and whether the scissor is set.
 pub struct Rest {
     pub ended: bool,
-    pub draw: u8,
     pub modes: u8,
     pub image: u8,
     pub scissor: bool,
@@ -44,19 +55,12 @@ pub fn words_at(list: &[u8], place: usize) -> usize
     rdp_command::words_of(head.number)
 }
 
-// Most commands: one bit of a constant says so, and leads the walk past the tests that the others need.
-fn is_quiet(number: u8) -> bool
+// Whether a command number is among those whose bits are set.
+fn has_bit(numbers: u64, number: u8) -> bool
     requires { ⌜ number < 64 ⌝ }
-    ensures { λ r. ⌜ r ≡ quiet number ⌝ }
+    ensures { λ r. ⌜ r ≡ bitAt numbers number ⌝ }
 {
-    (0x8040_A230_0000_FF00u64 >> number) % 2 == 0
-}
-
-fn is_setter(number: u8) -> bool
-    requires { ⌜ number < 64 ⌝ }
-    ensures { λ r. ⌜ r ≡ sets number ⌝ }
-{
-    (0x8000_A200_0000_0000u64 >> number) % 2 == 1
+    (numbers >> number) % 2 == 1
 }
 
 // The first refusal of a command, or 0: 4, then its refusal as a draw, then a missing sync.
@@ -82,7 +86,6 @@ fn no_rest() -> Rest
 {
     Rest {
         ended: false,
-        draw: 5,
         modes: 0,
         image: 0,
         scissor: false,
@@ -99,47 +102,57 @@ fn set_code(special: bool) -> u8
     1
 }
 
-// The hazards, and the rest with the refusal of a draw that its other fields give.
-fn with_draw(hazards: u8, rest: Rest) -> View
-    ensures { λ r. ⌜ r ≡ view hazards (rest .ended) (rest .modes) (rest .image) (rest .scissor) ⌝ }
+// The refusal of a draw, or 0.
+fn draw_refusal(rest: Rest) -> u8
+    ensures { λ r. ⌜ r ≡ restRefusal rest ⌝ }
 {
-    let mut q = rest;
     if !(((rest.modes != 0) & (rest.image != 0)) & rest.scissor) {
-        q.draw = 5;
-        return View { hazards, rest: q };
+        return 5;
     }
     if (rest.modes == 2) & (rest.image == 2) {
-        q.draw = 6;
-        return View { hazards, rest: q };
+        return 6;
     }
-    q.draw = 0;
-    View { hazards, rest: q }
+    0
 }
 
-// The view after a command that sets what is carried, whose next hazards are given.
-fn after(v: View, next: u8, h: Head) -> View
-    requires { ⌜ Sound v × ((next ≡ nextOf (v .hazards) (h .number)) × (sets (h .number) ≡ true)) ⌝ }
-    ensures { λ r. ⌜ r ≡ viewAfter v h ⌝ }
+// The numbers of the commands that the walk has to look into: those that set what it carries, draws where they are refused, and all after a Sync Full.
+fn watched_of(rest: Rest) -> u64
+    ensures { λ r. ⌜ Watches r rest ⌝ }
 {
-    let mut rest = v.rest;
+    if rest.ended {
+        return ALL;
+    }
+    if draw_refusal(rest) == 0 {
+        return SETTERS;
+    }
+    SETTERS_AND_DRAWS
+}
+
+// The rest after a command.
+fn rest_after(rest: Rest, h: Head) -> Rest
+    ensures { λ r. ⌜ r ≡ restAfter rest h ⌝ }
+{
+    let mut r = rest;
     let number = h.number;
-    if number == 0x29 {
-        rest.ended = true;
-        return View {
-            hazards: next,
-            rest,
-        };
+    match number {
+        0x29 => {
+            r.ended = true;
+            return r;
+        }
+        0x2D => {
+            r.scissor = true;
+            return r;
+        }
+        0x2F => {
+            r.modes = set_code(h.cycle_type == 3);
+            return r;
+        }
+        0x3F => {
+            r.image = set_code(h.image_size == 0);
+            return r;
+        }
+        _ => return r,
     }
-    if number == 0x2F {
-        rest.modes = set_code(h.cycle_type == 3);
-        return with_draw(next, rest);
-    }
-    if number == 0x3F {
-        rest.image = set_code(h.image_size == 0);
-        return with_draw(next, rest);
-    }
-    rest.scissor = true;
-    with_draw(next, rest)
 }
 
 // The sync that counts as required: none where the walk is not strict.
@@ -152,87 +165,97 @@ fn required_if(strict: bool, required: u8) -> u8
     0
 }
 
-// A step that changes the hazards alone.
-fn step_on(v: View, next: u8, refusal: u32, words: usize) -> Advanced
-    ensures { λ r. ⌜ r ≡ stepOn v next refusal words ⌝ }
+// The refusal of a command as a draw, or 0.
+fn own_refusal(rest: Rest, number: u8) -> u8
+    requires { ⌜ number < 64 ⌝ }
+    ensures { λ r. ⌜ r ≡ cond (draws number) (restRefusal rest) 0 ⌝ }
 {
-    let mut view = v;
-    view.hazards = next;
-    Advanced {
-        refusal,
-        words,
-        view,
+    if has_bit(DRAWS, number) {
+        return draw_refusal(rest);
     }
+    0
 }
 
 // One command, whose entry in the table is given.
 fn advance(e: u8, v: View, strict: bool, h: Head) -> Advanced
-    requires { ⌜ Sound v × ((h .number < 64) × (e ≡ entryOf (v .hazards) (h .number))) ⌝ }
+    requires { ⌜ (h .number < 64) × (e ≡ entryOf (v .hazards) (h .number)) ⌝ }
     ensures { λ r. ⌜ AdvancedIs strict v h r ⌝ }
 {
     let number = h.number;
     let rest = v.rest;
     let required = required_if(strict, e / 32);
-    if is_quiet(number) {
-        return step_on(v, e % 16, refusal(rest.ended, 0, required), 1);
+    let found = refusal(rest.ended, own_refusal(rest, number), required);
+    let words = rdp_command::words_of(number);
+    let after = rest_after(rest, h);
+    Advanced {
+        refusal: found,
+        words,
+        view: View {
+            hazards: e % 16,
+            rest: after,
+        },
     }
-    if is_setter(number) {
-        let found = refusal(rest.ended, 0, required);
-        let view = after(v, e % 16, h);
-        return Advanced {
-            refusal: found,
-            words: 1,
-            view,
-        };
-    }
-    let found = refusal(rest.ended, rest.draw, required);
-    step_on(v, e % 16, found, rdp_command::words_of(number))
 }
 
-// The commands of a list of whole words, in order: the first refusal, or 0 at the number of words. Most commands are quiet and miss no sync: the way that
-// they take touches nothing but the hazards.
+// The answer of the walk: a refusal, or 0, at a place.
+fn answer(number: u32, place: usize, hazards: u8) -> Checked
+    requires { ⌜ place ≤ 4096 ⌝ }
+    ensures { λ r. ⌜ r ≡ answerAt number place hazards ⌝ }
+{
+    Checked {
+        number,
+        place: place as u32,
+        hazards,
+    }
+}
+
+// The commands of a list of whole words, in order: the first refusal, or 0 at the number of words. Most commands need not be looked into and miss no
+// sync: the way that they take touches nothing but the hazards, and not even these where they stay, so that the next command need not wait for them.
 fn walk(table: &[u8; 1024], list: &[u8], words: usize, strict: bool) -> Checked
     requires { ⌜ Agrees (now table) × ((length (now list) ≡ 8 * words) × (words ≤ 4096)) ⌝ }
     ensures { λ r. ⌜ r ≡ checked (judgeList strict (now (list .entry))) ⌝ }
 {
     let mut hazards: u8 = 0;
     let mut rest = no_rest();
+    let mut watched = watched_of(rest);
     let mut at: usize = 0;
     while at < words {
         let head = rdp_command::head_at(list, at);
-        let e = hazards::entry(table, hazards, head.number);
-        if (is_quiet(head.number) & (e < 16)) & !rest.ended {
-            hazards = e;
-            at += 1;
+        let number = head.number;
+        let e = hazards::entry(table, hazards, number);
+        if (e < 16) & !has_bit(watched, number) {
+            if !has_bit(LONG, number) {
+                at += 1;
+                if e == hazards {
+                    continue;
+                }
+                hazards = hazards::next(table, hazards, number);
+                continue;
+            }
+            let count = rdp_command::words_of(number);
+            if words - at < count {
+                return answer(3, at, hazards);
+            }
+            hazards = hazards::next(table, hazards, number);
+            at += count;
             continue;
         }
         let advanced = advance(e, View { hazards, rest }, strict, head);
         let count = advanced.words;
         if words - at < count {
-            return Checked {
-                number: 3,
-                place: at as u32,
-                hazards,
-            };
+            return answer(3, at, hazards);
         }
         let refusal = advanced.refusal;
         if refusal != 0 {
-            return Checked {
-                number: refusal,
-                place: at as u32,
-                hazards,
-            };
+            return answer(refusal, at, hazards);
         }
         let view = advanced.view;
         hazards = view.hazards;
         rest = view.rest;
+        watched = watched_of(rest);
         at += count;
     }
-    Checked {
-        number: 0,
-        place: words as u32,
-        hazards,
-    }
+    answer(0, words, hazards)
 }
 
 // The first refusal of a list that may have so many words: 1 and 2 of the list, then those of its commands.

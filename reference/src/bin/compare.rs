@@ -6,95 +6,18 @@
 use std::env;
 use std::process::ExitCode;
 
+use reference::comparison::foreign::Foreign;
 use reference::comparison::run::run;
-use reference::comparison::side::Side;
+use reference::foreign;
 
-extern "C" {
-    fn lanyardrove_check(list: *const u8, list_length: usize) -> u64;
-    fn lanyardrove_repair(
-        list: *const u8,
-        list_length: usize,
-        work: *mut u8,
-        work_length: usize,
-        out: *mut u8,
-        out_length: usize,
-    ) -> u64;
-    fn lanyardrove_draw(
-        list: *const u8,
-        list_length: usize,
-        memory: *mut u8,
-        memory_length: usize,
-        start: u64,
-    ) -> u64;
-    fn lanyardrove_decode(
-        list: *const u8,
-        list_length: usize,
-        fields: *mut u64,
-        count: usize,
-    ) -> u64;
-    fn lanyardrove_encode(
-        number: u32,
-        fields: *const u64,
-        count: usize,
-        suffix: *const u8,
-        suffix_length: usize,
-        out: *mut u8,
-        out_length: usize,
-    ) -> u64;
-}
-
-/// The archive. Each call lends whole slices, which is all that the C functions
-/// ask of their pointers.
-struct Archive;
-
-impl Side for Archive {
-    fn check(&self, list: &[u8]) -> u64 {
-        unsafe { lanyardrove_check(list.as_ptr(), list.len()) }
-    }
-
-    fn repair(&self, list: &[u8], work: &mut [u8], out: &mut [u8]) -> u64 {
-        unsafe {
-            lanyardrove_repair(
-                list.as_ptr(),
-                list.len(),
-                work.as_mut_ptr(),
-                work.len(),
-                out.as_mut_ptr(),
-                out.len(),
-            )
-        }
-    }
-
-    fn draw(&self, list: &[u8], memory: &mut [u8], start: u64) -> u64 {
-        unsafe {
-            lanyardrove_draw(
-                list.as_ptr(),
-                list.len(),
-                memory.as_mut_ptr(),
-                memory.len(),
-                start,
-            )
-        }
-    }
-
-    fn decode(&self, list: &[u8], fields: &mut [u64]) -> u64 {
-        unsafe { lanyardrove_decode(list.as_ptr(), list.len(), fields.as_mut_ptr(), fields.len()) }
-    }
-
-    fn encode(&self, number: u32, fields: &[u64], suffix: &[u8], out: &mut [u8]) -> u64 {
-        unsafe {
-            lanyardrove_encode(
-                number,
-                fields.as_ptr(),
-                fields.len(),
-                suffix.as_ptr(),
-                suffix.len(),
-                out.as_mut_ptr(),
-                out.len(),
-            )
-        }
-    }
-}
+/// The archive.
+static ARCHIVE: Foreign = foreign!(
+    lanyardrove_check,
+    lanyardrove_repair,
+    lanyardrove_draw,
+    lanyardrove_decode,
+    lanyardrove_encode
+);
 
 /// The arguments: seed, number of cases, first case.
 fn arguments() -> Option<(u64, u64, u64)> {
@@ -111,7 +34,7 @@ fn main() -> ExitCode {
         eprintln!("usage: compare [SEED] [CASES] [FIRST]");
         return ExitCode::from(2);
     };
-    match run(&Archive, seed, first..first + cases) {
+    match run(&ARCHIVE, seed, first..first + cases) {
         Err(difference) => {
             print!("{difference}");
             ExitCode::FAILURE

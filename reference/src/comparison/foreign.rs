@@ -1,45 +1,121 @@
-//! Check, repair and draw as functions of C, called with slices.
+//! Functions of C as a side of the comparison, called with slices.
+
+use crate::comparison::side::Side;
+use crate::packed;
 
 pub type Check = unsafe extern "C" fn(*const u8, usize) -> u64;
 pub type Repair = unsafe extern "C" fn(*const u8, usize, *mut u8, usize, *mut u8, usize) -> u64;
 pub type Draw = unsafe extern "C" fn(*const u8, usize, *mut u8, usize, u64) -> u64;
+pub type Decode = unsafe extern "C" fn(*const u8, usize, *mut u64, usize) -> u64;
+pub type Encode =
+    unsafe extern "C" fn(u32, *const u64, usize, *const u8, usize, *mut u8, usize) -> u64;
 
-/// Three functions that ask of their pointers only that each lends as many bytes
-/// as the length after it says.
-#[derive(Clone, Copy)]
+/// Functions that ask of their pointers only that each lends as much as the
+/// length after it says.
 pub struct Foreign {
-    check: Check,
-    repair: Repair,
-    draw: Draw,
+    pub check: Check,
+    pub repair: Repair,
+    pub draw: Draw,
+    /// Where there is none, this crate's stands in.
+    pub decode: Option<Decode>,
+    pub encode: Option<Encode>,
 }
 
-impl Foreign {
-    /// # Safety
-    ///
-    /// The functions touch no bytes but those lent, and write only those lent for
-    /// writing.
-    pub const unsafe fn new(check: Check, repair: Repair, draw: Draw) -> Foreign {
-        Foreign {
-            check,
-            repair,
-            draw,
+/// Declares functions of C by their names, and gives them as a `Foreign`: check,
+/// repair and draw, and decode and encode where there are such. They touch no
+/// bytes but those lent, and write only those lent for writing.
+#[macro_export]
+macro_rules! foreign {
+    ($check:ident, $repair:ident, $draw:ident $(, $decode:ident, $encode:ident)?) => {{
+        extern "C" {
+            fn $check(list: *const u8, list_length: usize) -> u64;
+            fn $repair(
+                list: *const u8,
+                list_length: usize,
+                work: *mut u8,
+                work_length: usize,
+                out: *mut u8,
+                out_length: usize,
+            ) -> u64;
+            fn $draw(
+                list: *const u8,
+                list_length: usize,
+                memory: *mut u8,
+                memory_length: usize,
+                start: u64,
+            ) -> u64;
+            $(
+                fn $decode(
+                    list: *const u8,
+                    list_length: usize,
+                    fields: *mut u64,
+                    count: usize,
+                ) -> u64;
+                fn $encode(
+                    number: u32,
+                    fields: *const u64,
+                    count: usize,
+                    suffix: *const u8,
+                    suffix_length: usize,
+                    out: *mut u8,
+                    out_length: usize,
+                ) -> u64;
+            )?
         }
-    }
+        $crate::comparison::foreign::Foreign {
+            check: $check,
+            repair: $repair,
+            draw: $draw,
+            decode: $crate::foreign!($($decode)?),
+            encode: $crate::foreign!($($encode)?),
+        }
+    }};
+    () => { None };
+    ($function:ident) => { Some($function) };
+}
 
-    pub fn check(&self, list: &[u8]) -> u64 {
+impl Side for Foreign {
+    fn check(&self, list: &[u8]) -> u64 {
         unsafe { (self.check)(list.as_ptr(), list.len()) }
     }
 
-    pub fn repair(&self, list: &[u8], work: &mut [u8], out: &mut [u8]) -> u64 {
+    fn repair(&self, list: &[u8], work: &mut [u8], out: &mut [u8]) -> u64 {
         let (list, list_length) = (list.as_ptr(), list.len());
         let (work, work_length) = (work.as_mut_ptr(), work.len());
         let (out, out_length) = (out.as_mut_ptr(), out.len());
         unsafe { (self.repair)(list, list_length, work, work_length, out, out_length) }
     }
 
-    pub fn draw(&self, list: &[u8], memory: &mut [u8], start: u64) -> u64 {
+    fn draw(&self, list: &[u8], memory: &mut [u8], start: u64) -> u64 {
         let (list, list_length) = (list.as_ptr(), list.len());
         let (memory, memory_length) = (memory.as_mut_ptr(), memory.len());
         unsafe { (self.draw)(list, list_length, memory, memory_length, start) }
+    }
+
+    fn decode(&self, list: &[u8], fields: &mut [u64]) -> u64 {
+        let Some(decode) = self.decode else {
+            return packed::decode(list, fields);
+        };
+        unsafe { decode(list.as_ptr(), list.len(), fields.as_mut_ptr(), fields.len()) }
+    }
+
+    fn encode(&self, number: u32, fields: &[u64], suffix: &[u8], out: &mut [u8]) -> u64 {
+        let Some(encode) = self.encode else {
+            return packed::encode(number, fields, suffix, out);
+        };
+        let (fields, count) = (fields.as_ptr(), fields.len());
+        let (suffix, suffix_length) = (suffix.as_ptr(), suffix.len());
+        let (out, out_length) = (out.as_mut_ptr(), out.len());
+        unsafe {
+            encode(
+                number,
+                fields,
+                count,
+                suffix,
+                suffix_length,
+                out,
+                out_length,
+            )
+        }
     }
 }

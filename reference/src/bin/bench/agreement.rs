@@ -4,7 +4,8 @@
 use std::ops::Range;
 
 use crate::rows::{Buffers, Job, Row};
-use crate::versions::{Version, VERSIONS};
+use crate::versions::VERSIONS;
+use reference::comparison::side::Side;
 
 /// What differs, if anything does.
 pub fn test(row: &Row) -> Result<(), String> {
@@ -26,7 +27,7 @@ pub fn test(row: &Row) -> Result<(), String> {
 }
 
 /// A version's answer and all that it was lent, afterwards.
-fn outcome(row: &Row, version: &dyn Version) -> (u64, Buffers) {
+fn outcome(row: &Row, version: &dyn Side) -> (u64, Buffers) {
     let mut buffers = Buffers::new(row);
     let answer = row.call(version, &mut buffers);
     (answer, buffers)

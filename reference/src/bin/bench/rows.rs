@@ -3,7 +3,7 @@
 use std::ops::Range;
 
 use crate::lists::{self, Pixels, Rectangle, HEIGHT, WIDTH};
-use crate::versions::Version;
+use reference::comparison::side::Side;
 
 pub enum Job {
     Check,
@@ -20,7 +20,7 @@ pub struct Row {
 
 impl Row {
     /// One call by a version.
-    pub fn call(&self, version: &dyn Version, buffers: &mut Buffers) -> u64 {
+    pub fn call(&self, version: &dyn Side, buffers: &mut Buffers) -> u64 {
         match self.job {
             Job::Check => version.check(&self.list),
             Job::Repair => version.repair(&self.list, &mut buffers.work, &mut buffers.out),

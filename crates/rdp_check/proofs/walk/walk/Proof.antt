@@ -1,93 +1,152 @@
--- `rdp_check::walk::walk` meets its contract. The loop's invariant: the judgement of what is left is that of the whole list. The measure is what is left
--- of the words. Assumes nothing.
+-- `rdp_check::walk::walk` meets its contract. The loop's invariant: the judgement of what is left is that of the whole list, and the numbers that are
+-- watched are those of the commands that must be. The measure is what is left of the words. Assumes nothing.
 use mathlib.Core.Path.{ap, _∙_}
 use Prim.Native.Nat.{_-_}
 use native.Mathlib.Omega.{arith}
 use borrow.Author.Needs.{needs}
-use Rattle.rdp_check.specs.Hazards.{entryOf}
-use Rattle.rdp_check.specs.View.{viewAfter, quiet}
+use Rattle.rdp_check.specs.View.{viewAfter, Watches}
 use Rattle.rdp_command.proofs.PlaceLaws.{number-small}
-use Rattle.rdp_check.proofs.WalkLaws.{Walked, first, sound, ended, past, refused, falls, again, quick}
+use Rattle.rdp_check.proofs.WalkLaws.{Walked, first, hazards-low, ended, past, refused, falls, again, turn, stays, quick, quick-one}
 use Rattle.rdp_check.proofs.walk.walk.Statement.{statement}
 use Rattle.rdp_check.proofs.walk.walk.Tie as tie
 
 abbrev Inv-loop : tie.InvT-loop
-Inv-loop table list words strict hazards₀ rest₀ at₀ hazards rest at = Walked strict list words (record { hazards = hazards; rest = rest }) at
+Inv-loop table list words strict hazards₀ rest₀ watched₀ at₀ hazards rest watched at =
+    Walked strict list words (record { hazards = hazards; rest = rest }) at × Watches watched rest
 
 abbrev μ-loop : tie.MeasureT-loop
-μ-loop table list words strict hazards₀ rest₀ at₀ hazards rest at = words - at
+μ-loop table list words strict hazards₀ rest₀ watched₀ at₀ hazards rest watched at = words - at
 
 no-rest-requires : tie.Need-no-rest-requires Inv-loop μ-loop
 no-rest-requires c κs = search needs
 
+watched-of-requires : tie.Need-watched-of-requires Inv-loop μ-loop
+watched-of-requires c κs = search needs
+
 loop-holds : tie.Need-loop-holds Inv-loop μ-loop
-loop-holds c = first _ _ _ _ (c .no-rest .ensures) (c .before .before .pre .1 .0) (c .before .before .pre .1 .1)
+loop-holds c = let p = c .before .before .before .pre in (first _ _ _ _ (c .before .no-rest .ensures) (p .1 .0) (p .1 .1), c .watched-of .ensures)
 
 head-at-requires : tie.Need-head-at-requires Inv-loop μ-loop
 head-at-requires c κs = search needs
 
 entry-requires : tie.Need-entry-requires Inv-loop μ-loop
-entry-requires c κs = (c .before .before .before .before .before .pre .0, (sound (c .before .before .loop .inv) .low, rw (c .head-at .ensures) (number-small _)))
+entry-requires c κs = let t = c in (t .before .before .before .before .before .before .pre .0, (hazards-low (t .before .before .loop .inv .0), rw (t .head-at .ensures) (number-small _)))
 
-is-quiet-requires : tie.Need-is-quiet-requires Inv-loop μ-loop
-is-quiet-requires c κs = rw (c .before .head-at .ensures) (number-small _)
+has-bit-requires : tie.Need-has-bit-requires Inv-loop μ-loop
+has-bit-requires c κs = rw (c .before .head-at .ensures) (number-small _)
+
+has-bit-requires-2 : tie.Need-has-bit-requires-2 Inv-loop μ-loop
+has-bit-requires-2 c κs = rw (c .before .before .before .head-at .ensures) (number-small _)
 
 add-at : tie.Need-add-at Inv-loop μ-loop
-add-at c = let w = c .before .before .before .before .before .before .loop .inv in omega (arith, c .before .before .before .before .before .loop-test .taken, w .few)
+add-at c = let w = c .before .before .before .before .before .before .before .loop .inv .0 in omega (arith, c .before .before .before .before .before .before .loop-test .taken, w .few)
 
 loop-less : tie.Need-loop-less Inv-loop μ-loop
-loop-less c = omega (arith, c .before .before .before .before .before .loop-test .taken)
+loop-less c = omega (arith, c .before .before .before .before .before .before .before .loop-test .taken)
 
 loop-again : tie.Need-loop-again Inv-loop μ-loop
 loop-again c =
-    let h = c .before .before .before .before .head-at .ensures in
-    let l = c .before .before .before .before .before .before .loop in
-    quick (l .inv) (c .before .before .before .before .before .loop-test .taken) _ (c .before .before .before .entry .ensures ∙ ap (λ x. entryOf (l .hazards) (x .number)) h) _
-    (c .before .before .is-quiet .ensures ∙ ap (λ x. quiet (x .number)) h) (c .if1 .taken)
+    let t = c .before .before .before in
+    let l = t .before .before .before .before .before .loop in
+    let q = turn (l .inv .0) _ (l .inv .1) (t .before .before .before .before .loop-test .taken) _ (t .before .before .before .head-at .ensures) _ (t .before .before .entry .ensures) _ (t .before .has-bit .ensures) (t .if1 .taken) in
+    (quick-one q (stays q (c .if3 .taken)) _ (c .before .before .has-bit2 .ensures) (c .before .if2 .taken), l .inv .1)
 
-advance-requires : tie.Need-advance-requires Inv-loop μ-loop
-advance-requires c κs = (sound (c .before .before .before .before .before .before .loop .inv), (rw (c .before .before .before .before .head-at .ensures) (number-small _), c .before .before .before .entry .ensures))
-
-sub-if2 : tie.Need-sub-if2 Inv-loop μ-loop
-sub-if2 c = omega (arith, c .before .before .before .before .before .before .loop-test .taken)
-
-cast-t21 : tie.Need-cast-t21 Inv-loop μ-loop
-cast-t21 c = let w = c .before .before .before .before .before .before .before .before .loop .inv in omega (arith, w .within, w .few)
-
-returns : tie.Need-returns Inv-loop μ-loop
-returns c =
-    let h = c .before .before .before .before .before .before .head-at .ensures in
-    past (c .before .before .before .before .before .before .before .before .loop .inv) (c .before .before .before .before .before .before .before .loop-test .taken) _ (ap (λ x. x .number) h) _ (c .before .advance .ensures .words) (c .if2 .taken)
-
-cast-t22 : tie.Need-cast-t22 Inv-loop μ-loop
-cast-t22 c = let w = c .before .before .before .before .before .before .before .before .before .loop .inv in omega (arith, w .within, w .few)
-
-returns-2 : tie.Need-returns-2 Inv-loop μ-loop
-returns-2 c =
-    let h = c .before .before .before .before .before .before .before .head-at .ensures in
-    let a = c .before .before .advance .ensures in
-    refused (c .before .before .before .before .before .before .before .before .before .loop .inv) (c .before .before .before .before .before .before .before .before .loop-test .taken) _ (ap (λ x. x .number) h) _ (a .words) (c .before .if2 .left) _ (a .refusal) (c .if3 .taken)
-
-add-at-2 : tie.Need-add-at-2 Inv-loop μ-loop
-add-at-2 c = let w = c .before .before .before .before .before .before .before .before .before .before .before .loop .inv in omega (arith, c .before .before .before .if2 .left, w .within, w .few)
+next-requires : tie.Need-next-requires Inv-loop μ-loop
+next-requires c κs = let t = c .before .before .before .before .before .before in (t .before .before .before .before .before .before .pre .0, (hazards-low (t .before .before .loop .inv .0), rw (t .head-at .ensures) (number-small _)))
 
 loop-less-2 : tie.Need-loop-less-2 Inv-loop μ-loop
-loop-less-2 c =
-    let h = c .before .before .before .before .before .before .before .before .before .head-at .ensures in
-    falls (c .before .before .before .before .before .before .before .before .before .before .before .loop .inv) (c .before .before .before .before .before .before .before .before .before .before .loop-test .taken) _ (ap (λ x. x .number) h) _ (c .before .before .before .before .advance .ensures .words) (c .before .before .before .if2 .left)
+loop-less-2 c = omega (arith, c .before .before .before .before .before .before .before .before .loop-test .taken)
 
 loop-again-2 : tie.Need-loop-again-2 Inv-loop μ-loop
 loop-again-2 c =
-    let h = c .before .before .before .before .before .before .before .before .before .head-at .ensures in
-    let a = c .before .before .before .before .advance .ensures in
-    again (c .before .before .before .before .before .before .before .before .before .before .before .loop .inv) (c .before .before .before .before .before .before .before .before .before .before .loop-test .taken) _ (ap (λ x. x .number) h) _ (a .words) (c .before .before .before .if2 .left) _ (a .refusal) (c .before .before .if3 .left) _
-    (a .after ∙ ap (viewAfter _) h)
+    let t = c .before .before .before .before in
+    let l = t .before .before .before .before .before .loop in
+    let q = turn (l .inv .0) _ (l .inv .1) (t .before .before .before .before .loop-test .taken) _ (t .before .before .before .head-at .ensures) _ (t .before .before .entry .ensures) _ (t .before .has-bit .ensures) (t .if1 .taken) in
+    (quick-one q (c .next .ensures) _ (c .before .before .before .has-bit2 .ensures) (c .before .before .if2 .taken), l .inv .1)
 
-cast-t23 : tie.Need-cast-t23 Inv-loop μ-loop
-cast-t23 c = let w = c .before .loop .inv in omega (arith, w .few)
+words-of-requires : tie.Need-words-of-requires Inv-loop μ-loop
+words-of-requires c κs = search needs
+
+sub-if4 : tie.Need-sub-if4 Inv-loop μ-loop
+sub-if4 c = omega (arith, c .before .before .before .before .before .before .before .loop-test .taken)
+
+answer-requires : tie.Need-answer-requires Inv-loop μ-loop
+answer-requires c κs = let w = c .before .before .before .before .before .before .before .before .before .loop .inv .0 in omega (arith, w .within, w .few)
+
+returns : tie.Need-returns Inv-loop μ-loop
+returns c =
+    let t = c .before .before .before .before .before .before .before .before in
+    c .answer .ensures ∙
+    past (t .before .before .loop .inv .0) (t .before .loop-test .taken) _ (ap (λ x. x .number) (t .head-at .ensures)) _ (c .before .before .words-of .ensures) (c .before .if4 .taken)
+
+next-requires-2 : tie.Need-next-requires-2 Inv-loop μ-loop
+next-requires-2 c κs = let t = c .before .before .before .before .before .before .before in (t .before .before .before .before .before .before .pre .0, (hazards-low (t .before .before .loop .inv .0), rw (t .head-at .ensures) (number-small _)))
+
+add-at-2 : tie.Need-add-at-2 Inv-loop μ-loop
+add-at-2 c = let w = c .before .before .before .before .before .before .before .before .before .before .loop .inv .0 in omega (arith, c .before .if4 .left, w .within, w .few)
+
+loop-less-3 : tie.Need-loop-less-3 Inv-loop μ-loop
+loop-less-3 c =
+    let t = c .before .before .before .before .before .before .before .before in
+    falls (t .before .before .loop .inv .0) (t .before .loop-test .taken) _ (ap (λ x. x .number) (t .head-at .ensures)) _ (c .before .before .words-of .ensures) (c .before .if4 .left)
+
+loop-again-3 : tie.Need-loop-again-3 Inv-loop μ-loop
+loop-again-3 c =
+    let t = c .before .before .before .before .before in
+    let l = t .before .before .before .before .before .loop in
+    let q = turn (l .inv .0) _ (l .inv .1) (t .before .before .before .before .loop-test .taken) _ (t .before .before .before .head-at .ensures) _ (t .before .before .entry .ensures) _ (t .before .has-bit .ensures) (t .if1 .taken) in
+    (quick q (c .next2 .ensures) _ (c .before .before .words-of .ensures) (c .before .if4 .left), l .inv .1)
+
+advance-requires : tie.Need-advance-requires Inv-loop μ-loop
+advance-requires c κs = (rw (c .before .before .before .head-at .ensures) (number-small _), c .before .before .entry .ensures)
+
+sub-if5 : tie.Need-sub-if5 Inv-loop μ-loop
+sub-if5 c = omega (arith, c .before .before .before .before .before .loop-test .taken)
+
+answer-requires-2 : tie.Need-answer-requires-2 Inv-loop μ-loop
+answer-requires-2 c κs = let w = c .before .before .before .before .before .before .before .loop .inv .0 in omega (arith, w .within, w .few)
+
+returns-2 : tie.Need-returns-2 Inv-loop μ-loop
+returns-2 c =
+    let t = c .before .before .before .before .before .before in
+    c .answer2 .ensures ∙
+    past (t .before .before .loop .inv .0) (t .before .loop-test .taken) _ (ap (λ x. x .number) (t .head-at .ensures)) _ (c .before .before .advance .ensures .words) (c .before .if5 .taken)
+
+answer-requires-3 : tie.Need-answer-requires-3 Inv-loop μ-loop
+answer-requires-3 c κs = let w = c .before .before .before .before .before .before .before .before .loop .inv .0 in omega (arith, w .within, w .few)
 
 returns-3 : tie.Need-returns-3 Inv-loop μ-loop
-returns-3 c = ended (c .before .loop .inv) (c .loop-test .left)
+returns-3 c =
+    let t = c .before .before .before .before .before .before .before in
+    let a = c .before .before .before .advance .ensures in
+    c .answer3 .ensures ∙
+    refused (t .before .before .loop .inv .0) (t .before .loop-test .taken) _ (ap (λ x. x .number) (t .head-at .ensures)) _ (a .words) (c .before .before .if5 .left) _ (a .refusal) (c .before .if6 .taken)
+
+watched-of-requires-2 : tie.Need-watched-of-requires-2 Inv-loop μ-loop
+watched-of-requires-2 c κs = search needs
+
+add-at-3 : tie.Need-add-at-3 Inv-loop μ-loop
+add-at-3 c = let w = c .before .before .before .before .before .before .before .before .before .before .before .loop .inv .0 in omega (arith, c .before .before .before .before .if5 .left, w .within, w .few)
+
+loop-less-4 : tie.Need-loop-less-4 Inv-loop μ-loop
+loop-less-4 c =
+    let t = c .before .before .before .before .before .before .before .before .before in
+    falls (t .before .before .loop .inv .0) (t .before .loop-test .taken) _ (ap (λ x. x .number) (t .head-at .ensures)) _ (c .before .before .before .before .before .advance .ensures .words) (c .before .before .before .before .if5 .left)
+
+loop-again-4 : tie.Need-loop-again-4 Inv-loop μ-loop
+loop-again-4 c =
+    let t = c .before .before .before .before .before .before .before .before .before in
+    let h = t .head-at .ensures in
+    let a = c .before .before .before .before .before .advance .ensures in (
+      again (t .before .before .loop .inv .0) (t .before .loop-test .taken) _ (ap (λ x. x .number) h) _ (a .words) (c .before .before .before .before .if5 .left) _ (a .refusal) (c .before .before .before .if6 .left) _ (a .after ∙ ap (viewAfter _) h),
+      c .watched-of2 .ensures,
+    )
+
+answer-requires-4 : tie.Need-answer-requires-4 Inv-loop μ-loop
+answer-requires-4 c κs = let w = c .before .loop .inv .0 in w .few
+
+returns-4 : tie.Need-returns-4 Inv-loop μ-loop
+returns-4 c = c .answer4 .ensures ∙ ended (c .before .before .loop .inv .0) (c .before .loop-test .left)
 
 pub walk-spec : {M : Type 1} → statement M
 walk-spec =
@@ -96,21 +155,35 @@ walk-spec =
     Inv-loop
     μ-loop
     no-rest-requires
+    watched-of-requires
     loop-holds
     head-at-requires
     entry-requires
-    is-quiet-requires
+    has-bit-requires
+    has-bit-requires-2
     add-at
     loop-less
     loop-again
-    advance-requires
-    sub-if2
-    cast-t21
-    returns
-    cast-t22
-    returns-2
-    add-at-2
+    next-requires
     loop-less-2
     loop-again-2
-    cast-t23
-    returns-3)
+    words-of-requires
+    sub-if4
+    answer-requires
+    returns
+    next-requires-2
+    add-at-2
+    loop-less-3
+    loop-again-3
+    advance-requires
+    sub-if5
+    answer-requires-2
+    returns-2
+    answer-requires-3
+    returns-3
+    watched-of-requires-2
+    add-at-3
+    loop-less-4
+    loop-again-4
+    answer-requires-4
+    returns-4)
