@@ -13,7 +13,7 @@ use Rattle.rdp_command.specs.Kinds.{kindOf, wordsOf}
 use Rattle.rdp_command.specs.Commands.{numberOf}
 use Rattle.rdp_command.specs.Decode.{firstNumber, wholeWords, decodeOf, wordFields}
 use Rattle.rdp_command.specs.declared.Command.{Command}
-use Rattle.rdp_command.proofs.Tests.{below, by-test, same, same-bool}
+use Rattle.rdp_command.proofs.Tests.{below, by-test, false-of, same, same-bool}
 use Rattle.rdp_command.proofs.PlaceLaws.{number-small, some-words}
 use Rattle.rdp_command.proofs.ReadLaws.{decoded, decodes, decoded-number, reads-other-modes, reads-scissor, reads-fill-color, reads-color-image}
 use Rattle.rdp_check.specs.Commands.{commandsOf, restOf}
@@ -22,7 +22,7 @@ use Rattle.rdp_check.specs.Check.{draws}
 use Rattle.rdp_check.specs.declared.Registers.{Registers}
 use Rattle.rdp_check.proofs.KeptLaws.{keeps}
 use Rattle.rdp_check.proofs.ListLaws.{commandAt, commands-at, rest-at, commands-past, rest-past, command-word, command-number, command-there}
-use Rattle.rdp_draw.proofs.BoolLaws.{false-of, or-not}
+use Rattle.rdp_draw.proofs.BoolLaws.{or-not}
 use Rattle.rdp_draw.specs.declared.walk.FillRegisters.{FillRegisters}
 use Rattle.rdp_draw.specs.Draw.{Draw, drawAt, drawsFrom, drawsOf}
 use Rattle.rdp_command.specs.declared.WordFields.{WordFields}
