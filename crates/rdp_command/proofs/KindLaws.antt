@@ -1,5 +1,5 @@
 -- The kinds and words of command numbers, each rule by one test over the numbers. Assumes nothing.
-use Prim.Native.Nat.{ℕ, _+_, _*_, _/_, _%_, _≤_, _<_}
+use Prim.Native.Nat.{ℕ, _*_, _/_, _%_, _^_, _≤_, _<_}
 use mathlib.Core.Bool.{Bool, true, false, cond, not, _&&_, _||_}
 use mathlib.Core.Path.{_≡_, refl}
 use lib.ListN.{length}
@@ -25,9 +25,9 @@ pub no-operation-small : (n : ℕ) → isNoOperation n ≡ true → n < 64
 unfolding isNoOperation
 no-operation-small n e = ltb-true n 64 (and-left (ltb n 64) (isNone (kindOf n)) e)
 
--- the words as the code counts them
+-- the words as the code has them
 abbrev pub wordsBy : ℕ → ℕ
-wordsBy n = cond (eqb (n / 8) 1) (4 + n / 4 % 2 * 8 + n / 2 % 2 * 8 + n % 2 * 2) (cond (eqb (n / 2) 0x12) 2 1)
+wordsBy n = cond (eqb (n / 8) 1) (0x1614_0E0C_0E0C_0604 / 2 ^ (n % 8 * 8) % 256) (cond (eqb (n / 2) 0x12) 2 1)
 
 pub words-by : (n : ℕ) → n < 256 → wordsBy n ≡ wordsOf n
 unfolding wordsOf kindOf

@@ -7,7 +7,7 @@ use Rattle.rdp_command.specs.Layout.{layout, otherModesLines}
 use Rattle.rdp_command.specs.Fields.{fieldsOf}
 use Rattle.rdp_command.specs.Groups.{otherModesOf}
 use Rattle.rdp_command.specs.Commands.{commandOf, numberOf}
-use Rattle.rdp_command.specs.Decode.{firstNumber, wholeWords, ownWords, commandIn, decodeOf, wordFields}
+use Rattle.rdp_command.specs.Decode.{firstNumber, wholeWords, ownWords, commandIn, decodeOf, cycleTypeIn, scissorIn, rectangleIn, fillColorIn, colorImageIn}
 use Rattle.rdp_command.specs.declared.Command.{Command}
 use Rattle.rdp_command.specs.declared.Command.the-variants.{SetOtherModes, SetScissor, SetColorImage, SetFillColor, FillRectangle}
 use Rattle.rdp_command.specs.declared.Decoded.the-variants.{Whole}
@@ -37,21 +37,21 @@ module _ (bs : List ℕ) (there : wholeWords bs ≡ 0 → ⊥) where
   unfolding commandOf layout
   reads-other-modes e = ap (λ (n : ℕ). commandIn n words) e
 
-  pub reads-cycle : otherModes .«cycle_type» ≡ wordFields (wordAt bs 0) .«cycle_type»
+  pub reads-cycle : otherModes .«cycle_type» ≡ cycleTypeIn (wordAt bs 0)
   reads-cycle = refl
 
-  pub reads-scissor : firstNumber bs ≡ 0x2D → decoded ≡ SetScissor (wordFields (wordAt bs 0) .scissor)
+  pub reads-scissor : firstNumber bs ≡ 0x2D → decoded ≡ SetScissor (scissorIn (wordAt bs 0))
   unfolding commandOf layout
   reads-scissor e = ap (λ (n : ℕ). commandIn n words) e
 
-  pub reads-rectangle : firstNumber bs ≡ 0x36 → decoded ≡ FillRectangle (wordFields (wordAt bs 0) .rectangle)
+  pub reads-rectangle : firstNumber bs ≡ 0x36 → decoded ≡ FillRectangle (rectangleIn (wordAt bs 0))
   unfolding commandOf layout
   reads-rectangle e = ap (λ (n : ℕ). commandIn n words) e
 
-  pub reads-fill-color : firstNumber bs ≡ 0x37 → decoded ≡ SetFillColor (wordFields (wordAt bs 0) .«fill_color»)
+  pub reads-fill-color : firstNumber bs ≡ 0x37 → decoded ≡ SetFillColor (fillColorIn (wordAt bs 0))
   unfolding commandOf layout
   reads-fill-color e = ap (λ (n : ℕ). commandIn n words) e
 
-  pub reads-color-image : firstNumber bs ≡ 0x3F → decoded ≡ SetColorImage (wordFields (wordAt bs 0) .«color_image»)
+  pub reads-color-image : firstNumber bs ≡ 0x3F → decoded ≡ SetColorImage (colorImageIn (wordAt bs 0))
   unfolding commandOf layout
   reads-color-image e = ap (λ (n : ℕ). commandIn n words) e

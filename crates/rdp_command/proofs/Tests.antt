@@ -1,6 +1,6 @@
 -- A rule that is shown for every number below a bound by one test that antt computes. Assumes nothing.
 use mathlib.Core.Path.{_≡_, refl}
-use mathlib.Core.Bool.{Bool, true, false, _&&_}
+use mathlib.Core.Bool.{Bool, true, false, not, _&&_}
 use Prim.Native.Nat.{ℕ, zero, suc, _<_}
 use native.Mathlib.Nat.{not-suc-le-zero}
 use native.Mathlib.Omega.{arith}
@@ -18,6 +18,10 @@ both-of false b t u = absurd t
 pub true-of : (b : Bool) → T b → b ≡ true
 true-of true t = refl
 true-of false t = absurd t
+
+pub false-of : (b : Bool) → T (not b) → b ≡ false
+false-of true t = absurd t
+false-of false t = refl
 
 -- the test f passes at each number below k
 abbrev pub each : (ℕ → Bool) → ℕ → Bool

@@ -11,8 +11,12 @@ use Rattle.rdp_command.specs.Fields.{fieldsOf}
 use Rattle.rdp_command.specs.Groups.{natAt, scissorOf, otherModesOf, rectangleOf, imageOf}
 use Rattle.rdp_command.specs.Commands.{commandOf}
 use Rattle.rdp_command.specs.declared.Command.{Command}
-use Rattle.rdp_command.specs.declared.WordFields.{WordFields}
+use Rattle.rdp_command.specs.declared.Scissor.{Scissor}
+use Rattle.rdp_command.specs.declared.Rectangle.{Rectangle}
+use Rattle.rdp_command.specs.declared.Image.{Image}
 use Rattle.rdp_command.specs.declared.Head.{Head}
+use Rattle.rdp_command.specs.declared.FillWords.{FillWords}
+use Rattle.rdp_command.specs.declared.FillFields.{FillFields}
 use Rattle.rdp_command.specs.declared.Decoded.{Decoded}
 use Rattle.rdp_command.specs.declared.Decoded.the-variants.{Whole, Refused}
 
@@ -36,22 +40,42 @@ ownWords bs n = wordAt bs 0 ∷ ownWord bs n 1 ∷ ownWord bs n 2 ∷ ownWord bs
 abbrev pub commandIn : ℕ → List ℕ → Command
 commandIn n ws = commandOf n (fieldsOf (layout n) ws)
 
--- a word, its number, and the fields that the check and the drawing read of it, as each command that they look into has them
-abbrev pub wordFields : ℕ → WordFields
-wordFields w =
-    record {
-      word = w;
-      number = numberIn w;
-      «cycle_type» = otherModesOf (fieldsOf otherModesLines (w ∷ [])) .«cycle_type»;
-      scissor = scissorOf (fieldsOf scissorLines (w ∷ []));
-      rectangle = rectangleOf (fieldsOf rectangleLines (w ∷ []));
-      «fill_color» = natAt (fieldsOf fillColorLines (w ∷ [])) 0;
-      «color_image» = imageOf (fieldsOf colorImageLines (w ∷ []));
-    }
+-- Each of the next five takes a word for the first word of a command.
 
--- the part of these that the check reads
+-- the cycle type of a Set Other Modes
+abbrev pub cycleTypeIn : ℕ → ℕ
+cycleTypeIn w = otherModesOf (fieldsOf otherModesLines (w ∷ [])) .«cycle_type»
+
+-- the scissor of a Set Scissor
+abbrev pub scissorIn : ℕ → Scissor
+scissorIn w = scissorOf (fieldsOf scissorLines (w ∷ []))
+
+-- the rectangle of a Fill Rectangle
+abbrev pub rectangleIn : ℕ → Rectangle
+rectangleIn w = rectangleOf (fieldsOf rectangleLines (w ∷ []))
+
+-- the colour of a Set Fill Color
+abbrev pub fillColorIn : ℕ → ℕ
+fillColorIn w = natAt (fieldsOf fillColorLines (w ∷ [])) 0
+
+-- the image of a Set Color Image
+abbrev pub colorImageIn : ℕ → Image
+colorImageIn w = imageOf (fieldsOf colorImageLines (w ∷ []))
+
+-- what the check reads of a word
 abbrev pub headOf : ℕ → Head
-headOf w = record { number = wordFields w .number; «cycle_type» = wordFields w .«cycle_type»; «image_size» = wordFields w .«color_image» .size }
+headOf w = record { number = numberIn w; «cycle_type» = cycleTypeIn w; «image_size» = colorImageIn w .size }
+
+-- a fill rectangle by its word, with the fields of the words that set what it is drawn under
+abbrev pub fillFields : FillWords → ℕ → FillFields
+fillFields set w =
+    record {
+      «cycle_type» = cycleTypeIn (set .modes);
+      rectangle = rectangleIn w;
+      scissor = scissorIn (set .scissor);
+      image = colorImageIn (set .image);
+      color = fillColorIn (set .color);
+    }
 
 -- what decoding answers: 3 at 0 where the words of the first command are not all there, else the command
 unfoldable pub decodeOf : List ℕ → Decoded

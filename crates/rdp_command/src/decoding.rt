@@ -22,7 +22,7 @@ pub fn first_command(list: &[u8]) -> Base
     ensures { λ r. ⌜ decodedFrom 3 r ≡ decodeOf (now (list .entry)) ⌝ }
 {
     let n = words::whole_words(list);
-    let w0 = words::word_at(list, 0);
+    let w0 = word_at(list, 0);
     Base {
         ok: n != 0,
         number: words::number_in(w0),
@@ -60,7 +60,7 @@ fn command_in(base: Base) -> Command
         0x34 => return Command::LoadTile(read::tile_area(base.w0)),
         0x35 => return Command::SetTile(read::tile_descriptor(base.w0)),
         0x36 => return Command::FillRectangle(read::rectangle(base.w0)),
-        0x37 => return Command::SetFillColor((base.w0 % 0x100000000) as u32),
+        0x37 => return Command::SetFillColor(read::fill_color(base.w0)),
         0x38 => return Command::SetFogColor(read::color(base.w0)),
         0x39 => return Command::SetBlendColor(read::color(base.w0)),
         0x3A => return Command::SetPrimitiveColor(read::primitive_color(base.w0)),

@@ -4,7 +4,7 @@ ghost use Prim.Native.Nat.{_+_};
 ghost use denote.Ref.{ptr};
 ghost use Rattle.rdp_command.specs.Words.{wordAt};
 ghost use Rattle.rdp_command.specs.Kinds.{wordsOf};
-ghost use Rattle.rdp_command.specs.Decode.{wordFields, headOf, decodeOf, suffixOf, suffixStart};
+ghost use Rattle.rdp_command.specs.Decode.{headOf, fillFields, decodeOf, suffixOf, suffixStart};
 ghost use Rattle.rdp_command.specs.Encode.{encodeAnswer, encodeOut};
 ghost use Rattle.rdp_command.specs.Numbers.{fieldsAnswer, fieldsOut, fromNumbers};
 
@@ -264,16 +264,24 @@ pub struct Head {
     pub image_size: u8,
 }
 
-// A word, its command number, and what the check and the drawing read of it, as each of the commands that they look into would have it.
+// The first words of the commands that set what a fill is drawn under: Set Other Modes, Set Scissor, Set Color Image and Set Fill Color. 0 stands where
+// none has come: the fields of the word 0 are the registers at the start.
 #[repr(C)]
-pub struct WordFields {
-    pub word: u64,
-    pub number: u8,
+pub struct FillWords {
+    pub modes: u64,
+    pub scissor: u64,
+    pub image: u64,
+    pub color: u64,
+}
+
+// A fill rectangle with what it is drawn under.
+#[repr(C)]
+pub struct FillFields {
     pub cycle_type: u8,
-    pub scissor: Scissor,
     pub rectangle: Rectangle,
-    pub fill_color: u32,
-    pub color_image: Image,
+    pub scissor: Scissor,
+    pub image: Image,
+    pub color: u32,
 }
 
 // A decoded command.
@@ -323,30 +331,46 @@ pub enum Decoded {
     Refused(Answer),
 }
 
-// The word at a place of a list, 0 where there is no whole word; its command number; and the fields that the check and the drawing read: those that the
-// word has as a Set Other Modes, a Set Scissor, a Fill Rectangle, a Set Fill Color and a Set Color Image. The caller takes what the number names.
-pub fn read_at(list: &[u8], place: usize) -> WordFields
-    ensures { λ r. ⌜ r ≡ wordFields (wordAt (now (list .entry)) place) ⌝ }
+// The word at a place of a list; 0 where the list has no whole word there.
+pub fn word_at(list: &[u8], place: usize) -> u64
+    ensures { λ r. ⌜ r ≡ wordAt (now (list .entry)) place ⌝ }
 {
-    read::word_fields(words::word_at(list, place))
+    if place < list.len() / 8 {
+        let at = 8 * place;
+        words::half_at(list, at) * 0x1_0000_0000 + words::half_at(list, at + 4)
+    } else {
+        0
+    }
 }
 
-// What the check reads of the word at a place: a part of what `read_at` gives, small enough for a loop over many commands.
+// What the check reads of the word at a place.
 pub fn head_at(list: &[u8], place: usize) -> Head
     ensures { λ r. ⌜ r ≡ headOf (wordAt (now (list .entry)) place) ⌝ }
 {
-    read::head(words::word_at(list, place))
+    read::head(word_at(list, place))
 }
 
-// The words of a command, by its number.
+// A fill rectangle by its word, with the fields of the words that set what it is drawn under.
+pub fn fill_fields(set: FillWords, rectangle: u64) -> FillFields
+    ensures { λ r. ⌜ r ≡ fillFields set rectangle ⌝ }
+{
+    FillFields {
+        cycle_type: read::cycle_type(set.modes),
+        rectangle: read::rectangle(rectangle),
+        scissor: read::scissor(set.scissor),
+        image: read::color_image(set.image),
+        color: read::fill_color(set.color),
+    }
+}
+
+// The words of a command, by its number. Byte k of the constant, from its low end, has those of the triangle 0x08 + k.
 pub fn words_of(number: u8) -> usize
     ensures { λ r. ⌜ r ≡ wordsOf number ⌝ }
 {
-    let n = number as usize;
-    if n / 8 == 1 {
-        return 4 + n / 4 % 2 * 8 + n / 2 % 2 * 8 + n % 2 * 2;
+    if number / 8 == 1 {
+        return ((0x1614_0E0C_0E0C_0604u64 >> (number % 8 * 8)) % 256) as usize;
     }
-    if n / 2 == 0x12 {
+    if number / 2 == 0x12 {
         return 2;
     }
     1

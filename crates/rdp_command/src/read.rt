@@ -5,7 +5,7 @@ ghost use Prim.Native.Nat.{_*_, _<_, _≤_};
 ghost use Rattle.rdp_command.specs.Layout.{edgeLines, triangleBaseLines, textureStepLines, texturedRectangleLines, keyGbLines, keyRLines, convertLines, scissorLines, primitiveDepthLines, textureModesLines, blenderInputsLines, pixelModesLines, otherModesLines, tileAreaLines, blockLines, tileDescriptorLines, rectangleLines, colorLines, primitiveColorLines, imageLines, colorImageLines};
 ghost use Rattle.rdp_command.specs.Fields.{twosComplement, fieldsOf};
 ghost use Rattle.rdp_command.specs.Groups.{edgeOf, triangleBaseOf, textureStepOf, texturedRectangleOf, keyGbOf, keyROf, convertOf, scissorOf, primitiveDepthOf, textureModesOf, blenderInputsOf, pixelModesOf, otherModesOf, tileAreaOf, blockOf, tileDescriptorOf, rectangleOf, colorOf, primitiveColorOf, imageOf};
-ghost use Rattle.rdp_command.specs.Decode.{wordFields, headOf};
+ghost use Rattle.rdp_command.specs.Decode.{cycleTypeIn, fillColorIn, headOf};
 use crate::words::number_in;
 use crate::*;
 
@@ -186,7 +186,7 @@ pub fn other_modes(w: u64) -> OtherModes
 {
     OtherModes {
         atomic_prim: (w >> 55) % 0x2 == 1,
-        cycle_type: ((w >> 52) % 0x4) as u8,
+        cycle_type: cycle_type(w),
         texture: texture_modes(w),
         key_en: (w >> 40) % 0x2 == 1,
         rgb_dither_sel: ((w >> 38) % 0x4) as u8,
@@ -323,30 +323,26 @@ pub fn color_image(w: u64) -> Image
     }
 }
 
-// What the check and the drawing read of a word.
-pub fn word_fields(w: u64) -> WordFields
-    ensures { λ r. ⌜ r ≡ wordFields w ⌝ }
+pub fn fill_color(w: u64) -> u32
+    ensures { λ r. ⌜ r ≡ fillColorIn w ⌝ }
 {
-    WordFields {
-        word: w,
-        number: number_in(w),
-        cycle_type: ((w >> 52) % 0x4) as u8,
-        scissor: scissor(w),
-        rectangle: rectangle(w),
-        fill_color: (w % 0x100000000) as u32,
-        color_image: color_image(w),
-    }
+    (w % 0x100000000) as u32
+}
+
+// The cycle type alone of a Set Other Modes.
+pub fn cycle_type(w: u64) -> u8
+    ensures { λ r. ⌜ r ≡ cycleTypeIn w ⌝ }
+{
+    ((w >> 52) % 0x4) as u8
 }
 
 // What the check reads of a word.
 pub fn head(w: u64) -> Head
     ensures { λ r. ⌜ r ≡ headOf w ⌝ }
 {
-    let mode = w >> 52;
-    let size = w >> 51;
     Head {
         number: number_in(w),
-        cycle_type: (mode % 0x4) as u8,
-        image_size: (size % 0x4) as u8,
+        cycle_type: cycle_type(w),
+        image_size: ((w >> 51) % 0x4) as u8,
     }
 }

@@ -2,12 +2,13 @@
 ghost use mathlib.Core.Path.{_≡_};
 ghost use Prim.Native.Nat.{_<_, _*_, _+_, _≤_, _^_};
 ghost use lib.ListN.{length, drop};
-ghost use Rattle.rdp_command.specs.Words.{halfOf, wordAt, numberIn, bytesOf, overwrite, pasted};
+ghost use Rattle.rdp_command.specs.Words.{halfOf, numberIn, bytesOf, overwrite, pasted};
 ghost use Rattle.rdp_command.specs.Decode.{wholeWords, ownWord};
+use crate::word_at;
 use crate::words_of;
 
 // The four bytes from an index on as a number.
-fn half_at(list: &[u8], at: usize) -> u64
+pub fn half_at(list: &[u8], at: usize) -> u64
     requires { ⌜ at + 4 ≤ length (now list) ⌝ }
     ensures { λ r. ⌜ (r ≡ halfOf (drop at (now (list .entry)))) × (r < 2 ^ 32) ⌝ }
 {
@@ -15,18 +16,6 @@ fn half_at(list: &[u8], at: usize) -> u64
         + (list[at + 1] as u64) * 0x1_0000
         + (list[at + 2] as u64) * 0x100
         + (list[at + 3] as u64)
-}
-
-// The word at a place of a list; 0 where the list has no whole word there.
-pub fn word_at(list: &[u8], place: usize) -> u64
-    ensures { λ r. ⌜ r ≡ wordAt (now (list .entry)) place ⌝ }
-{
-    if place < list.len() / 8 {
-        let at = 8 * place;
-        half_at(list, at) * 0x1_0000_0000 + half_at(list, at + 4)
-    } else {
-        0
-    }
 }
 
 // The number of the command that begins with a word.

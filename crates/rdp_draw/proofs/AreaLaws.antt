@@ -15,7 +15,7 @@ use Rattle.rdp_command.specs.declared.Image.{Image}
 use Rattle.rdp_command.specs.declared.Scissor.{Scissor}
 use Rattle.rdp_command.proofs.Tests.{by-test}
 use Rattle.rdp_draw.specs.declared.Area.{Area}
-use Rattle.rdp_draw.specs.declared.Fill.{Fill}
+use Rattle.rdp_command.specs.declared.FillFields.{FillFields}
 use Rattle.rdp_draw.specs.Fill.{bytesPerPixel, colorByte, covers, outside, painted, pixelAddress, rowKept}
 use Rattle.rdp_draw.specs.Meaning.{Covers, Kept}
 use Rattle.rdp_draw.specs.Overlay.{overlay, within}
@@ -85,7 +85,7 @@ module _ (o first from end : ℕ) (after : first ≤ from) (near : from ≤ firs
   second-parity : (k : ℕ) → (from + k * 2) % 2 ≡ o
   second-parity k = omega arith
 
-module _ (f : Fill) where
+module _ (f : FillFields) where
   -- with field set
   module _ (e : f .scissor .«field» ≡ true) where
     pub step-two : rowStep f ≡ 2
@@ -252,7 +252,7 @@ module _ (f : Fill) where
 
 -- ---- the area in a function
 
-module _ (f : Fill) (r : Area) (same : r ≡ areaOf f) (start : ℕ) where
+module _ (f : FillFields) (r : Area) (same : r ≡ areaOf f) (start : ℕ) where
   pub inside-area : (len : ℕ) → areaInside r start len ≡ not (outside f start len)
   inside-area len = rw same (sym (ap not (outside-runs f start len) ∙ Bool·not-not (areaInside (areaOf f) start len)))
 

@@ -5,11 +5,11 @@ use mathlib.Core.Path.{_≡_, refl, sym, ap, _∙_}
 use Prim.Native.Nat.{ℕ, _+_, _<_}
 use lib.Dec.{T}
 use lib.ListN.{length, getD}
-use Rattle.rdp_command.proofs.Tests.{true-of}
+use Rattle.rdp_command.proofs.Tests.{true-of, false-of}
 use Rattle.rdp_draw.specs.Fill.{colorByte, covers, painted}
 use Rattle.rdp_draw.specs.Draw.{Draw, drawsOf, drawAnswer, paintedAll, drawMemory}
 use Rattle.rdp_draw.specs.Refusals.{someCovers, LastCovers}
-use Rattle.rdp_draw.proofs.BoolLaws.{false-of, or-not}
+use Rattle.rdp_draw.proofs.BoolLaws.{or-not}
 use Rattle.rdp_draw.proofs.DrawLaws.{memory-kept, memory-painted}
 use Rattle.rdp_draw.proofs.OverlayLaws.{length-overlay, getD-overlay}
 

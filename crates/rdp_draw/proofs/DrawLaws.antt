@@ -10,20 +10,21 @@ use lib.Dec.{eqb, ltb}
 use lib.ListN.{length}
 use Rattle.rdp_command.specs.Kinds.{wordsOf}
 use Rattle.rdp_command.specs.declared.Answer.{Answer}
+use Rattle.rdp_command.specs.declared.FillWords.{FillWords}
+use Rattle.rdp_command.specs.declared.FillFields.{FillFields}
 use Rattle.rdp_command.proofs.Tests.{by-test}
 use Rattle.rdp_check.specs.Commands.{restOf}
 use Rattle.rdp_check.specs.Registers.{noRegisters}
 use Rattle.rdp_check.specs.Check.{checkOf}
 use Rattle.rdp_check.specs.Refusals.{tooLong, pastEnd}
 use Rattle.rdp_check.proofs.FirstLaws.{check-first}
-use Rattle.rdp_draw.specs.declared.walk.FillRegisters.{FillRegisters}
 use Rattle.rdp_draw.specs.declared.walk.Reached.{Reached}
 use Rattle.rdp_draw.specs.declared.Area.{Area}
 use Rattle.rdp_draw.specs.Fill.{outside, painted}
 use Rattle.rdp_draw.specs.Runs.{areaOf, areaInside}
 use Rattle.rdp_draw.proofs.AreaLaws.{outside-runs}
-use Rattle.rdp_draw.specs.Draw.{Draw, drawsOf, drawRefusal, answer, refusedAt, firstRefusal, drawAnswer, paintedAll, drawMemory}
-use Rattle.rdp_draw.specs.Seen.{seen, drawWith, Next, ReachedIs, Reaches}
+use Rattle.rdp_draw.specs.Draw.{Draw, drawOf, drawsOf, drawRefusal, answer, refusedAt, firstRefusal, drawAnswer, paintedAll, drawMemory}
+use Rattle.rdp_draw.specs.Seen.{seen, registersIn, drawWith, Next, ReachedIs, Reaches}
 use Rattle.rdp_draw.proofs.SeenLaws.{start-due}
 
 -- ---- a list that the check accepts
@@ -70,28 +71,32 @@ module _ (list : List ℕ) (start : ℕ) (memory : List ℕ) where
 
 -- ---- one draw
 
-module _ (start len : ℕ) (d : Draw) where
-  pub refusal-10 : not (d .fills) ≡ true → 10 ≡ drawRefusal start len d
+-- a draw by its place, its number and its fields
+module _ (start len place n : ℕ) {f fill : FillFields} (is : f ≡ fill) where
+  abbrev refusal : ℕ
+  refusal = drawRefusal start len (drawOf place n fill)
+
+  pub refusal-10 : not (drawOf place n f .fills) ≡ true → 10 ≡ refusal
   unfolding drawRefusal
-  refusal-10 e = rw e
+  refusal-10 e = rw (← is, e)
 
-  module _ (fills : not (d .fills) ≡ false) where
-    pub refusal-11 : (d .fill .image .address % 64 ≡ 0 → ⊥) → 11 ≡ drawRefusal start len d
+  module _ (fills : not (drawOf place n f .fills) ≡ false) where
+    pub refusal-11 : (f .image .address % 64 ≡ 0 → ⊥) → 11 ≡ refusal
     unfolding drawRefusal
-    refusal-11 h = rw (fills, ne-eqb _ _ h)
+    refusal-11 h = rw (← is, fills, ne-eqb _ _ h)
 
-    -- an area of the fill, and whether it is inside memory
-    module _ (aligned : d .fill .image .address % 64 ≡ 0) (r : Area) (is-r : r ≡ areaOf (d .fill)) (b : Bool) (is-b : b ≡ areaInside r start len) where
-      outside-is : outside (d .fill) start len ≡ not b
-      outside-is = outside-runs (d .fill) start len ∙ ap (λ (x : Area). not (areaInside x start len)) (sym is-r) ∙ ap not (sym is-b)
+    -- the area of the fill, and whether it is inside memory
+    module _ (aligned : f .image .address % 64 ≡ 0) (r : Area) (is-r : r ≡ areaOf f) (b : Bool) (is-b : b ≡ areaInside r start len) where
+      outside-is : outside f start len ≡ not b
+      outside-is = outside-runs f start len ∙ ap (λ (x : Area). not (areaInside x start len)) (sym is-r) ∙ ap not (sym is-b)
 
-      pub refusal-12 : b ≡ false → 12 ≡ drawRefusal start len d
+      pub refusal-12 : b ≡ false → 12 ≡ refusal
       unfolding drawRefusal
-      refusal-12 e = rw (fills, eq-eqb _ _ aligned, outside-is, e)
+      refusal-12 e = rw (← is, fills, eq-eqb _ _ aligned, outside-is, e)
 
-      pub refusal-0 : b ≡ true → 0 ≡ drawRefusal start len d
+      pub refusal-0 : b ≡ true → 0 ≡ refusal
       unfolding drawRefusal
-      refusal-0 e = rw (fills, eq-eqb _ _ aligned, outside-is, e)
+      refusal-0 e = rw (← is, fills, eq-eqb _ _ aligned, outside-is, e)
 
 -- a draw that is not refused has all its bytes in memory
 refusal-none : (start len : ℕ) (d : Draw) → drawRefusal start len d ≡ 0 → outside (d .fill) start len ≡ false
@@ -122,9 +127,9 @@ pub record Tests (list : List ℕ) (start len words : ℕ) (r : Reached) : Type 
   pub same : firstRefusal start len words ds ≡ firstRefusal start len words (drawsOf list)
 
 pub tests-first :
-    (list : List ℕ) (start len words : ℕ) → words ≡ length list / 8 → restOf list ≡ [] → (q : FillRegisters) → q ≡ seen noRegisters → (r : Reached) →
-    Reaches list 0 q r → Tests list start len words r
-tests-first list start len words e w q is-q r h = record { count = e; ds = drawsOf list; reached = h .1 _ (start-due list w q is-q); same = refl }
+    (list : List ℕ) (start len words : ℕ) → words ≡ length list / 8 → restOf list ≡ [] → (set : FillWords) → registersIn set ≡ seen noRegisters → (r : Reached) →
+    Reaches list 0 set r → Tests list start len words r
+tests-first list start len words e w set is-set r h = record { count = e; ds = drawsOf list; reached = h .1 _ (start-due list w set is-set); same = refl }
 
 module _ {list : List ℕ} {start len words : ℕ} {r : Reached} (t : Tests list start len words r) where
   pub tests-none : words ≤ r .place → answer 0 words ≡ firstRefusal start len words (drawsOf list)
@@ -136,7 +141,7 @@ module _ {list : List ℕ} {start len words : ℕ} {r : Reached} (t : Tests list
     next = t .reached .some (omega (arith, t .count))
 
     abbrev d : Draw
-    d = drawWith (r .registers) list (r .place) (r .number)
+    d = drawWith (r .set) list (r .place) (r .number)
 
     unrolled : refusedAt (drawRefusal start len d) (r .place) (firstRefusal start len words (next .others)) ≡ firstRefusal start len words (drawsOf list)
     unfolding firstRefusal
@@ -149,7 +154,7 @@ module _ {list : List ℕ} {start len words : ℕ} {r : Reached} (t : Tests list
           ap (λ (k : ℕ). refusedAt k (r .place) (firstRefusal start len words (next .others))) is ∙ unrolled
 
       pub tests-again :
-          g ≡ 0 → (k : ℕ) → k ≡ wordsOf (r .number) → (r′ : Reached) → Reaches list (r .place + k) (r .registers) r′ → Tests list start len words r′
+          g ≡ 0 → (k : ℕ) → k ≡ wordsOf (r .number) → (r′ : Reached) → Reaches list (r .place + k) (r .set) r′ → Tests list start len words r′
       tests-again e k is-k r′ h =
           record {
             count = t .count;
@@ -159,7 +164,7 @@ module _ {list : List ℕ} {start len words : ℕ} {r : Reached} (t : Tests list
                 ap (λ (k : ℕ). refusedAt k (r .place) (firstRefusal start len words (next .others))) (sym e ∙ is) ∙ unrolled;
           }
 
-    pub falls : (k : ℕ) → k ≡ wordsOf (r .number) → (r′ : Reached) → Reaches list (r .place + k) (r .registers) r′ → r .place < r′ .place
+    pub falls : (k : ℕ) → k ≡ wordsOf (r .number) → (r′ : Reached) → Reaches list (r .place + k) (r .set) r′ → r .place < r′ .place
     falls k is-k r′ h = omega (arith, h .0, next .some)
 
 -- ---- the loop that paints
@@ -175,10 +180,10 @@ pub record Paints (list : List ℕ) (start words : ℕ) (memory₀ memory : List
 
 pub paints-first :
     (list : List ℕ) (start words : ℕ) (memory : List ℕ) → words ≡ length list / 8 → restOf list ≡ [] →
-    firstRefusal start (length memory) words (drawsOf list) .number ≡ 0 → (q : FillRegisters) → q ≡ seen noRegisters → (r : Reached) →
-    Reaches list 0 q r → Paints list start words memory memory r
-paints-first list start words memory e w z q is-q r h =
-    record { count = e; ds = drawsOf list; reached = h .1 _ (start-due list w q is-q); long = refl; clear = z; same = refl }
+    firstRefusal start (length memory) words (drawsOf list) .number ≡ 0 → (set : FillWords) → registersIn set ≡ seen noRegisters → (r : Reached) →
+    Reaches list 0 set r → Paints list start words memory memory r
+paints-first list start words memory e w z set is-set r h =
+    record { count = e; ds = drawsOf list; reached = h .1 _ (start-due list w set is-set); long = refl; clear = z; same = refl }
 
 module _ {list : List ℕ} {start words : ℕ} {memory₀ memory : List ℕ} {r : Reached} (t : Paints list start words memory₀ memory r) where
   pub paints-none : words ≤ r .place → memory ≡ paintedAll start (drawsOf list) memory₀
@@ -190,7 +195,7 @@ module _ {list : List ℕ} {start words : ℕ} {memory₀ memory : List ℕ} {r 
     next-painted = t .reached .some (omega (arith, t .count))
 
     abbrev drawn : Draw
-    drawn = drawWith (r .registers) list (r .place) (r .number)
+    drawn = drawWith (r .set) list (r .place) (r .number)
 
     clears : (drawRefusal start (length memory) drawn ≡ 0) × (firstRefusal start (length memory) words (next-painted .others) .number ≡ 0)
     unfolding firstRefusal
@@ -202,7 +207,7 @@ module _ {list : List ℕ} {start words : ℕ} {memory₀ memory : List ℕ} {r 
 
     pub paints-again :
         (m : List ℕ) → m ≡ painted (drawn .fill) start memory → length m ≡ length memory → (k : ℕ) → k ≡ wordsOf (r .number) → (r′ : Reached) →
-        Reaches list (r .place + k) (r .registers) r′ → Paints list start words memory₀ m r′
+        Reaches list (r .place + k) (r .set) r′ → Paints list start words memory₀ m r′
     unfolding paintedAll
     paints-again m is-m same-length k is-k r′ h =
         record {
@@ -215,5 +220,5 @@ module _ {list : List ℕ} {start words : ℕ} {memory₀ memory : List ℕ} {r 
               ap (paintedAll start (next-painted .others)) is-m ∙ ap (λ (x : List Draw). paintedAll start x memory) (sym (next-painted .first)) ∙ t .same;
         }
 
-    pub paints-falls : (k : ℕ) → k ≡ wordsOf (r .number) → (r′ : Reached) → Reaches list (r .place + k) (r .registers) r′ → r .place < r′ .place
+    pub paints-falls : (k : ℕ) → k ≡ wordsOf (r .number) → (r′ : Reached) → Reaches list (r .place + k) (r .set) r′ → r .place < r′ .place
     paints-falls k is-k r′ h = omega (arith, h .0, next-painted .some)

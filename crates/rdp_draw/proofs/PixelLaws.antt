@@ -11,7 +11,7 @@ use borrow.Author.Tests.{eqb-true, eq-eqb, not-true}
 use lib.Dec.{eqb}
 use Rattle.rdp_command.specs.declared.Scissor.{Scissor}
 use Rattle.rdp_command.proofs.Tests.{by-test}
-use Rattle.rdp_draw.specs.declared.Fill.{Fill}
+use Rattle.rdp_command.specs.declared.FillFields.{FillFields}
 use Rattle.rdp_draw.specs.Fill.{bytesPerPixel, covers, kept, oneOf, outside, pixelAddress, rowKept, someByte}
 use Rattle.rdp_draw.specs.Meaning.{Covers, Kept}
 use Rattle.rdp_draw.specs.Overlay.{within}
@@ -46,7 +46,7 @@ pub row-kept-true : (s : Scissor) (y : ℕ) → (s .«field» ≡ true → y % 2
 unfolding rowKept
 row-kept-true s y h = by-test (s .«field») (λ e. rw e (eq-eqb (y % 2) (cond (s .odd) 1 0) (h e))) (λ e. rw e)
 
-module _ (f : Fill) (test : ℕ → Bool) where
+module _ (f : FillFields) (test : ℕ → Bool) where
   -- a byte of pixel (x, y), and of a pixel of row y, passes the test
   abbrev pixelTest : ℕ → ℕ → Bool
   pixelTest y x = kept (f .scissor) x y && oneOf (pixelAddress (f .image) x y) (bytesPerPixel (f .image .size)) test
@@ -128,7 +128,7 @@ module _ (f : Fill) (test : ℕ → Bool) where
 
 -- ---- the two tests of `Fill`
 
-module _ (f : Fill) where
+module _ (f : FillFields) where
   pub covers-sound : (a : ℕ) → covers f a ≡ true → Covers f a
   covers-sound a e =
       let r = some-is f (eqb a) e in

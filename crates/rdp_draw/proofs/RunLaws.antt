@@ -8,7 +8,7 @@ use native.Mathlib.Omega.{arith}
 use lib.ListN.{length}
 use Rattle.rdp_draw.specs.Fill.{colorByte}
 use Rattle.rdp_draw.specs.Overlay.{overlay, within}
-use Rattle.rdp_draw.specs.Pattern.{rotated}
+use Rattle.rdp_draw.specs.Pattern.{rotated, Holds, Written}
 use Rattle.rdp_draw.specs.Runs.{inRuns}
 use Rattle.rdp_draw.proofs.ColorLaws.{rotated-byte}
 use Rattle.rdp_draw.proofs.OverlayLaws.{within-false, within-joined, length-overlay, overlay-none, overlay-cong, overlay-values, overlay-overlay}
@@ -38,10 +38,15 @@ runs-adjacent from size (suc n) i =
 
 -- ---- the loop over the runs
 
--- the runs that are left, from index `at` on, fit, and make of memory what was promised
-pub record RunsLeft (promised : List ℕ) (v : ℕ → ℕ) (size stride at left : ℕ) (memory : List ℕ) : Type 0 where
+-- the runs of a colour that are left, from index `at` on: they fit, and make of memory what all of them make of what it was before
+pub record RunsLeft (before : List ℕ) (from size stride rows color : ℕ) (memory : List ℕ) (at left : ℕ) : Type 0 where
+  pub long : length memory ≡ length before
   pub fits : 0 < left → at + (left - 1) * stride + size ≤ length memory
-  pub due : promised ≡ overlay (inRuns at size stride left) v 0 memory
+  pub due : overlay (inRuns from size stride rows) (colorByte color) 0 before ≡ overlay (inRuns at size stride left) (colorByte color) 0 memory
+
+pub runs-all : (before : List ℕ) (from size stride rows color : ℕ) → from + (rows - 1) * stride + size ≤ length before
+    → RunsLeft before from size stride rows color before from rows
+runs-all before from size stride rows color h = record { long = refl; fits = λ _. h; due = refl }
 
 -- the runs after the first end where all do
 fits-next : (at size stride left len : ℕ) → at + (left - 1) * stride + size ≤ len → 0 < left - 1
@@ -51,26 +56,39 @@ fits-next at size stride left len h more =
     let step : (left - 1) * stride ≡ (left - 1 - 1) * stride + stride = ap (λ (n : ℕ). n * stride) e ∙ suc-mul (left - 1 - 1) stride in
     omega arith
 
-module _ {promised : List ℕ} {v : ℕ → ℕ} {size stride at left : ℕ} {memory : List ℕ} (r : RunsLeft promised v size stride at left memory) where
-  pub runs-next : {next : List ℕ} → 0 < left → next ≡ overlay (within at (at + size)) v 0 memory
-      → RunsLeft promised v size stride (at + stride) (left - 1) next
-  runs-next {next} h w =
-      let more : left ≡ suc (left - 1) = omega arith in
-      let same : length memory ≡ length next = sym (ap length w ∙ length-overlay (within at (at + size)) v 0 memory) in
-      record {
-        fits = λ k. rw (← same) (fits-next at size stride left (length memory) (r .fits h) k);
-        due =
-            r .due
-            ∙ ap (λ (n : ℕ). overlay (inRuns at size stride n) v 0 memory) more
-            ∙ runs-first at size stride v memory (left - 1)
-            ∙ ap (overlay (inRuns (at + stride) size stride (left - 1)) v 0) (sym w);
-      }
+module _ {before : List ℕ} {from size stride rows color : ℕ} {memory : List ℕ} {at left : ℕ}
+    (r : RunsLeft before from size stride rows color memory at left) where
+  abbrev v : ℕ → ℕ
+  v = colorByte color
 
-  pub runs-done : left ≡ 0 → memory ≡ promised
-  runs-done e =
+  pub runs-done : left ≤ 0 → memory ≡ overlay (inRuns from size stride rows) v 0 before
+  runs-done h =
+      let e : 0 ≡ left = omega arith in
       runs-none at size stride v memory
-      ∙ ap (λ (n : ℕ). overlay (inRuns at size stride n) v 0 memory) (sym e)
+      ∙ ap (λ (n : ℕ). overlay (inRuns at size stride n) v 0 memory) e
       ∙ sym (r .due)
+
+  module _ (more : 0 < left) where
+    -- the first of them ends inside memory
+    pub run-inside : at + size ≤ length memory
+    run-inside = omega (arith, r .fits more)
+
+    -- after the first is written from a pattern that holds the colour, the others are left
+    pub runs-next : {n : ℕ} {pattern next : List ℕ} → Holds color n pattern → length pattern ≡ n → Written (within at (at + size)) pattern memory next
+        → RunsLeft before from size stride rows color next (at + stride) (left - 1)
+    runs-next {next = next} holds whole written =
+        let w : next ≡ overlay (within at (at + size)) v 0 memory = written .is color (rw whole holds) in
+        let one : left ≡ suc (left - 1) = omega arith in
+        let same : length memory ≡ length next = sym (ap length w ∙ length-overlay (within at (at + size)) v 0 memory) in
+        record {
+          long = sym same ∙ r .long;
+          fits = λ k. rw (← same) (fits-next at size stride left (length memory) (r .fits more) k);
+          due =
+              r .due
+              ∙ ap (λ (n : ℕ). overlay (inRuns at size stride n) v 0 memory) one
+              ∙ runs-first at size stride v memory (left - 1)
+              ∙ ap (overlay (inRuns (at + stride) size stride (left - 1)) v 0) (sym w);
+        }
 
 -- ---- runs that are adjacent
 

@@ -1,5 +1,5 @@
 -- What the drawing's loops carry is a view of the registers, before and after each command, and leads them from draw to draw. Assumes nothing.
-use mathlib.Core.Bool.{Bool, true, false, cond, not, _&&_}
+use mathlib.Core.Bool.{Bool, true, false, cond, not}
 use mathlib.Core.List.{List, [], _∷_}
 use mathlib.Core.Path.{_≡_, refl, sym, _∙_, ap}
 use Prim.Native.Nat.{ℕ, _+_, _*_, _/_, _%_, _^_, _≤_, _<_}
@@ -11,9 +11,11 @@ use lib.ListN.{length, drop, length-drop}
 use Rattle.rdp_command.specs.Words.{wordAt, numberIn}
 use Rattle.rdp_command.specs.Kinds.{kindOf, wordsOf}
 use Rattle.rdp_command.specs.Commands.{numberOf}
-use Rattle.rdp_command.specs.Decode.{firstNumber, wholeWords, decodeOf, wordFields}
+use Rattle.rdp_command.specs.Decode.{firstNumber, wholeWords, decodeOf, cycleTypeIn, scissorIn, rectangleIn, fillColorIn, colorImageIn}
 use Rattle.rdp_command.specs.declared.Command.{Command}
-use Rattle.rdp_command.proofs.Tests.{below, by-test, same, same-bool}
+use Rattle.rdp_command.specs.declared.FillWords.{FillWords}
+use Rattle.rdp_command.specs.declared.FillFields.{FillFields}
+use Rattle.rdp_command.proofs.Tests.{below, by-test, false-of, same, same-bool}
 use Rattle.rdp_command.proofs.PlaceLaws.{number-small, some-words}
 use Rattle.rdp_command.proofs.ReadLaws.{decoded, decodes, decoded-number, reads-other-modes, reads-scissor, reads-fill-color, reads-color-image}
 use Rattle.rdp_check.specs.Commands.{commandsOf, restOf}
@@ -22,11 +24,9 @@ use Rattle.rdp_check.specs.Check.{draws}
 use Rattle.rdp_check.specs.declared.Registers.{Registers}
 use Rattle.rdp_check.proofs.KeptLaws.{keeps}
 use Rattle.rdp_check.proofs.ListLaws.{commandAt, commands-at, rest-at, commands-past, rest-past, command-word, command-number, command-there}
-use Rattle.rdp_draw.proofs.BoolLaws.{false-of, or-not}
-use Rattle.rdp_draw.specs.declared.walk.FillRegisters.{FillRegisters}
-use Rattle.rdp_draw.specs.Draw.{Draw, drawAt, drawsFrom, drawsOf}
-use Rattle.rdp_command.specs.declared.WordFields.{WordFields}
-use Rattle.rdp_draw.specs.Seen.{seen, sets, seenAfter, Due, Next, Reaches}
+use Rattle.rdp_draw.proofs.BoolLaws.{or-not}
+use Rattle.rdp_draw.specs.Draw.{Draw, drawOf, drawAt, drawsFrom, drawsOf}
+use Rattle.rdp_draw.specs.Seen.{FillRegisters, seen, registersIn, sets, seenAfter, setAfter, Due, Next, Reaches}
 
 -- ---- the kinds of steps
 
@@ -59,10 +59,31 @@ one-word n h e = eqb→eq (wordsOf n) 1 (rw e at (step-test n h))
 draw-keeps : (n : ℕ) → n < 64 → draws n ≡ true → sets n ≡ false
 draw-keeps n h e = false-of (sets n) (rw e at (step-test n h))
 
--- ---- the registers that are seen
+-- ---- the words that are set, and the registers that are seen
+
+-- four words of 0 show the registers before the first command
+pub none-seen : registersIn (record { modes = 0; scissor = 0; image = 0; color = 0 }) ≡ seen noRegisters
+unfolding seen noRegisters
+none-seen = refl
+
+cond-of : {A : Type 0} (f : ℕ → A) (b : Bool) (x y : ℕ) → f (cond b x y) ≡ cond b (f x) (f y)
+cond-of f true x y = refl
+cond-of f false x y = refl
+
+-- to set a word is to set its register
+set-seen : (set : FillWords) (w : ℕ) → registersIn (setAfter set (numberIn w) w) ≡ seenAfter (registersIn set) w
+unfolding setAfter seenAfter
+set-seen set w =
+    let n = numberIn w in
+    λ i. record {
+      «cycle_type» = cond-of cycleTypeIn (eqb n 0x2F) w (set .modes) i;
+      scissor = cond-of scissorIn (eqb n 0x2D) w (set .scissor) i;
+      image = cond-of colorImageIn (eqb n 0x3F) w (set .image) i;
+      color = cond-of fillColorIn (eqb n 0x37) w (set .color) i;
+    }
 
 -- a word of a command that sets none of them changes nothing
-pub seen-kept : (q : FillRegisters) (w : ℕ) → sets (numberIn w) ≡ false → seenAfter q (wordFields w) ≡ q
+pub seen-kept : (q : FillRegisters) (w : ℕ) → sets (numberIn w) ≡ false → seenAfter q w ≡ q
 unfolding sets seenAfter
 seen-kept q w e =
     let n = numberIn w in
@@ -84,7 +105,7 @@ module _ (r : Registers) (c : List ℕ) (there : wholeWords c ≡ 0 → ⊥) whe
   n = firstNumber c
 
   abbrev Result : Type 0
-  Result = seen (registersAfter r (decoded c there)) ≡ seenAfter (seen r) (wordFields (wordAt c 0))
+  Result = seen (registersAfter r (decoded c there)) ≡ seenAfter (seen r) (wordAt c 0)
 
   of-scissor : n ≡ 0x2D → Result
   unfolding seen seenAfter registersAfter
@@ -120,33 +141,30 @@ module _ (r : Registers) (c : List ℕ) (there : wholeWords c ≡ 0 → ⊥) whe
       by-test (eqb n 0x3F) (λ t. of-image (eqb-true _ _ t))
       (λ i. of-others (eqb-false _ _ s) (eqb-false _ _ m) (eqb-false _ _ f) (eqb-false _ _ i)))))
 
-  pub seen-after : seen (afterDecoded r (decodeOf c)) ≡ seenAfter (seen r) (wordFields (wordAt c 0))
+  pub seen-after : seen (afterDecoded r (decodeOf c)) ≡ seenAfter (seen r) (wordAt c 0)
   seen-after = ap (λ x. seen (afterDecoded r x)) (decodes c there) ∙ result
 
 -- ---- from draw to draw
 
-abbrev drawOf : FillRegisters → ℕ → ℕ → ℕ → Draw
-drawOf q at n w =
-    record {
-      place = at;
-      fills = eqb n 0x36 && eqb (q .«cycle_type») 3;
-      fill = record { rectangle = wordFields w .rectangle; scissor = q .scissor; image = q .image; color = q .color };
-    }
+-- a fill under registers that are seen, by its word
+abbrev fillUnder : FillRegisters → ℕ → FillFields
+fillUnder q w =
+    record { «cycle_type» = q .«cycle_type»; rectangle = rectangleIn w; scissor = q .scissor; image = q .image; color = q .color }
 
-draw-seen : (r : Registers) (at : ℕ) (c : List ℕ) → drawAt r at c ≡ drawOf (seen r) at (firstNumber c) (wordAt c 0)
+draw-seen : (r : Registers) (at : ℕ) (c : List ℕ) → drawAt r at c ≡ drawOf at (firstNumber c) (fillUnder (seen r) (wordAt c 0))
 unfolding seen
 draw-seen r at c = refl
 
-pub start-due : (list : List ℕ) → restOf list ≡ [] → (q : FillRegisters) → q ≡ seen noRegisters → Due list 0 q (drawsOf list)
-start-due list w q e = record { registers = noRegisters; sees = sym e; draws = refl; whole = w }
+pub start-due : (list : List ℕ) → restOf list ≡ [] → (set : FillWords) → registersIn set ≡ seen noRegisters → Due list 0 set (drawsOf list)
+start-due list w set e = record { registers = noRegisters; sees = sym e; draws = refl; whole = w }
 
 -- nothing is left
-pub due-none : {list : List ℕ} {at : ℕ} {q : FillRegisters} {ds : List Draw} → Due list at q ds → length list / 8 ≤ at → ds ≡ []
+pub due-none : {list : List ℕ} {at : ℕ} {set : FillWords} {ds : List Draw} → Due list at set ds → length list / 8 ≤ at → ds ≡ []
 unfolding drawsFrom
 due-none {list} {at} d h =
     sym (d .draws) ∙ rw (commands-past list at _ refl (omega (arith, h, some-words list at _ refl)))
 
-module _ {list : List ℕ} {at : ℕ} {q : FillRegisters} {ds : List Draw} (d : Due list at q ds) (more : at < length list / 8) (n : ℕ) (is : n ≡ numberIn (wordAt list at)) where
+module _ {list : List ℕ} {at : ℕ} {set : FillWords} {ds : List Draw} (d : Due list at set ds) (more : at < length list / 8) (n : ℕ) (is : n ≡ numberIn (wordAt list at)) where
   whole-at : at + wordsOf n ≤ length list / 8
   whole-at =
       by-test (ltb (length list / 8) (at + wordsOf n))
@@ -169,7 +187,7 @@ module _ {list : List ℕ} {at : ℕ} {q : FillRegisters} {ds : List Draw} (d : 
   small : n < 64
   small = rw is (number-small (wordAt list at))
 
-  sees-after : seen r′ ≡ seenAfter q (wordFields (wordAt list at))
+  sees-after : seen r′ ≡ seenAfter (registersIn set) (wordAt list at)
   sees-after = seen-after r c (command-there list at n is whole-at) ∙ rw (d .sees, command-word list at n is whole-at)
 
   abbrev rest : List Draw
@@ -183,21 +201,21 @@ module _ {list : List ℕ} {at : ℕ} {q : FillRegisters} {ds : List Draw} (d : 
   rest-whole = sym (rest-at list at n is whole-at) ∙ d .whole
 
   -- past a command that is no draw
-  pub step : draws n ≡ false → (q′ : FillRegisters) → q′ ≡ seenAfter q (wordFields (wordAt list at)) → Due list (at + 1) q′ ds
-  step e q′ is-q =
+  pub step : draws n ≡ false → (set′ : FillWords) → registersIn set′ ≡ seenAfter (registersIn set) (wordAt list at) → Due list (at + 1) set′ ds
+  step e set′ is-set =
       let one : wordsOf n ≡ 1 = one-word n small e in
       let onward : rest ≡ ds = sym (unrolled ∙ ap (λ (b : Bool). cond b (drawAt r at c ∷ rest) rest) e) in
       record {
         registers = r′;
-        sees = sees-after ∙ sym is-q;
+        sees = sees-after ∙ sym is-set;
         draws = ap (λ (k : ℕ). drawsFrom r′ (at + k) (commandsOf (drop (8 * (at + k)) list))) (sym one) ∙ onward;
         whole = rw one at rest-whole;
       }
 
-  pub skip : draws n ≡ false → sets n ≡ false → Due list (at + 1) q ds
-  skip e k = step e q (sym (seen-kept q (wordAt list at) (rw is at k)))
+  pub skip : draws n ≡ false → sets n ≡ false → Due list (at + 1) set ds
+  skip e k = step e set (sym (seen-kept (registersIn set) (wordAt list at) (rw is at k)))
 
-  pub reached : draws n ≡ true → Next list (record { place = at; number = n; registers = q }) ds
+  pub reached : draws n ≡ true → Next list (record { place = at; number = n; set = set }) ds
   reached e =
       record {
         some = some-words list at n is;
@@ -208,37 +226,38 @@ module _ {list : List ℕ} {at : ℕ} {q : FillRegisters} {ds : List Draw} (d : 
         due =
             record {
               registers = r′;
-              sees = sees-after ∙ seen-kept q (wordAt list at) (rw is at (draw-keeps n small e));
+              sees = sees-after ∙ seen-kept (registersIn set) (wordAt list at) (rw is at (draw-keeps n small e));
               draws = refl;
               whole = rest-whole;
             };
       }
 
 -- what holds at the head of the loop that looks for a draw: what was due at its start is due here
-pub record Walks (list : List ℕ) (from : ℕ) (q₀ : FillRegisters) (words : ℕ) (q : FillRegisters) (at : ℕ) : Type 0 where
+pub record Walks (list : List ℕ) (from : ℕ) (before : FillWords) (words : ℕ) (set : FillWords) (at : ℕ) : Type 0 where
   pub count : words ≡ length list / 8
   pub onward : from ≤ at
-  pub due : (ds : List Draw) → Due list from q₀ ds → Due list at q ds
+  pub due : (ds : List Draw) → Due list from before ds → Due list at set ds
 
-pub walk-first : (list : List ℕ) (from : ℕ) (q : FillRegisters) (words : ℕ) → words ≡ length list / 8 → Walks list from q words q from
-walk-first list from q words e = record { count = e; onward = le-refl from; due = λ ds d. d }
+pub walk-first : (list : List ℕ) (from : ℕ) (set : FillWords) (words : ℕ) → words ≡ length list / 8 → Walks list from set words set from
+walk-first list from set words e = record { count = e; onward = le-refl from; due = λ ds d. d }
 
-module _ {list : List ℕ} {from : ℕ} {q₀ : FillRegisters} {words : ℕ} {q : FillRegisters} {at : ℕ} (w : Walks list from q₀ words q at) where
-  pub walk-none : words ≤ at → (n : ℕ) → Reaches list from q₀ (record { place = at; number = n; registers = q })
+module _ {list : List ℕ} {from : ℕ} {before : FillWords} {words : ℕ} {set : FillWords} {at : ℕ} (w : Walks list from before words set at) where
+  pub walk-none : words ≤ at → (n : ℕ) → Reaches list from before (record { place = at; number = n; set = set })
   walk-none h n = (w .onward, λ ds d. record { some = λ l. absurd (omega (arith, w .count)); none = λ l. due-none (w .due ds d) l })
 
   module _ (more : at < words) (n : ℕ) (is : n ≡ numberIn (wordAt list at)) (b : Bool) (is-b : b ≡ draws n) where
     inside : at < length list / 8
     inside = omega (arith, w .count)
 
-    pub walk-found : b ≡ true → Reaches list from q₀ (record { place = at; number = n; registers = q })
+    pub walk-found : b ≡ true → Reaches list from before (record { place = at; number = n; set = set })
     walk-found t =
         (w .onward, λ ds d. record { some = λ l. reached (w .due ds d) inside n is (sym is-b ∙ t); none = λ l. absurd (omega arith) })
 
     module _ (f : b ≡ false) (s : Bool) (is-s : s ≡ sets n) where
-      pub walk-skip : s ≡ false → Walks list from q₀ words q (at + 1)
+      pub walk-skip : s ≡ false → Walks list from before words set (at + 1)
       walk-skip e = record { count = w .count; onward = omega (arith, w .onward); due = λ ds d. skip (w .due ds d) inside n is (sym is-b ∙ f) (sym is-s ∙ e) }
 
-      pub walk-set : (v : WordFields) → v ≡ wordFields (wordAt list at) → (q′ : FillRegisters) → q′ ≡ seenAfter q v → Walks list from q₀ words q′ (at + 1)
-      walk-set v is-v q′ is-q =
-          record { count = w .count; onward = omega (arith, w .onward); due = λ ds d. step (w .due ds d) inside n is (sym is-b ∙ f) q′ (is-q ∙ ap (seenAfter q) is-v) }
+      pub walk-set : (v : ℕ) → v ≡ wordAt list at → (set′ : FillWords) → set′ ≡ setAfter set n v → Walks list from before words set′ (at + 1)
+      walk-set v is-v set′ is-set =
+          let same : registersIn set′ ≡ seenAfter (registersIn set) (wordAt list at) = rw (is-set, is-v, is) (set-seen set (wordAt list at)) in
+          record { count = w .count; onward = omega (arith, w .onward); due = λ ds d. step (w .due ds d) inside n is (sym is-b ∙ f) set′ same }

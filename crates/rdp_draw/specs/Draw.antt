@@ -6,35 +6,35 @@ use lib.Dec.{eqb}
 use lib.ListN.{length}
 use Rattle.rdp_command.specs.Words.{wordAt}
 use Rattle.rdp_command.specs.Kinds.{wordsOf}
-use Rattle.rdp_command.specs.Decode.{firstNumber, wordFields, decodeOf}
+use Rattle.rdp_command.specs.Decode.{firstNumber, rectangleIn, decodeOf}
 use Rattle.rdp_command.specs.declared.Answer.{Answer}
 use Rattle.rdp_check.specs.Commands.{commandsOf}
 use Rattle.rdp_check.specs.Registers.{noRegisters, afterDecoded}
 use Rattle.rdp_check.specs.Check.{draws, outcomeOf}
 use Rattle.rdp_check.specs.declared.Registers.{Registers}
-use Rattle.rdp_draw.specs.declared.Fill.{Fill}
+use Rattle.rdp_command.specs.declared.FillFields.{FillFields}
 use Rattle.rdp_draw.specs.Fill.{outside, painted}
 
 -- a draw of a list: its place, whether it is a Fill Rectangle drawn in FILL mode (cycle type 3), and the fill that it then is
 pub record Draw : Type 0 where
   pub place : ℕ
   pub fills : Bool
-  pub fill : Fill
+  pub fill : FillFields
+
+abbrev pub drawOf : ℕ → ℕ → FillFields → Draw
+drawOf at number fill = record { place = at; fills = eqb number 0x36 && eqb (fill .«cycle_type») 3; fill = fill }
 
 -- a command as a draw, with the registers before it
 abbrev pub drawAt : Registers → ℕ → List ℕ → Draw
 drawAt r at c =
-    record {
-      place = at;
-      fills = eqb (firstNumber c) 0x36 && eqb (r .modes .other .modes .«cycle_type») 3;
-      fill =
-          record {
-            rectangle = wordFields (wordAt c 0) .rectangle;
-            scissor = r .modes .scissor .scissor;
-            image = r .images .color .image;
-            color = r .colors .fill .color;
-          };
-    }
+    drawOf at (firstNumber c)
+    (record {
+      «cycle_type» = r .modes .other .modes .«cycle_type»;
+      rectangle = rectangleIn (wordAt c 0);
+      scissor = r .modes .scissor .scissor;
+      image = r .images .color .image;
+      color = r .colors .fill .color;
+    })
 
 -- the draws among the commands from a place on
 unfoldable pub drawsFrom : Registers → ℕ → List (List ℕ) → List Draw

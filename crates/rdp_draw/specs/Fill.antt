@@ -5,7 +5,7 @@ use mathlib.Core.List.{List}
 use lib.Dec.{eqb}
 use Rattle.rdp_command.specs.declared.Image.{Image}
 use Rattle.rdp_command.specs.declared.Scissor.{Scissor}
-use Rattle.rdp_draw.specs.declared.Fill.{Fill}
+use Rattle.rdp_command.specs.declared.FillFields.{FillFields}
 use Rattle.rdp_draw.specs.Overlay.{overlay, within}
 
 -- "the byte at address a is byte a mod 4 of the fill colour, most significant first"
@@ -39,7 +39,7 @@ abbrev pub oneThrough : ℕ → ℕ → (ℕ → Bool) → Bool
 oneThrough first last test = oneOf first (suc last - first) test
 
 -- the address of a byte of a kept pixel passes the test. "Columns run from floor(left/4) to floor(right/4), both included; rows likewise"
-unfoldable pub someByte : Fill → (ℕ → Bool) → Bool
+unfoldable pub someByte : FillFields → (ℕ → Bool) → Bool
 someByte f test =
     let r = f .rectangle in
     oneThrough (r .«upper_left» .y / 4) (r .«lower_right» .y / 4)
@@ -47,13 +47,13 @@ someByte f test =
     (λ x. kept (f .scissor) x y && oneOf (pixelAddress (f .image) x y) (bytesPerPixel (f .image .size)) test))
 
 -- the fill covers address a: a kept pixel has a byte there
-abbrev pub covers : Fill → ℕ → Bool
+abbrev pub covers : FillFields → ℕ → Bool
 covers f a = someByte f (eqb a)
 
 -- a byte of a kept pixel is outside the memory of `len` bytes that starts at address `start`
-abbrev pub outside : Fill → ℕ → ℕ → Bool
+abbrev pub outside : FillFields → ℕ → ℕ → Bool
 outside f start len = someByte f (λ a. not (within start (start + len) a))
 
 -- memory that starts at address `start`, after the fill is drawn
-abbrev pub painted : Fill → ℕ → List ℕ → List ℕ
+abbrev pub painted : FillFields → ℕ → List ℕ → List ℕ
 painted f start memory = overlay (covers f) (colorByte (f .color)) start memory

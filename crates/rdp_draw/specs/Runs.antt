@@ -3,7 +3,7 @@ use Prim.Native.Nat.{ℕ, zero, suc, _+_, _-_, _*_, _/_, _≤_, min, max}
 use mathlib.Core.Bool.{Bool, false, cond, _&&_, _||_}
 use lib.Dec.{leb, eqb}
 use Rattle.rdp_draw.specs.declared.Area.{Area}
-use Rattle.rdp_draw.specs.declared.Fill.{Fill}
+use Rattle.rdp_command.specs.declared.FillFields.{FillFields}
 use Rattle.rdp_draw.specs.Fill.{bytesPerPixel, pixelAddress, rowKept}
 use Rattle.rdp_draw.specs.Overlay.{within}
 
@@ -19,37 +19,37 @@ firstKept near clip = max (near / 4) ((clip + 3) / 4)
 abbrev pub endKept : ℕ → ℕ → ℕ
 endKept far clip = min (far / 4 + 1) ((clip + 3) / 4)
 
-abbrev pub firstColumn : Fill → ℕ
+abbrev pub firstColumn : FillFields → ℕ
 firstColumn f = firstKept (f .rectangle .«upper_left» .x) (f .scissor .«upper_left» .x)
 
-abbrev pub endColumn : Fill → ℕ
+abbrev pub endColumn : FillFields → ℕ
 endColumn f = endKept (f .rectangle .«lower_right» .x) (f .scissor .«lower_right» .x)
 
-abbrev pub firstRow : Fill → ℕ
+abbrev pub firstRow : FillFields → ℕ
 firstRow f = firstKept (f .rectangle .«upper_left» .y) (f .scissor .«upper_left» .y)
 
-abbrev pub endRow : Fill → ℕ
+abbrev pub endRow : FillFields → ℕ
 endRow f = endKept (f .rectangle .«lower_right» .y) (f .scissor .«lower_right» .y)
 
 -- with field set every second row is kept, from the first that is
-unfoldable pub firstKeptRow : Fill → ℕ
+unfoldable pub firstKeptRow : FillFields → ℕ
 firstKeptRow f = cond (rowKept (f .scissor) (firstRow f)) (firstRow f) (firstRow f + 1)
 
-unfoldable pub keptRows : Fill → ℕ
+unfoldable pub keptRows : FillFields → ℕ
 keptRows f = cond (f .scissor .«field») ((endRow f - firstKeptRow f + 1) / 2) (endRow f - firstKeptRow f)
 
 -- from a kept row to the next, in rows and in bytes
-unfoldable pub rowStep : Fill → ℕ
+unfoldable pub rowStep : FillFields → ℕ
 rowStep f = cond (f .scissor .«field») 2 1
 
-abbrev pub strideOf : Fill → ℕ
+abbrev pub strideOf : FillFields → ℕ
 strideOf f = rowStep f * ((f .image .width + 1) * bytesPerPixel (f .image .size))
 
 -- the bytes of the kept pixels of a row
-abbrev pub runBytes : Fill → ℕ
+abbrev pub runBytes : FillFields → ℕ
 runBytes f = (endColumn f - firstColumn f) * bytesPerPixel (f .image .size)
 
-unfoldable pub areaOf : Fill → Area
+unfoldable pub areaOf : FillFields → Area
 areaOf f =
     record {
       first = pixelAddress (f .image) (firstColumn f) (firstKeptRow f);

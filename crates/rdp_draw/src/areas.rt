@@ -1,6 +1,6 @@
 // The bytes of a fill's kept pixels, as runs.
 use crate::Area;
-use crate::Fill;
+use rdp_command::FillFields;
 use rdp_command::Image;
 use rdp_command::Scissor;
 ghost use mathlib.Core.Path.{_≡_};
@@ -57,7 +57,7 @@ fn row_kept(scissor: Scissor, y: u64) -> bool
 }
 
 // The first row that the rectangle has and the scissor keeps, if there is one.
-fn first_kept_row(fill: Fill) -> u64
+fn first_kept_row(fill: FillFields) -> u64
     ensures { λ r. ⌜ (r ≡ firstKeptRow fill) × (r ≤ 16385) ⌝ }
 {
     let y = first_kept(fill.rectangle.upper_left.y, fill.scissor.upper_left.y);
@@ -66,7 +66,7 @@ fn first_kept_row(fill: Fill) -> u64
 }
 
 // The number of kept rows: with field set, every second one.
-fn kept_rows(fill: Fill) -> u64
+fn kept_rows(fill: FillFields) -> u64
     ensures { λ r. ⌜ (r ≡ keptRows fill) × (r ≤ 16384) ⌝ }
 {
     let first = first_kept_row(fill);
@@ -80,7 +80,7 @@ fn kept_rows(fill: Fill) -> u64
 }
 
 // From a kept row to the next, in bytes.
-fn stride_of(fill: Fill) -> u64
+fn stride_of(fill: FillFields) -> u64
     ensures { λ r. ⌜ (r ≡ strideOf fill) × (r ≤ 1048576) ⌝ }
 {
     let bytes = bytes_of(fill.image.width as u64 + 1, fill.image.size);
@@ -88,7 +88,7 @@ fn stride_of(fill: Fill) -> u64
 }
 
 // The bytes of the kept pixels of a row.
-fn run_bytes(fill: Fill) -> u64
+fn run_bytes(fill: FillFields) -> u64
     ensures { λ r. ⌜ (r ≡ runBytes fill) × (r ≤ 65536) ⌝ }
 {
     let first = first_kept(fill.rectangle.upper_left.x, fill.scissor.upper_left.x);
@@ -106,7 +106,7 @@ fn pixel_address(image: Image, x: u64, y: u64) -> u64
 }
 
 // The kept pixels of a fill as runs of bytes, a run for each kept row.
-pub fn area_of(fill: Fill) -> Area
+pub fn area_of(fill: FillFields) -> Area
     ensures { λ r. ⌜ (r ≡ areaOf fill) × Small r ⌝ }
 {
     let image = fill.image;

@@ -10,17 +10,6 @@ mod run;
 mod walk;
 
 use rdp_command::Answer;
-use rdp_command::Image;
-use rdp_command::Rectangle;
-use rdp_command::Scissor;
-
-// A fill rectangle with the registers that it is drawn under.
-pub struct Fill {
-    pub rectangle: Rectangle,
-    pub scissor: Scissor,
-    pub image: Image,
-    pub color: u32,
-}
 
 // The bytes of the kept pixels of a fill: `rows` runs of `size` bytes each, the first at the address `first`, each next one `stride` bytes on.
 pub struct Area {

@@ -7,13 +7,13 @@ ghost use lib.ListN.{length};
 ghost use Rattle.rdp_check.specs.Commands.{restOf};
 ghost use Rattle.rdp_draw.specs.Fill.{outside, painted};
 ghost use Rattle.rdp_draw.specs.Draw.{drawsOf, firstRefusal, paintedAll};
-use crate::Fill;
 use crate::areas;
 use crate::run;
 use crate::walk;
+use rdp_command::FillFields;
 
 // Paints a fill of which every byte is in memory.
-fn paint_fill(memory: &mut [u8], start: u64, fill: Fill)
+fn paint_fill(memory: &mut [u8], start: u64, fill: FillFields)
     requires { ⌜ outside fill start (length (now memory)) ≡ false ⌝ }
     ensures { λ _. ⌜ now (memory .exit) ≡ painted fill start (now (memory .entry)) ⌝ }
 {
@@ -39,14 +39,14 @@ pub fn paint_all(list: &[u8], words: usize, memory: &mut [u8], start: u64)
     requires { ⌜ firstRefusal start (length (now memory)) words (drawsOf (now list)) .number ≡ 0 ⌝ }
     ensures { λ _. ⌜ now (memory .exit) ≡ paintedAll start (drawsOf (now (list .entry))) (now (memory .entry)) ⌝ }
 {
-    let mut reached = walk::next_draw(list, 0, walk::no_registers());
+    let mut reached = walk::next_draw(list, 0, walk::none_set());
     while reached.place < words {
         paint_fill(
             memory,
             start,
-            walk::fill_at(list, reached.place, reached.registers),
+            walk::fill_at(list, reached.place, reached.set),
         );
         let next = reached.place + rdp_command::words_of(reached.number);
-        reached = walk::next_draw(list, next, reached.registers);
+        reached = walk::next_draw(list, next, reached.set);
     }
 }

@@ -13,16 +13,16 @@ use walk::Reached;
 
 // The first refusal of a draw, or 0.
 fn refusal_at(list: &[u8], at: Reached, start: u64, len: usize) -> u32
-    ensures { λ r. ⌜ r ≡ drawRefusal start len (drawWith (at .registers) (now (list .entry)) (at .place) (at .number)) ⌝ }
+    ensures { λ r. ⌜ r ≡ drawRefusal start len (drawWith (at .set) (now (list .entry)) (at .place) (at .number)) ⌝ }
 {
-    let q = at.registers;
-    if !((at.number == 0x36) & (q.cycle_type == 3)) {
+    let fill = walk::fill_at(list, at.place, at.set);
+    if !((at.number == 0x36) & (fill.cycle_type == 3)) {
         return 10;
     }
-    if q.image.address % 64 != 0 {
+    if fill.image.address % 64 != 0 {
         return 11;
     }
-    let area = areas::area_of(walk::fill_at(list, at.place, q));
+    let area = areas::area_of(fill);
     if areas::is_inside(area, start, len) {
         return 0;
     }
@@ -34,7 +34,7 @@ pub fn first_refusal(list: &[u8], words: usize, start: u64, len: usize) -> Answe
     requires { ⌜ (words ≡ length (now list) / 8) × ((words ≤ 4096) × (restOf (now list) ≡ [])) ⌝ }
     ensures { λ r. ⌜ r ≡ firstRefusal start len words (drawsOf (now (list .entry))) ⌝ }
 {
-    let mut reached = walk::next_draw(list, 0, walk::no_registers());
+    let mut reached = walk::next_draw(list, 0, walk::none_set());
     while reached.place < words {
         let number = refusal_at(list, reached, start, len);
         let place = reached.place;
@@ -45,7 +45,7 @@ pub fn first_refusal(list: &[u8], words: usize, start: u64, len: usize) -> Answe
             };
         }
         let next = place + rdp_command::words_of(reached.number);
-        reached = walk::next_draw(list, next, reached.registers);
+        reached = walk::next_draw(list, next, reached.set);
     }
     Answer {
         number: 0,

@@ -1,51 +1,29 @@
-// The walk over the draws of a list, with the registers that fills are drawn under.
+// The walk over the draws of a list, with the words that set what fills are drawn under.
 ghost use mathlib.Core.Path.{_≡_};
 ghost use Prim.Native.Nat.{_<_};
 ghost use Rattle.rdp_command.specs.Words.{wordAt};
-ghost use Rattle.rdp_command.specs.Decode.{wordFields};
+ghost use Rattle.rdp_command.specs.Decode.{fillFields};
 ghost use Rattle.rdp_check.specs.Check.{draws};
 ghost use Rattle.rdp_check.specs.Registers.{noRegisters};
-ghost use Rattle.rdp_draw.specs.Seen.{seen, sets, seenAfter, fillWith, Reaches};
-use crate::Fill;
-use rdp_command::Corner;
-use rdp_command::Image;
-use rdp_command::Scissor;
-use rdp_command::WordFields;
+ghost use Rattle.rdp_draw.specs.Seen.{seen, sets, registersIn, setAfter, Reaches};
+use rdp_command::FillFields;
+use rdp_command::FillWords;
 
-// The registers that a fill is drawn under.
-pub struct FillRegisters {
-    pub cycle_type: u8,
-    pub scissor: Scissor,
-    pub image: Image,
-    pub color: u32,
-}
-
-// A draw: its place, its number and the registers there. Where there is none, the place is the number of words.
+// A draw: its place, its number and the words that set what it is drawn under. Where there is none, the place is the number of words.
 pub struct Reached {
     pub place: usize,
     pub number: u8,
-    pub registers: FillRegisters,
+    pub set: FillWords,
 }
 
-// The registers before the first command.
-pub fn no_registers() -> FillRegisters
-    ensures { λ r. ⌜ r ≡ seen noRegisters ⌝ }
+// The words before the first command: none has come.
+pub fn none_set() -> FillWords
+    ensures { λ r. ⌜ registersIn r ≡ seen noRegisters ⌝ }
 {
-    let corner = Corner { x: 0, y: 0 };
-    FillRegisters {
-        cycle_type: 0,
-        scissor: Scissor {
-            upper_left: corner,
-            field: false,
-            odd: false,
-            lower_right: corner,
-        },
-        image: Image {
-            format: 0,
-            size: 0,
-            width: 0,
-            address: 0,
-        },
+    FillWords {
+        modes: 0,
+        scissor: 0,
+        image: 0,
         color: 0,
     }
 }
@@ -64,29 +42,26 @@ fn is_setter(number: u8) -> bool
     (0x8080_A000_0000_0000u64 >> number) % 2 == 1
 }
 
-// The registers after a command, by its first word.
-fn after(q: FillRegisters, w: WordFields) -> FillRegisters
-    ensures { λ r. ⌜ r ≡ seenAfter q w ⌝ }
+// The words after a command, by its number and its first word.
+fn after(set: FillWords, number: u8, w: u64) -> FillWords
+    ensures { λ r. ⌜ r ≡ setAfter set number w ⌝ }
 {
-    let mut r = q;
-    let number = w.number;
+    let mut r = set;
     match number {
         0x2D => {
-            let scissor = w.scissor;
-            r.scissor = scissor;
+            r.scissor = w;
             return r;
         }
         0x2F => {
-            r.cycle_type = w.cycle_type;
+            r.modes = w;
             return r;
         }
         0x37 => {
-            r.color = w.fill_color;
+            r.color = w;
             return r;
         }
         0x3F => {
-            let image = w.color_image;
-            r.image = image;
+            r.image = w;
             return r;
         }
         _ => return r,
@@ -94,11 +69,11 @@ fn after(q: FillRegisters, w: WordFields) -> FillRegisters
 }
 
 // The first draw from a place on. Every other command has one word.
-pub fn next_draw(list: &[u8], from: usize, registers: FillRegisters) -> Reached
-    ensures { λ r. ⌜ Reaches (now (list .entry)) from registers r ⌝ }
+pub fn next_draw(list: &[u8], from: usize, before: FillWords) -> Reached
+    ensures { λ r. ⌜ Reaches (now (list .entry)) from before r ⌝ }
 {
     let words = list.len() / 8;
-    let mut q = registers;
+    let mut set = before;
     let mut at = from;
     while at < words {
         let head = rdp_command::head_at(list, at);
@@ -107,11 +82,11 @@ pub fn next_draw(list: &[u8], from: usize, registers: FillRegisters) -> Reached
             return Reached {
                 place: at,
                 number,
-                registers: q,
+                set,
             };
         }
         if is_setter(number) {
-            q = after(q, rdp_command::read_at(list, at));
+            set = after(set, number, rdp_command::word_at(list, at));
             at += 1;
             continue;
         }
@@ -120,22 +95,13 @@ pub fn next_draw(list: &[u8], from: usize, registers: FillRegisters) -> Reached
     Reached {
         place: at,
         number: 0,
-        registers: q,
+        set,
     }
 }
 
-// A fill rectangle at a place, with registers.
-pub fn fill_at(list: &[u8], place: usize, q: FillRegisters) -> Fill
-    ensures { λ r. ⌜ r ≡ fillWith q (wordFields (wordAt (now (list .entry)) place) .rectangle) ⌝ }
+// A fill rectangle at a place, with what it is drawn under.
+pub fn fill_at(list: &[u8], place: usize, set: FillWords) -> FillFields
+    ensures { λ r. ⌜ r ≡ fillFields set (wordAt (now (list .entry)) place) ⌝ }
 {
-    let w = rdp_command::read_at(list, place);
-    let rectangle = w.rectangle;
-    let scissor = q.scissor;
-    let image = q.image;
-    Fill {
-        rectangle,
-        scissor,
-        image,
-        color: q.color,
-    }
+    rdp_command::fill_fields(set, rdp_command::word_at(list, place))
 }

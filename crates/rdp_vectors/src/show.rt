@@ -73,7 +73,7 @@ fn show(list: &[u8]) {
 }
 
 fn show_command(list: &[u8], command: Command) {
-    let first = rdp_command::read_at(list, 0);
+    let first = rdp_command::head_at(list, 0);
     let number = first.number;
     text::hex(number as u64, 2);
     let mut numbers = [0u64; 37];

@@ -36,17 +36,11 @@ pub fn word(w: u64) {
     hex(w, 16);
 }
 
-// The word at a place of a list.
-pub fn word_at(list: &[u8], place: usize) -> u64 {
-    let read = rdp_command::read_at(list, place);
-    read.word
-}
-
 // The whole words of bytes.
 pub fn words(bytes: &[u8]) {
     let mut place = 0;
     while place < bytes.len() / 8 {
-        word(word_at(bytes, place));
+        word(rdp_command::word_at(bytes, place));
         place += 1;
     }
 }

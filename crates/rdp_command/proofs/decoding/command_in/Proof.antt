@@ -4,7 +4,7 @@ use mathlib.Core.Path.{ap, refl, _∙_}
 use borrow.Author.Tests.{ne-eqb}
 use Rattle.rdp_command.specs.Layout.{layout}
 use Rattle.rdp_command.specs.Commands.{commandOf}
-use Rattle.rdp_command.specs.declared.Command.the-variants.{FillTriangle, TextureRectangle, TextureRectangleFlip, SetKeyGb, SetKeyR, SetConvert, SetScissor, SetPrimitiveDepth, SetOtherModes, LoadTlut, SetTileSize, LoadBlock, LoadTile, SetTile, FillRectangle, SetFogColor, SetBlendColor, SetPrimitiveColor, SetEnvironmentColor, SetTextureImage, SetColorImage}
+use Rattle.rdp_command.specs.declared.Command.the-variants.{FillTriangle, TextureRectangle, TextureRectangleFlip, SetKeyGb, SetKeyR, SetConvert, SetScissor, SetPrimitiveDepth, SetOtherModes, LoadTlut, SetTileSize, LoadBlock, LoadTile, SetTile, FillRectangle, SetFillColor, SetFogColor, SetBlendColor, SetPrimitiveColor, SetEnvironmentColor, SetTextureImage, SetColorImage}
 use Rattle.rdp_command.specs.declared.decoding.Base.{Base}
 use Rattle.rdp_command.proofs.CommandLaws.{at-number, at-triangle}
 use borrow.Author.Needs.{needs}
@@ -134,12 +134,12 @@ returns-19 : tie.Need-returns-19
 unfolding commandOf layout
 returns-19 c = at-number (words (c .before .before .before .args .base)) (c .before .match .keys18) (ap FillRectangle (c .rectangle .ensures))
 
-cast-t21 : tie.Need-cast-t21
-cast-t21 c = search needs
+fill-color-requires : tie.Need-fill-color-requires
+fill-color-requires c κs = search needs
 
 returns-20 : tie.Need-returns-20
 unfolding commandOf layout
-returns-20 c = at-number (words (c .before .before .before .args .base)) (c .before .match .keys19) refl
+returns-20 c = at-number (words (c .before .before .before .args .base)) (c .before .match .keys19) (ap SetFillColor (c .fill-color .ensures))
 
 color-requires : tie.Need-color-requires
 color-requires c κs = search needs
@@ -180,8 +180,8 @@ returns-26 : tie.Need-returns-26
 unfolding commandOf layout
 returns-26 c = at-number (words (c .before .before .before .args .base)) (c .before .match .keys25) (ap SetTextureImage (c .image .ensures))
 
-cast-t29 : tie.Need-cast-t29
-cast-t29 c = search needs
+cast-t28 : tie.Need-cast-t28
+cast-t28 c = search needs
 
 returns-27 : tie.Need-returns-27
 unfolding commandOf layout
@@ -267,7 +267,7 @@ command-in-spec =
     returns-18
     rectangle-requires
     returns-19
-    cast-t21
+    fill-color-requires
     returns-20
     color-requires
     returns-21
@@ -280,7 +280,7 @@ command-in-spec =
     returns-25
     image-requires
     returns-26
-    cast-t29
+    cast-t28
     returns-27
     color-image-requires
     returns-28

@@ -6,17 +6,17 @@ use borrow.Author.Needs.{needs}
 use Rattle.rdp_command.proofs.read.other_modes.Statement.{statement}
 use Rattle.rdp_command.proofs.read.other_modes.Tie as tie
 
-cast-t7 : tie.Need-cast-t7
-cast-t7 c = search needs
+cycle-type-requires : tie.Need-cycle-type-requires
+cycle-type-requires c κs = search needs
 
 texture-modes-requires : tie.Need-texture-modes-requires
 texture-modes-requires c κs = search needs
 
-cast-t14 : tie.Need-cast-t14
-cast-t14 c = search needs
+cast-t12 : tie.Need-cast-t12
+cast-t12 c = search needs
 
-cast-t17 : tie.Need-cast-t17
-cast-t17 c = search needs
+cast-t15 : tie.Need-cast-t15
+cast-t15 c = search needs
 
 blender-inputs-requires : tie.Need-blender-inputs-requires
 blender-inputs-requires c κs = search needs
@@ -26,10 +26,10 @@ pixel-modes-requires c κs = search needs
 
 returns : tie.Need-returns
 returns c =
-    let vs = fieldsOf otherModesLines (c .before .before .before .args .w ∷ []) in
+    let vs = fieldsOf otherModesLines (c .before .before .before .before .args .w ∷ []) in
     λ i. record {
       «atomic_prim» = flagAt vs 0;
-      «cycle_type» = natAt vs 1;
+      «cycle_type» = c .before .before .before .cycle-type .ensures i;
       texture = c .before .before .texture-modes .ensures i;
       «key_en» = flagAt vs 13;
       «rgb_dither_sel» = natAt vs 14;
@@ -42,10 +42,10 @@ pub other-modes-spec : {M : Type 1} → statement M
 other-modes-spec =
     tie.close
     (tie.spec
-    cast-t7
+    cycle-type-requires
     texture-modes-requires
-    cast-t14
-    cast-t17
+    cast-t12
+    cast-t15
     blender-inputs-requires
     pixel-modes-requires
     returns)

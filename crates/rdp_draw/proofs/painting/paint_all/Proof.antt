@@ -16,8 +16,8 @@ Inv-loop list words memory₀ start reached₀ memory reached = Paints list star
 abbrev μ-loop : tie.MeasureT-loop
 μ-loop list words memory₀ start reached₀ memory reached = words - reached .place
 
-no-registers-requires : tie.Need-no-registers-requires Inv-loop μ-loop
-no-registers-requires c κs = search needs
+none-set-requires : tie.Need-none-set-requires Inv-loop μ-loop
+none-set-requires c κs = search needs
 
 next-draw-requires : tie.Need-next-draw-requires Inv-loop μ-loop
 next-draw-requires c κs = search needs
@@ -25,7 +25,7 @@ next-draw-requires c κs = search needs
 loop-holds : tie.Need-loop-holds Inv-loop μ-loop
 loop-holds c =
     let p = c .before .before .before .before .pre in
-    paints-first _ _ _ _ (p .0 .0) (p .0 .1 .1) (p .1) _ (c .before .no-registers .ensures) _ (c .next-draw .ensures)
+    paints-first _ _ _ _ (p .0 .0) (p .0 .1 .1) (p .1) _ (c .before .none-set .ensures) _ (c .next-draw .ensures)
 
 fill-at-requires : tie.Need-fill-at-requires Inv-loop μ-loop
 fill-at-requires c κs = search needs
@@ -76,7 +76,7 @@ paint-all-spec =
     (tie.spec
     Inv-loop
     μ-loop
-    no-registers-requires
+    none-set-requires
     next-draw-requires
     loop-holds
     fill-at-requires

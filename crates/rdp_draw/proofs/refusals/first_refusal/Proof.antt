@@ -13,8 +13,8 @@ Inv-loop list words start len reached₀ reached = Tests list start len words re
 abbrev μ-loop : tie.MeasureT-loop
 μ-loop list words start len reached₀ reached = words - reached .place
 
-no-registers-requires : tie.Need-no-registers-requires Inv-loop μ-loop
-no-registers-requires c κs = search needs
+none-set-requires : tie.Need-none-set-requires Inv-loop μ-loop
+none-set-requires c κs = search needs
 
 next-draw-requires : tie.Need-next-draw-requires Inv-loop μ-loop
 next-draw-requires c κs = search needs
@@ -22,7 +22,7 @@ next-draw-requires c κs = search needs
 loop-holds : tie.Need-loop-holds Inv-loop μ-loop
 loop-holds c =
     let p = c .before .before .before .pre in
-    tests-first _ _ _ _ (p .0) (p .1 .1) _ (c .before .no-registers .ensures) _ (c .next-draw .ensures)
+    tests-first _ _ _ _ (p .0) (p .1 .1) _ (c .before .none-set .ensures) _ (c .next-draw .ensures)
 
 refusal-at-requires : tie.Need-refusal-at-requires Inv-loop μ-loop
 refusal-at-requires c κs = search needs
@@ -72,7 +72,7 @@ first-refusal-spec =
     (tie.spec
     Inv-loop
     μ-loop
-    no-registers-requires
+    none-set-requires
     next-draw-requires
     loop-holds
     refusal-at-requires

@@ -10,10 +10,10 @@ use Rattle.rdp_draw.proofs.walk.next_draw.Statement.{statement}
 use Rattle.rdp_draw.proofs.walk.next_draw.Tie as tie
 
 abbrev Inv-loop : tie.InvT-loop
-Inv-loop list from words q₀ at₀ q at = Walks list from q₀ words q at
+Inv-loop list from words before at₀ set at = Walks list from before words set at
 
 abbrev μ-loop : tie.MeasureT-loop
-μ-loop list from words q₀ at₀ q at = words - at
+μ-loop list from words before at₀ set at = words - at
 
 loop-holds : tie.Need-loop-holds Inv-loop μ-loop
 loop-holds c = walk-first _ _ _ _ refl
@@ -32,8 +32,8 @@ returns c =
 is-setter-requires : tie.Need-is-setter-requires Inv-loop μ-loop
 is-setter-requires c κs = rw (c .before .before .head-at .ensures) (number-small _)
 
-read-at-requires : tie.Need-read-at-requires Inv-loop μ-loop
-read-at-requires c κs = search needs
+word-at-requires : tie.Need-word-at-requires Inv-loop μ-loop
+word-at-requires c κs = search needs
 
 after-requires : tie.Need-after-requires Inv-loop μ-loop
 after-requires c κs = search needs
@@ -52,7 +52,7 @@ loop-again c =
     let d = s .before .before in
     let l = d .before .before in
     walk-set (l .before .loop .inv) (l .loop-test .taken) _ (ap (λ x. x .number) (d .before .head-at .ensures)) _ (d .is-draw .ensures) (s .before .if1 .left) _
-    (s .is-setter .ensures) _ (c .before .read-at .ensures) _ (c .after .ensures)
+    (s .is-setter .ensures) _ (c .before .word-at .ensures) _ (c .after .ensures)
 
 add-at-2 : tie.Need-add-at-2 Inv-loop μ-loop
 add-at-2 c = search needs
@@ -82,7 +82,7 @@ next-draw-spec =
     is-draw-requires
     returns
     is-setter-requires
-    read-at-requires
+    word-at-requires
     after-requires
     add-at
     loop-less
