@@ -2,32 +2,30 @@
 use mathlib.Core.Bool.{Bool, true, false, cond, not, _&&_, _||_, true≢false, and-true, and-false, or-false, Bool·not-not}
 use mathlib.Core.List.{List}
 use mathlib.Core.Path.{_≡_, refl, sym, _∙_, ap}
-use Prim.Native.Nat.{ℕ, zero, suc, _/_, _%_, _≤_, _<_}
+use Prim.Native.Nat.{ℕ, zero, suc, _/_, _%_, _^_, _≤_, _<_}
 use native.Mathlib.Omega.{arith}
 use borrow.Author.Tests.{ne-eqb, eqb-true, eqb-false}
-use lib.Dec.{T, eqb}
+use lib.Dec.{eqb}
 use Rattle.rdp_command.specs.Words.{wordAt}
-use Rattle.rdp_command.specs.Kinds.{kindOf, wordsOf}
+use Rattle.rdp_command.specs.Kinds.{kindOf, hasBit, wordsOf}
 use Rattle.rdp_command.specs.Commands.{numberOf}
 use Rattle.rdp_command.specs.Decode.{firstNumber, wholeWords, decodeOf, headOf}
 use Rattle.rdp_command.specs.declared.Command.{Command}
-use Rattle.rdp_command.proofs.Tests.{each, below, by-test, same, same-bool}
+use Rattle.rdp_command.proofs.Tests.{by-test, neither}
 use Rattle.rdp_check.specs.Hazards.{nextOf, requiredOf, entryOf}
 use Rattle.rdp_check.specs.Registers.{registersAfter, afterDecoded}
 use Rattle.rdp_check.specs.Check.{State, afterCommand, draws, refusalOf, refusalAt}
-use Rattle.rdp_check.specs.View.{code, drawRefusal, view, viewOf, restAfter, viewAfter, orElse, refusalWith, restRefusal, viewRefusal, sets, isWatched, bitAt, Watches, AdvancedIs}
+use Rattle.rdp_check.specs.View.{code, drawRefusal, view, viewOf, restAfter, viewAfter, orElse, refusalWith, restRefusal, viewRefusal, sets, isWatched, Watches, AdvancedIs}
 use Rattle.rdp_check.specs.declared.Registers.{Registers}
 use Rattle.rdp_command.specs.declared.Head.{Head}
 use Rattle.rdp_check.specs.declared.walk.Rest.{Rest}
 use Rattle.rdp_check.specs.declared.walk.View.{View}
 use Rattle.rdp_check.proofs.KeptLaws.{keeps}
 use Rattle.rdp_check.proofs.HazardLaws.{EntryParts, entry-parts, required-most}
+use Rattle.rdp_command.proofs.KindLaws.{bits-by}
 use Rattle.rdp_command.proofs.ReadLaws.{decoded, decodes, decoded-number, reads-other-modes, reads-scissor, reads-color-image}
 
 -- ---- command numbers as bits
-
-bits-by : (numbers : ℕ) (f : ℕ → Bool) → T (each (λ k. same (bitAt numbers k) (f k)) 64) → (n : ℕ) → n < 64 → bitAt numbers n ≡ f n
-bits-by numbers f t n h = same-bool _ _ (below 64 (λ k. same (bitAt numbers k) (f k)) t n h)
 
 -- the constants of the code
 abbrev pub setterBits : ℕ
@@ -45,30 +43,26 @@ allBits = 0xFFFF_FFFF_FFFF_FFFF
 abbrev pub longBits : ℕ
 longBits = 0x0000_0030_0000_FF00
 
-pub setters-by : (n : ℕ) → n < 64 → bitAt setterBits n ≡ sets n
+pub setters-by : (n : ℕ) → n < 64 → hasBit (2 ^ n) setterBits ≡ sets n
 unfolding sets
 setters-by = bits-by _ sets tt
 
-pub draws-by : (n : ℕ) → n < 64 → bitAt drawBits n ≡ draws n
+pub draws-by : (n : ℕ) → n < 64 → hasBit (2 ^ n) drawBits ≡ draws n
 unfolding draws kindOf
 draws-by = bits-by _ draws tt
 
-setters-and-draws-by : (n : ℕ) → n < 64 → bitAt setterAndDrawBits n ≡ sets n || draws n
+setters-and-draws-by : (n : ℕ) → n < 64 → hasBit (2 ^ n) setterAndDrawBits ≡ sets n || draws n
 unfolding sets draws kindOf
 setters-and-draws-by = bits-by _ (λ n. sets n || draws n) tt
 
-all-by : (n : ℕ) → n < 64 → bitAt allBits n ≡ true
+all-by : (n : ℕ) → n < 64 → hasBit (2 ^ n) allBits ≡ true
 all-by = bits-by _ (λ n. true) tt
 
-pub one-word : (n : ℕ) → n < 64 → not (bitAt longBits n) ≡ true → 1 ≡ wordsOf n
+pub one-word : (n : ℕ) → n < 64 → not (hasBit (2 ^ n) longBits) ≡ true → 1 ≡ wordsOf n
 unfolding wordsOf kindOf
 one-word n h e = sym (eqb-true _ _ (sym (Bool·not-not (eqb (wordsOf n) 1)) ∙ ap not (sym (bits-by longBits (λ k. not (eqb (wordsOf k) 1)) tt n h)) ∙ e))
 
 -- which of the four a setter is
-neither : (a b : Bool) → a || b ≡ false → (a ≡ false) × (b ≡ false)
-neither true b e = absurd (true≢false e)
-neither false b e = (refl, e)
-
 pub record SetsNone (n : ℕ) : Type 0 where
   pub full : eqb n 0x29 ≡ false
   pub scissor : eqb n 0x2D ≡ false

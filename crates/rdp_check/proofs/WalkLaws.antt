@@ -2,7 +2,7 @@
 use mathlib.Core.Path.{_≡_, refl, sym, _∙_, ap}
 use mathlib.Core.Bool.{Bool, true, false, cond, not, _&&_, false≢true}
 use mathlib.Core.List.{List, [], _∷_}
-use Prim.Native.Nat.{ℕ, zero, suc, _+_, _*_, _-_, _/_, _≤_, _<_}
+use Prim.Native.Nat.{ℕ, zero, suc, _+_, _*_, _-_, _/_, _^_, _≤_, _<_}
 use native.Mathlib.Nat.{mod-eq-of-lt}
 use native.Mathlib.Omega.{arith}
 use borrow.Author.Tests.{ltb-true}
@@ -10,12 +10,12 @@ use lib.Dec.{ltb}
 use lib.ListN.{length, getD, drop, drop-of-length-le}
 use lib.Seq.{drop-cons}
 use Rattle.rdp_command.specs.Words.{wordAt, numberIn}
-use Rattle.rdp_command.specs.Kinds.{wordsOf}
+use Rattle.rdp_command.specs.Kinds.{hasBit, wordsOf}
 use Rattle.rdp_command.specs.Decode.{firstNumber, headOf}
 use Rattle.rdp_check.specs.Hazards.{nextOf, requiredOf, entryOf}
 use Rattle.rdp_check.specs.Commands.{commandsFrom, restFrom, commandsOf, restOf}
 use Rattle.rdp_check.specs.Check.{State, start, afterCommand, refusalAt, Outcome, outcome, settle, judge, judgeList, checked}
-use Rattle.rdp_check.specs.View.{viewOf, viewAfter, refusalWith, viewRefusal, bitAt, Watches, answerAt}
+use Rattle.rdp_check.specs.View.{viewOf, viewAfter, refusalWith, viewRefusal, Watches, answerAt}
 use Rattle.rdp_command.specs.declared.Head.{Head}
 use Rattle.rdp_check.specs.declared.walk.Rest.{Rest}
 use Rattle.rdp_check.specs.declared.walk.View.{View}
@@ -162,7 +162,7 @@ small h w is-h = rw (number-is h w is-h) (number-small w)
 module _ {strict : Bool} {list : List ℕ} {words : ℕ} {v : View} {at : ℕ} where
   pub turn :
       (w : Walked strict list words v at) (numbers : ℕ) → Watches numbers (v .rest) → at < words → (h : Head) → h ≡ headOf (wordAt list at) → (e : ℕ) →
-      e ≡ entryOf (v .hazards) (h .number) → (b : Bool) → b ≡ bitAt numbers (h .number) → ltb e 16 && not b ≡ true → Quick w h e
+      e ≡ entryOf (v .hazards) (h .number) → (b : Bool) → b ≡ hasBit (2 ^ h .number) numbers → ltb e 16 && not b ≡ true → Quick w h e
   turn w numbers watches more h is-h e is-e b is-b t =
       let k = and-not (ltb e 16) b t in
       record {
@@ -193,5 +193,5 @@ module _ {strict : Bool} {list : List ℕ} {words : ℕ} {v : View} {at : ℕ} w
           again w (q .more) (h .number) (number-is h _ (q .is-h)) count long fits 0 unrefused refl _
           ((λ i. record { hazards = is-next i; rest = rest-kept (v .rest) h (q .still .keeps) i }) ∙ ap (viewAfter v) (q .is-h))
 
-      pub quick-one : (l : Bool) → l ≡ bitAt longBits (h .number) → not l ≡ true → Walked strict list words (record { hazards = next; rest = v .rest }) (at + 1)
+      pub quick-one : (l : Bool) → l ≡ hasBit (2 ^ h .number) longBits → not l ≡ true → Walked strict list words (record { hazards = next; rest = v .rest }) (at + 1)
       quick-one l is-l f = quick 1 (one-word (h .number) (small h _ (q .is-h)) (ap not (sym is-l) ∙ f)) (omega (arith, q .more))

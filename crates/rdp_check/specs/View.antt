@@ -1,10 +1,10 @@
 -- What the check's loop carries and reads, as a view of the state and of a command. No public contract cites this.
-use Prim.Native.Nat.{ℕ, zero, suc, _+_, _/_, _%_, _^_, _<_}
+use Prim.Native.Nat.{ℕ, zero, suc, _+_, _^_, _<_}
 use mathlib.Core.Bool.{Bool, true, false, cond, not, _&&_, _||_}
 use mathlib.Core.List.{List, [], _∷_}
 use mathlib.Core.Path.{_≡_}
 use lib.Dec.{eqb, ltb}
-use Rattle.rdp_command.specs.Kinds.{among, wordsOf}
+use Rattle.rdp_command.specs.Kinds.{among, hasBit, wordsOf}
 use Rattle.rdp_command.specs.declared.Head.{Head}
 use Rattle.rdp_command.specs.Decode.{firstNumber, decodeOf}
 use Rattle.rdp_check.specs.Hazards.{nextOf, requiredOf}
@@ -80,12 +80,9 @@ sets n = among n (0x29 ∷ 0x2D ∷ 0x2F ∷ 0x3F ∷ [])
 abbrev pub isWatched : Rest → ℕ → Bool
 isWatched r n = r .ended || (sets n || (draws n && not (eqb (restRefusal r) 0)))
 
--- command numbers as the bits of a number, and those of the commands that are watched
-abbrev pub bitAt : ℕ → ℕ → Bool
-bitAt numbers n = eqb (numbers / 2 ^ n % 2) 1
-
+-- the bits of a number are the command numbers that are watched
 abbrev pub Watches : ℕ → Rest → Type 0
-Watches numbers r = (n : ℕ) → n < 64 → bitAt numbers n ≡ isWatched r n
+Watches numbers r = (n : ℕ) → n < 64 → hasBit (2 ^ n) numbers ≡ isWatched r n
 
 -- what one step of the walk gives
 pub record AdvancedIs (strict : Bool) (v : View) (h : Head) (r : Advanced) : Type 0 where

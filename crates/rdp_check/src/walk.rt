@@ -1,13 +1,13 @@
 // The walk over a list's commands that finds the first refusal.
 ghost use mathlib.Core.Bool.{cond, true};
 ghost use mathlib.Core.Path.{_≡_};
-ghost use Prim.Native.Nat.{_*_, _<_, _≤_};
+ghost use Prim.Native.Nat.{_*_, _^_, _<_, _≤_};
 ghost use lib.ListN.{length};
 ghost use Rattle.rdp_command.specs.Words.{wordAt, numberIn};
-ghost use Rattle.rdp_command.specs.Kinds.{wordsOf};
+ghost use Rattle.rdp_command.specs.Kinds.{hasBit, wordsOf};
 ghost use Rattle.rdp_check.specs.Hazards.{Agrees, entryOf};
 ghost use Rattle.rdp_check.specs.Check.{start, draws, judgeList, outcomeWithin, checked};
-ghost use Rattle.rdp_check.specs.View.{code, viewOf, restAfter, restRefusal, refusalWith, bitAt, Watches, AdvancedIs, answerAt};
+ghost use Rattle.rdp_check.specs.View.{code, viewOf, restAfter, restRefusal, refusalWith, Watches, AdvancedIs, answerAt};
 use crate::Checked;
 use crate::hazards;
 use crate::table;
@@ -58,7 +58,7 @@ pub fn words_at(list: &[u8], place: usize) -> usize
 // Whether a command number is among those whose bits are set.
 fn has_bit(numbers: u64, number: u8) -> bool
     requires { ⌜ number < 64 ⌝ }
-    ensures { λ r. ⌜ r ≡ bitAt numbers number ⌝ }
+    ensures { λ r. ⌜ r ≡ hasBit (2 ^ number) numbers ⌝ }
 {
     (numbers >> number) % 2 == 1
 }

@@ -4,10 +4,14 @@ use mathlib.Core.Bool.{Bool, true, false, cond, not, _&&_, _||_}
 use mathlib.Core.Path.{_≡_, refl}
 use lib.ListN.{length}
 use borrow.Author.Tests.{ltb-true}
-use lib.Dec.{eqb, ltb, leb, eqb→eq, leb→le}
-use Rattle.rdp_command.specs.Kinds.{kindOf, isNone, isNoOperation, wordsOf}
+use lib.Dec.{T, eqb, ltb, leb, eqb→eq, leb→le}
+use Rattle.rdp_command.specs.Kinds.{kindOf, isNone, isNoOperation, hasBit, wordsOf}
 use Rattle.rdp_command.specs.Layout.{layout}
-use Rattle.rdp_command.proofs.Tests.{below, both, same, same-bool}
+use Rattle.rdp_command.proofs.Tests.{each, below, both, same, same-bool}
+
+-- command numbers as the bits of a number
+pub bits-by : (numbers : ℕ) (f : ℕ → Bool) → T (each (λ k. same (hasBit (2 ^ k) numbers) (f k)) 64) → (n : ℕ) → n < 64 → hasBit (2 ^ n) numbers ≡ f n
+bits-by numbers f t n h = same-bool _ _ (below 64 (λ k. same (hasBit (2 ^ k) numbers) (f k)) t n h)
 
 -- the row of no operations as the code tests it
 abbrev pub rowTest : ℕ → Bool

@@ -4,7 +4,7 @@
 --     painted-empty                 nothing is painted where the area has no byte
 -- Assumes nothing.
 use mathlib.Core.Path.{_≡_, sym, ap, _∙_}
-use mathlib.Core.Bool.{Bool, true, false, cond, not, Bool·not-not}
+use mathlib.Core.Bool.{Bool, true, false, cond, not, Bool·not-not, false≢true}
 use mathlib.Core.List.{List}
 use Prim.Native.Nat.{ℕ, suc, _+_, _-_, _*_, _/_, _%_, _≤_, _<_}
 use native.Mathlib.Nat.{add-mul, mul-assoc, mul-zero, mul-le-mul-right, suc-mul, not-suc-le-zero, div-lt-iff-lt-mul, div-mul-le-self, lt-div-mul-add}
@@ -20,7 +20,7 @@ use Rattle.rdp_draw.specs.Fill.{bytesPerPixel, colorByte, covers, outsid
 use Rattle.rdp_draw.specs.Meaning.{Covers, Kept}
 use Rattle.rdp_draw.specs.Overlay.{overlay, within}
 use Rattle.rdp_draw.specs.Runs.{areaEmpty, areaInside, areaOf, endColumn, endRow, firstColumn, firstKeptRow, firstRow, inRuns, keptRows, rowStep, runBytes, strideOf}
-use Rattle.rdp_draw.proofs.BoolLaws.{never, cond-true, cond-false, same-truth, other-truth}
+use Rattle.rdp_draw.proofs.BoolLaws.{cond-true, cond-false, same-truth, other-truth}
 use Rattle.rdp_draw.proofs.OverlayLaws.{split, within-true, within-is, overlay-none, overlay-cong, overlay-from}
 use Rattle.rdp_draw.proofs.PixelLaws.{row-kept-is, row-kept-true, covers-sound, covers-complete, outside-sound, outside-complete}
 use Rattle.rdp_draw.proofs.InsideLaws.{in-runs-is, in-runs-true, runs-from, empty-runs, inside-is, inside-sound, inside-complete}
@@ -106,7 +106,7 @@ module _ (f : FillFields) where
   -- without
   module _ (e : f .scissor .«field» ≡ false) where
     every-row : (y : ℕ) → rowKept (f .scissor) y ≡ true
-    every-row y = row-kept-true (f .scissor) y (λ h. absurd (never (sym e ∙ h)))
+    every-row y = row-kept-true (f .scissor) y (λ h. absurd (false≢true (sym e ∙ h)))
 
     pub step-one : rowStep f ≡ 1
     unfolding rowStep
@@ -247,8 +247,8 @@ module _ (f : FillFields) where
       r .2 (inside-sound (areaOf f) start len inside (r .0) (sym (covers-runs (r .0)) ∙ covers-complete f (r .0) (r .1))))
       (λ none. inside-complete (areaOf f) start len
       (λ a h. by-test (within start (start + len) a) (within-is start (start + len) a)
-      (λ late. absurd (never (sym none ∙ outside-complete f start len
-      (a, covers-sound f a (covers-runs a ∙ h), λ w. never (sym late ∙ within-true start (start + len) a (w .0) (w .1))))))))
+      (λ late. absurd (false≢true (sym none ∙ outside-complete f start len
+      (a, covers-sound f a (covers-runs a ∙ h), λ w. false≢true (sym late ∙ within-true start (start + len) a (w .0) (w .1))))))))
 
 -- ---- the area in a function
 

@@ -1,12 +1,8 @@
 -- Laws of truth values. Assumes nothing.
 use mathlib.Core.Path.{_≡_, refl, sym}
 use mathlib.Core.Logic.{_⊎_, inl, inr}
-use mathlib.Core.Bool.{Bool, true, false, cond, not, _&&_, _||_}
+use mathlib.Core.Bool.{Bool, true, false, cond, not, _&&_, _||_, false≢true}
 use Prim.Native.Nat.{ℕ}
-use native.Mathlib.Omega.{arith}
-
-pub never : _≡_ {A = Bool} false true → ⊥
-never e = let z : _≡_ {A = ℕ} 0 1 = cc in omega arith
 
 pub or-is : (a b : Bool) → (a || b) ≡ true → (a ≡ true) ⊎ (b ≡ true)
 or-is true b e = inl refl
@@ -19,13 +15,9 @@ pub or-right : (a b : Bool) → b ≡ true → (a || b) ≡ true
 or-right true b e = refl
 or-right false b e = e
 
-pub or-not : (a b : Bool) → (a || b) ≡ false → (a ≡ false) × (b ≡ false)
-or-not true b e = absurd (never (sym e))
-or-not false b e = (refl, e)
-
 pub and-is : (a b : Bool) → (a && b) ≡ true → (a ≡ true) × (b ≡ true)
 and-is true b e = (refl, e)
-and-is false b e = absurd (never e)
+and-is false b e = absurd (false≢true e)
 
 pub and-true-of : (a b : Bool) → a ≡ true → b ≡ true → (a && b) ≡ true
 and-true-of a b e h = rw (e, h)

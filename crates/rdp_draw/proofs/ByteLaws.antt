@@ -5,11 +5,10 @@ use mathlib.Core.Path.{_≡_, refl, sym, ap, _∙_}
 use Prim.Native.Nat.{ℕ, _+_, _<_}
 use lib.Dec.{T}
 use lib.ListN.{length, getD}
-use Rattle.rdp_command.proofs.Tests.{true-of, false-of}
+use Rattle.rdp_command.proofs.Tests.{true-of, false-of, neither}
 use Rattle.rdp_draw.specs.Fill.{colorByte, covers, painted}
 use Rattle.rdp_draw.specs.Draw.{Draw, drawsOf, drawAnswer, paintedAll, drawMemory}
 use Rattle.rdp_draw.specs.Refusals.{someCovers, LastCovers}
-use Rattle.rdp_draw.proofs.BoolLaws.{or-not}
 use Rattle.rdp_draw.proofs.DrawLaws.{memory-kept, memory-painted}
 use Rattle.rdp_draw.proofs.OverlayLaws.{length-overlay, getD-overlay}
 
@@ -34,7 +33,7 @@ module _ (start : ℕ) where
   unfolding paintedAll someCovers
   painted-free [] m i h e = refl
   painted-free (d ∷ ds) m i h e =
-      let k = or-not (covers (d .fill) (start + i)) (someCovers ds (start + i)) e in
+      let k = neither (covers (d .fill) (start + i)) (someCovers ds (start + i)) e in
       painted-free ds (painted (d .fill) start m) i (rw (length-overlay (covers (d .fill)) (colorByte (d .fill .color)) start m) h) (k .1) ∙
       painted-at d m i h ∙ ap (λ (b : Bool). cond b (colorByte (d .fill .color) (start + i)) (getD m i 0)) (k .0)
 

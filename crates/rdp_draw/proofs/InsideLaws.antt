@@ -1,17 +1,17 @@
 -- Laws of `inRuns` and `areaInside`. Assumes nothing.
 use mathlib.Core.Path.{_≡_, sym, _∙_}
 use mathlib.Core.Logic.{⊎-elim}
-use mathlib.Core.Bool.{true, false, _&&_}
+use mathlib.Core.Bool.{true, false, _&&_, false≢true}
 use Prim.Native.Nat.{ℕ, zero, suc, _+_, _-_, _*_, _≤_, _<_}
 use native.Mathlib.Nat.{suc-mul, mul-le-mul-right}
 use native.Mathlib.Omega.{arith}
 use borrow.Author.Tests.{eqb-false, le-leb, leb-true, ne-eqb}
 use lib.Dec.{eqb, leb}
-use Rattle.rdp_command.proofs.Tests.{by-test}
+use Rattle.rdp_command.proofs.Tests.{by-test, neither}
 use Rattle.rdp_draw.specs.declared.Area.{Area}
 use Rattle.rdp_draw.specs.Overlay.{within}
 use Rattle.rdp_draw.specs.Runs.{areaEmpty, areaInside, inRuns}
-use Rattle.rdp_draw.proofs.BoolLaws.{never, or-is, or-left, or-right, or-not, and-is, and-true-of, same-truth}
+use Rattle.rdp_draw.proofs.BoolLaws.{or-is, or-left, or-right, and-is, and-true-of, same-truth}
 use Rattle.rdp_draw.proofs.OverlayLaws.{within-true, within-is}
 
 -- ---- some runs
@@ -20,7 +20,7 @@ use Rattle.rdp_draw.proofs.OverlayLaws.{within-true, within-is}
 pub in-runs-is : (from size stride rows i : ℕ) → inRuns from size stride rows i ≡ true
     → (k : ℕ) × (k < rows) × (from + k * stride ≤ i) × (i < from + k * stride + size)
 unfolding inRuns
-in-runs-is from size stride zero i e = absurd (never e)
+in-runs-is from size stride zero i e = absurd (false≢true e)
 in-runs-is from size stride (suc rows) i e =
     ⊎-elim (λ here. let w = within-is from (from + size) i here in (0, omega arith, omega arith, omega arith))
     (λ later.
@@ -56,7 +56,7 @@ runs-from start first size stride rows i h =
 module _ (r : Area) where
   pub not-empty : areaEmpty r ≡ false → (0 < r .size) × (0 < r .rows)
   not-empty e =
-      let parts = or-not (eqb (r .size) 0) (eqb (r .rows) 0) e in
+      let parts = neither (eqb (r .size) 0) (eqb (r .rows) 0) e in
       (omega (arith, eqb-false (r .size) 0 (parts .0)), omega (arith, eqb-false (r .rows) 0 (parts .1)))
 
   pub empty-not : 0 < r .size → 0 < r .rows → areaEmpty r ≡ false
@@ -71,7 +71,7 @@ module _ (r : Area) where
   empty-runs e a =
       by-test (inRuns (r .first) (r .size) (r .stride) (r .rows) a)
       (λ h. let k = in-runs-is (r .first) (r .size) (r .stride) (r .rows) a h in
-      absurd (never (sym (empty-not (omega arith) (omega arith)) ∙ e)))
+      absurd (false≢true (sym (empty-not (omega arith) (omega arith)) ∙ e)))
       (λ h. h)
 
   module _ (start len : ℕ) where
@@ -88,7 +88,7 @@ module _ (r : Area) where
     pub inside-is : areaEmpty r ≡ false → areaInside r start len ≡ true → (start ≤ r .first) × (areaEnd ≤ start + len)
     unfolding areaInside
     inside-is some e =
-        ⊎-elim (λ h. absurd (never (sym some ∙ h)))
+        ⊎-elim (λ h. absurd (false≢true (sym some ∙ h)))
         (λ h. let parts = and-is (leb start (r .first)) (leb areaEnd (start + len)) h in
         (leb-true start (r .first) (parts .0), leb-true areaEnd (start + len) (parts .1)))
         (or-is (areaEmpty r) (leb start (r .first) && leb areaEnd (start + len)) e)

@@ -4,7 +4,7 @@
 -- Assumes nothing.
 use mathlib.Core.Path.{_≡_, refl, sym, _∙_}
 use mathlib.Core.Logic.{⊎-elim}
-use mathlib.Core.Bool.{Bool, true, cond, not, _&&_}
+use mathlib.Core.Bool.{Bool, true, cond, not, _&&_, false≢true}
 use Prim.Native.Nat.{ℕ, zero, suc, _+_, _-_, _*_, _/_, _%_, _≤_, _<_}
 use native.Mathlib.Omega.{arith}
 use borrow.Author.Tests.{eqb-true, eq-eqb, not-true}
@@ -15,14 +15,14 @@ use Rattle.rdp_command.specs.declared.FillFields.{FillFields}
 use Rattle.rdp_draw.specs.Fill.{bytesPerPixel, covers, kept, oneOf, outside, pixelAddress, rowKept, someByte}
 use Rattle.rdp_draw.specs.Meaning.{Covers, Kept}
 use Rattle.rdp_draw.specs.Overlay.{within}
-use Rattle.rdp_draw.proofs.BoolLaws.{never, or-is, or-left, or-right, and-is, and-true-of}
+use Rattle.rdp_draw.proofs.BoolLaws.{or-is, or-left, or-right, and-is, and-true-of}
 use Rattle.rdp_draw.proofs.OverlayLaws.{split, within-true, within-is}
 
 -- ---- one of some numbers
 
 one-is : (k n : ℕ) (test : ℕ → Bool) → oneOf k n test ≡ true → (i : ℕ) × (k ≤ i) × (i < k + n) × (test i ≡ true)
 unfolding oneOf
-one-is k zero test e = absurd (never e)
+one-is k zero test e = absurd (false≢true e)
 one-is k (suc n) test e =
     ⊎-elim (λ here. (k, omega arith, omega arith, here))
     (λ later. let r = one-is (suc k) n test later in (r .0, omega arith, omega arith, r .3))
@@ -141,7 +141,7 @@ module _ (f : FillFields) where
     pub outside-sound : outside f start len ≡ true → (a : ℕ) × Covers f a × ((start ≤ a) × (a < start + len) → ⊥)
     outside-sound e =
         let r = some-is f (λ a. not (within start (start + len) a)) e in
-        (r .0, r .1, λ h. never (sym (not-true (within start (start + len) (r .0)) (r .2)) ∙ within-true start (start + len) (r .0) (h .0) (h .1)))
+        (r .0, r .1, λ h. false≢true (sym (not-true (within start (start + len) (r .0)) (r .2)) ∙ within-true start (start + len) (r .0) (h .0) (h .1)))
 
     pub outside-complete : (a : ℕ) × Covers f a × ((start ≤ a) × (a < start + len) → ⊥) → outside f start len ≡ true
     outside-complete r =

@@ -2,20 +2,21 @@
 use mathlib.Core.Bool.{Bool, true, false, cond, not}
 use mathlib.Core.List.{List, [], _∷_}
 use mathlib.Core.Path.{_≡_, refl, sym, _∙_, ap}
-use Prim.Native.Nat.{ℕ, _+_, _*_, _/_, _%_, _^_, _≤_, _<_}
+use Prim.Native.Nat.{ℕ, _+_, _*_, _/_, _^_, _≤_, _<_}
 use native.Mathlib.Nat.{le-refl}
 use native.Mathlib.Omega.{arith}
 use borrow.Author.Tests.{ne-eqb, eqb-true, eqb-false, ltb-true, ltb-false}
 use lib.Dec.{T, eqb, ltb, eqb→eq}
 use lib.ListN.{length, drop, length-drop}
 use Rattle.rdp_command.specs.Words.{wordAt, numberIn}
-use Rattle.rdp_command.specs.Kinds.{kindOf, wordsOf}
+use Rattle.rdp_command.specs.Kinds.{kindOf, hasBit, wordsOf}
 use Rattle.rdp_command.specs.Commands.{numberOf}
 use Rattle.rdp_command.specs.Decode.{firstNumber, wholeWords, decodeOf, cycleTypeIn, scissorIn, rectangleIn, fillColorIn, colorImageIn}
 use Rattle.rdp_command.specs.declared.Command.{Command}
 use Rattle.rdp_command.specs.declared.FillWords.{FillWords}
 use Rattle.rdp_command.specs.declared.FillFields.{FillFields}
-use Rattle.rdp_command.proofs.Tests.{below, by-test, false-of, same, same-bool}
+use Rattle.rdp_command.proofs.Tests.{below, by-test, false-of, neither}
+use Rattle.rdp_command.proofs.KindLaws.{bits-by}
 use Rattle.rdp_command.proofs.PlaceLaws.{number-small, some-words}
 use Rattle.rdp_command.proofs.ReadLaws.{decoded, decodes, decoded-number, reads-other-modes, reads-scissor, reads-fill-color, reads-color-image}
 use Rattle.rdp_check.specs.Commands.{commandsOf, restOf}
@@ -24,26 +25,15 @@ use Rattle.rdp_check.specs.Check.{draws}
 use Rattle.rdp_check.specs.declared.Registers.{Registers}
 use Rattle.rdp_check.proofs.KeptLaws.{keeps}
 use Rattle.rdp_check.proofs.ListLaws.{commandAt, commands-at, rest-at, commands-past, rest-past, command-word, command-number, command-there}
-use Rattle.rdp_draw.proofs.BoolLaws.{or-not}
 use Rattle.rdp_draw.specs.Draw.{Draw, drawOf, drawAt, drawsFrom, drawsOf}
 use Rattle.rdp_draw.specs.Seen.{FillRegisters, seen, registersIn, sets, seenAfter, setAfter, Due, Next, Reaches}
 
 -- ---- the kinds of steps
 
--- the constants of the code
-abbrev drawMask : ℕ
-drawMask = 0x0040_0030_0000_FF00
-
-abbrev setterMask : ℕ
-setterMask = 0x8080_A000_0000_0000
-
-pub draws-by : (n : ℕ) → n < 64 → eqb (drawMask / 2 ^ n % 2) 1 ≡ draws n
-unfolding draws kindOf
-draws-by n h = same-bool _ _ (below 64 (λ k. same (eqb (drawMask / 2 ^ k % 2) 1) (draws k)) tt n h)
-
-pub sets-by : (n : ℕ) → n < 64 → eqb (setterMask / 2 ^ n % 2) 1 ≡ sets n
+-- the constant of the code
+pub sets-by : (n : ℕ) → n < 64 → hasBit (2 ^ n) 0x8080_A000_0000_0000 ≡ sets n
 unfolding sets
-sets-by n h = same-bool _ _ (below 64 (λ k. same (eqb (setterMask / 2 ^ k % 2) 1) (sets k)) tt n h)
+sets-by = bits-by _ sets tt
 
 -- a command that is no draw has one word; a draw sets none of the registers
 abbrev stepTest : ℕ → Bool
@@ -87,10 +77,10 @@ pub seen-kept : (q : FillRegisters) (w : ℕ) → sets (numberIn w) ≡ false �
 unfolding sets seenAfter
 seen-kept q w e =
     let n = numberIn w in
-    let a = or-not (eqb n 0x2D) _ e in
-    let b = or-not (eqb n 0x2F) _ (a .1) in
-    let c = or-not (eqb n 0x37) _ (b .1) in
-    let d = or-not (eqb n 0x3F) _ (c .1) in
+    let a = neither (eqb n 0x2D) _ e in
+    let b = neither (eqb n 0x2F) _ (a .1) in
+    let c = neither (eqb n 0x37) _ (b .1) in
+    let d = neither (eqb n 0x3F) _ (c .1) in
     rw (a .0, b .0, c .0, d .0)
 
 -- a command that sets none of them

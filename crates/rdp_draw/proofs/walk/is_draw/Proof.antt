@@ -1,6 +1,6 @@
 -- `rdp_draw::walk::is_draw` meets its contract, by one test over the command numbers. Assumes nothing.
 use borrow.Author.Needs.{needs}
-use Rattle.rdp_draw.proofs.SeenLaws.{draws-by}
+use Rattle.rdp_check.proofs.ViewLaws.{draws-by}
 use Rattle.rdp_draw.proofs.walk.is_draw.Statement.{statement}
 use Rattle.rdp_draw.proofs.walk.is_draw.Tie as tie
 
