@@ -4,6 +4,7 @@
 # make test   compiles tests/c against the archive, as C11 and as C++17, and runs both
 # make compare   runs 200,000 seeded cases through the archive and the second program, reference/
 # make soak   the same with SOAK_CASES cases from SOAK_SEED on
+# make registers   compares the registers after 246 lists, as the second program prints them, with crates/rdp_registers/stdout
 # make clean  removes build/
 # bench/bench.mk, fuzz/fuzz.mk and cli/cli.mk have further targets
 CC = gcc
@@ -43,10 +44,13 @@ compare: $(ARCHIVE)
 soak: $(ARCHIVE)
 	$(COMPARE) $(SOAK_SEED) $(SOAK_CASES)
 
+registers:
+	cargo run --quiet --manifest-path reference/Cargo.toml --bin registers | cmp - crates/rdp_registers/stdout
+
 clean:
 	rm -rf build
 
-.PHONY: all test compare soak clean
+.PHONY: all test compare soak registers clean
 
 include bench/bench.mk
 include fuzz/fuzz.mk
