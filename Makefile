@@ -2,7 +2,7 @@
 #             and build/lanyardrove, the command line tool
 # make install PREFIX=/usr/local DESTDIR=   and make uninstall: library, header, tool, manual page
 # make test   compiles tests/c against the archive, as C11 and as C++17, and runs both
-# make compare   runs 200,000 seeded cases through the archive and the second program, reference/
+# make compare   tests the second program, reference/, and runs 200,000 seeded cases through it and the archive
 # make soak   the same with SOAK_CASES cases from SOAK_SEED on
 # make registers   compares the registers after 246 lists, as the second program prints them, with crates/rdp_registers/stdout
 # make clean  removes build/
@@ -37,8 +37,10 @@ COMPARE = LANYARDROVE_LIB=$(abspath build) cargo run --quiet --manifest-path ref
 SOAK_SEED ?= 2
 SOAK_CASES ?= 20000000
 
-compare: $(ARCHIVE)
+reference-test:
 	cargo test --quiet --manifest-path reference/Cargo.toml
+
+compare: $(ARCHIVE) reference-test
 	$(COMPARE) 1 200000
 
 soak: $(ARCHIVE)
@@ -50,7 +52,7 @@ registers:
 clean:
 	rm -rf build
 
-.PHONY: all test compare soak registers clean
+.PHONY: all test reference-test compare soak registers clean
 
 include bench/bench.mk
 include fuzz/fuzz.mk

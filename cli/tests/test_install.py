@@ -13,11 +13,16 @@ INSTALLED = ["bin/lanyardrove", "include/lanyardrove.h", "lib/liblanyardrove.a",
 
 
 def make(*arguments):
-    """Runs make on the tool's build; the archive is taken as it is."""
-    done = subprocess.run(["make", "-s", "-o", "build/liblanyardrove.a", f"CLI_BUILD={os.path.dirname(TOOL)}", *arguments], cwd=TOP,
-                          capture_output=True)
+    """What make prints, run as from a shell: without the flags of a make that runs these tests."""
+    env = {name: value for name, value in os.environ.items() if name not in ("MAKEFLAGS", "MFLAGS", "MAKELEVEL")}
+    done = subprocess.run(["make", *arguments], cwd=TOP, capture_output=True, env=env)
     same((done.returncode, done.stderr), (0, b""), arguments)
     return done.stdout.decode()
+
+
+def make_built(*arguments):
+    """Runs make on the tool's build; the archive is taken as it is."""
+    return make("-s", "-o", "build/liblanyardrove.a", f"CLI_BUILD={os.path.dirname(TOOL)}", *arguments)
 
 
 def files_below(root):
@@ -26,20 +31,20 @@ def files_below(root):
 
 @test
 def make_makes_archive_and_tool():
-    plan = subprocess.run(["make", "-n", "-B"], cwd=TOP, capture_output=True, check=True).stdout.decode()  # nothing is run
+    plan = make("-n", "-B")  # nothing is run
     assert re.search(r"^rt staticlib lanyardrove$", plan, re.M) and re.search(r"^gcc .* -o build/lanyardrove ", plan, re.M), plan
 
 
 @test
 def install_and_uninstall():
     root = os.path.abspath("a root")
-    make("install", f"DESTDIR={root}", "PREFIX=/usr")
+    make_built("install", f"DESTDIR={root}", "PREFIX=/usr")
     same(files_below(root), ["usr/" + name for name in INSTALLED])
     same([name for name in INSTALLED if os.access(f"{root}/usr/{name}", os.X_OK)], ["bin/lanyardrove"])
     done = subprocess.run([f"{root}/usr/bin/lanyardrove", "check", "-q", example("g.rdp")], capture_output=True)
     same((done.returncode, done.stdout), (1, b"9 4\n"))
     write(f"{root}/usr/lib/other", b"")
-    make("uninstall", f"DESTDIR={root}", "PREFIX=/usr")
+    make_built("uninstall", f"DESTDIR={root}", "PREFIX=/usr")
     same(files_below(root), ["usr/lib/other"])
 
 
@@ -51,7 +56,7 @@ def pkg_config(prefix, *arguments):
 @test
 def a_program_is_linked_with_pkg_config():
     prefix = os.path.abspath("prefix")
-    make("install", f"PREFIX={prefix}")
+    make_built("install", f"PREFIX={prefix}")
     same("lanyardrove " + pkg_config(prefix, "--modversion"), run("--version")[1])
     write("program.c", program())
     flags = shlex.split(pkg_config(prefix, "--static", "--cflags", "--libs"))
