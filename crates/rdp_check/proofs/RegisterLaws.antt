@@ -1,203 +1,378 @@
--- The registers in their five groups: a command changes one group at most, and each group by what it holds alone. Assumes nothing.
-use Prim.Native.Nat.{ℕ}
-use mathlib.Core.Bool.{Bool, cond, not}
+-- The registers of the words that last set them: before the first command, after one and after those of a list. Assumes nothing.
+use Prim.Native.Nat.{ℕ, zero, suc, pred, _+_, _*_, _/_, _%_, _^_, _<_}
+use mathlib.Core.Bool.{Bool, true, false, cond, not}
 use mathlib.Core.List.{List, [], _∷_}
-use mathlib.Core.Logic.{_⊎_, inl, ⊎-elim}
-use mathlib.Core.Path.{_≡_, refl, sym, subst}
-use denote.Enum.Declared.{tagOf}
-use lib.Dec.{T, eqb}
-use types.Run.{OneOf}
-use Rattle.rdp_command.proofs.Command.{the-type}
-use Rattle.rdp_command.proofs.Tests.{by-test}
-use Rattle.rdp_command.specs.Kinds.{among}
+use mathlib.Core.Path.{_≡_, refl, sym, ap, _∙_}
+use native.Mathlib.Nat.{mod-lt}
+use native.Mathlib.Omega.{arith}
+use borrow.Author.Tests.{ne-eqb, eqb-true, eqb-false, ltb-true}
+use lib.Dec.{T, eqb, ltb, eqb→eq, lit<}
+use lib.ListN.{length, getD, set, take, replicate, length-set}
+use lib.Seq.{getD-set-same, getD-set-other}
+use Rattle.rdp_command.specs.Words.{wordAt, numberIn}
+use Rattle.rdp_command.specs.Kinds.{among, wordsOf}
+use Rattle.rdp_command.specs.Layout.{layout, tileAreaLines, tileDescriptorLines}
+use Rattle.rdp_command.specs.Groups.{tileAreaOf, tileDescriptorOf}
+use Rattle.rdp_command.specs.Commands.{commandOf, numberOf}
+use Rattle.rdp_command.specs.Decode.{firstNumber, wholeWords, ownWords, commandIn, decodeOf}
+use Rattle.rdp_command.specs.declared.TileDescriptor.{TileDescriptor}
+use Rattle.rdp_command.specs.declared.TexelCorner.{TexelCorner}
 use Rattle.rdp_command.specs.declared.Command.{Command}
 use Rattle.rdp_command.specs.declared.Command.the-variants.{NoOperation, FillTriangle, TextureRectangle, TextureRectangleFlip, SyncLoad, SyncPipe, SyncTile, SyncFull, SetKeyGb, SetKeyR, SetConvert, SetScissor, SetPrimitiveDepth, SetOtherModes, LoadTlut, SetTileSize, LoadBlock, LoadTile, SetTile, FillRectangle, SetFillColor, SetFogColor, SetBlendColor, SetPrimitiveColor, SetEnvironmentColor, SetCombineMode, SetTextureImage, SetDepthImage, SetColorImage}
-use Rattle.rdp_check.specs.Registers.{withColors, withCombiner, withModes, withImages, withTiles, registersAfter, colorsAfter, combinerAfter, modesAfter, imagesAfter, tilesAfter}
+use Rattle.rdp_command.proofs.Tests.{each, below, true-of, by-test}
+use Rattle.rdp_command.proofs.PlaceLaws.{number-small, is-whole}
+use Rattle.rdp_command.proofs.ReadLaws.{decodes, decoded-number}
+use Rattle.rdp_check.specs.Commands.{commandsFrom}
+use Rattle.rdp_check.specs.Registers.{noTile, noRegisters, withTiles, registersAfter, afterDecoded, describedTiles, sizedTiles}
+use Rattle.rdp_check.specs.View.{registersUpTo}
+use Rattle.rdp_check.specs.RegisterWords.{tileIn, slotOf, wordsAfter, wordsUpTo, slotIn, HoldSlots, fieldsIn, tilesBy, registersBy, isSet, word, registersIn}
 use Rattle.rdp_check.specs.declared.Tile.{Tile}
-use Rattle.rdp_check.specs.declared.Colors.{Colors}
-use Rattle.rdp_check.specs.declared.Combiner.{Combiner}
-use Rattle.rdp_check.specs.declared.Modes.{Modes}
-use Rattle.rdp_check.specs.declared.Images.{Images}
 use Rattle.rdp_check.specs.declared.Registers.{Registers}
+use Rattle.rdp_check.proofs.ListLaws.{command-there}
 
--- the groups, each with a number from 1 on
-pub data Group : Type 0 where
-  colors : Group
-  combiner : Group
-  modes : Group
-  images : Group
-  tiles : Group
+-- ---- the slots
 
-abbrev numberOf : Group → ℕ
-numberOf colors = 1
-numberOf combiner = 2
-numberOf modes = 3
-numberOf images = 4
-numberOf tiles = 5
+-- a test at each command number and each tile
+abbrev pub eachSlot : (ℕ → ℕ → Bool) → Bool
+eachSlot f = each (λ n. each (f n) 8) 64
 
-abbrev pub Part : Group → Type 0
-Part colors = Colors
-Part combiner = Combiner
-Part modes = Modes
-Part images = Images
-Part tiles = List Tile
+slot-test : (f : ℕ → ℕ → Bool) → T (eachSlot f) → (n t : ℕ) → n < 64 → t < 8 → T (f n t)
+slot-test f test n t h k = below 8 (f n) (below 64 (λ n. each (f n) 8) test n h) t k
 
-abbrev pub part : (g : Group) → Registers → Part g
-part colors r = r .colors
-part combiner r = r .combiner
-part modes r = r .modes
-part images r = r .images
-part tiles r = r .tiles
+-- a table that holds the slots, by one test over it
+pub holds-slots : (table : List ℕ) → T (eachSlot (λ n t. eqb (slotIn (getD table n 0) t) (slotOf n t))) → HoldSlots table
+holds-slots table test n t h k = eqb→eq _ _ (slot-test (λ n t. eqb (slotIn (getD table n 0) t) (slotOf n t)) test n t h k)
 
--- the number of the group that the command at a place of the enum changes, 0 for none
-abbrev groupAt : ℕ → ℕ
-groupAt t =
-    cond (among t (20 ∷ 21 ∷ 22 ∷ 23 ∷ 24 ∷ [])) 1
-    (cond (among t (8 ∷ 9 ∷ 10 ∷ 25 ∷ [])) 2
-    (cond (among t (11 ∷ 12 ∷ 13 ∷ [])) 3
-    (cond (among t (26 ∷ 27 ∷ 28 ∷ [])) 4
-    (cond (among t (14 ∷ 15 ∷ 16 ∷ 17 ∷ 18 ∷ [])) 5
-    0))))
+pub slot-small : (n t : ℕ) → n < 64 → t < 8 → slotOf n t < 32
+unfolding slotOf
+slot-small n t h k = ltb-true _ _ (true-of (ltb (slotOf n t) 32) (slot-test (λ n t. ltb (slotOf n t) 32) tt n t h k))
 
-abbrev pub keeps : Group → ℕ → Bool
-keeps g t = not (eqb (groupAt t) (numberOf g))
+pub tile-small : (w : ℕ) → tileIn w < 8
+tile-small w = mod-lt _ (lit< tt)
 
-colors-only : (g : Group) (r : Registers) (x : Colors) → T (not (eqb 1 (numberOf g))) → part g (withColors r x) ≡ part g r
-colors-only colors r x k = absurd k
-colors-only combiner r x k = refl
-colors-only modes r x k = refl
-colors-only images r x k = refl
-colors-only tiles r x k = refl
+-- a slot as the code finds it
+pub held-small : (table : List ℕ) → HoldSlots table → (n w : ℕ) → n < 64 → slotIn (getD table n 0) (tileIn w) < 32
+held-small table h n w l = rw (h n (tileIn w) l (tile-small w)) (slot-small n (tileIn w) l (tile-small w))
 
-combiner-only : (g : Group) (r : Registers) (x : Combiner) → T (not (eqb 2 (numberOf g))) → part g (withCombiner r x) ≡ part g r
-combiner-only colors r x k = refl
-combiner-only combiner r x k = absurd k
-combiner-only modes r x k = refl
-combiner-only images r x k = refl
-combiner-only tiles r x k = refl
+-- the commands that set a register
+abbrev setters : List ℕ
+setters = 0x2A ∷ 0x2B ∷ 0x2C ∷ 0x2D ∷ 0x2E ∷ 0x2F ∷ 0x30 ∷ 0x32 ∷ 0x33 ∷ 0x34 ∷ 0x35 ∷ 0x37 ∷ 0x38 ∷ 0x39 ∷ 0x3A ∷ 0x3B ∷ 0x3C ∷ 0x3D ∷ 0x3E ∷ 0x3F ∷ []
 
-modes-only : (g : Group) (r : Registers) (x : Modes) → T (not (eqb 3 (numberOf g))) → part g (withModes r x) ≡ part g r
-modes-only colors r x k = refl
-modes-only combiner r x k = refl
-modes-only modes r x k = absurd k
-modes-only images r x k = refl
-modes-only tiles r x k = refl
+unless : (b : Bool) {x y : ℕ} → T (cond b true (eqb x y)) → T (not b) → x ≡ y
+unless true t k = absurd k
+unless false t k = eqb→eq _ _ t
 
-images-only : (g : Group) (r : Registers) (x : Images) → T (not (eqb 4 (numberOf g))) → part g (withImages r x) ≡ part g r
-images-only colors r x k = refl
-images-only combiner r x k = refl
-images-only modes r x k = refl
-images-only images r x k = absurd k
-images-only tiles r x k = refl
+other-slot : (n t : ℕ) → n < 64 → t < 8 → T (not (among n setters)) → slotOf n t ≡ 31
+unfolding slotOf
+other-slot n t h k s = unless (among n setters) (slot-test (λ n t. cond (among n setters) true (eqb (slotOf n t) 31)) tt n t h k) s
 
-tiles-only : (g : Group) (r : Registers) (x : List Tile) → T (not (eqb 5 (numberOf g))) → part g (withTiles r x) ≡ part g r
-tiles-only colors r x k = refl
-tiles-only combiner r x k = refl
-tiles-only modes r x k = refl
-tiles-only images r x k = refl
-tiles-only tiles r x k = absurd k
+-- ---- a word is stored
 
--- a command that does not change a group
-kept : (g : Group) (r : Registers) (c : Command) → T (keeps g (tagOf the-type c)) → part g (registersAfter r c) ≡ part g r
+-- a function with one value changed
+abbrev changed : {A : Type 0} → ℕ → A → (ℕ → A) → ℕ → A
+changed i x f k = cond (eqb k i) x (f k)
+
+cond-of : {A : Type 0} (f : ℕ → A) (b : Bool) (x y : ℕ) → f (cond b x y) ≡ cond b (f x) (f y)
+cond-of f true x y = refl
+cond-of f false x y = refl
+
+word-set : (ws : List ℕ) (i w : ℕ) → i < length ws → (k : ℕ) → word (set ws i w) k ≡ changed i w (word ws) k
+word-set ws i w h k =
+    by-test (eqb k i) (λ t. rw t (ap (λ (j : ℕ). getD (set ws i w) j 0) (eqb-true k i t) ∙ getD-set-same ws i w 0 h))
+    (λ f. rw f (getD-set-other ws i k w 0 (eqb-false k i f)))
+
+set-set : (ws : List ℕ) (i w : ℕ) → i < length ws → (k : ℕ) → isSet (set ws i w) k ≡ changed i (not (eqb w 0)) (isSet ws) k
+set-set ws i w h k =
+    ap (λ (x : ℕ). not (eqb x 0)) (word-set ws i w h k) ∙ cond-of (λ (x : ℕ). not (eqb x 0)) (eqb k i) w (getD ws k 0)
+
+stored :
+    (ws : List ℕ) (i w : ℕ) → i < length ws →
+    registersIn (set ws i w) ≡ registersBy (changed i (not (eqb w 0)) (isSet ws)) (changed i w (word ws))
+stored ws i w h = λ j. registersBy (λ k. set-set ws i w h k j) (λ k. word-set ws i w h k j)
+
+-- ---- the tiles
+
+by-eight :
+    (P : ℕ → Type 0) → P 0 → P 1 → P 2 → P 3 → P 4 → P 5 → P 6 → P 7 → (t : ℕ) → t < 8 → P t
+by-eight P a b c d e f g h zero l = a
+by-eight P a b c d e f g h (suc zero) l = b
+by-eight P a b c d e f g h (suc (suc zero)) l = c
+by-eight P a b c d e f g h (suc (suc (suc zero))) l = d
+by-eight P a b c d e f g h (suc (suc (suc (suc zero)))) l = e
+by-eight P a b c d e f g h (suc (suc (suc (suc (suc zero))))) l = f
+by-eight P a b c d e f g h (suc (suc (suc (suc (suc (suc zero)))))) l = g
+by-eight P a b c d e f g h (suc (suc (suc (suc (suc (suc (suc zero))))))) l = h
+by-eight P a b c d e f g h (suc (suc (suc (suc (suc (suc (suc (suc t)))))))) l = absurd (omega arith)
+
+mod-mod : (x : ℕ) → x % 8 % 8 ≡ x % 8
+mod-mod x = omega arith
+
+abbrev describedAt : List Tile → ℕ → TileDescriptor → List Tile
+describedAt ts i d =
+    let t = getD ts i noTile in
+    set ts i (record { set = true; descriptor = d; sized = t .sized; «upper_left» = t .«upper_left»; «lower_right» = t .«lower_right» })
+
+abbrev sizedAt : List Tile → ℕ → TexelCorner → TexelCorner → List Tile
+sizedAt ts i first last =
+    let t = getD ts i noTile in
+    set ts i (record { set = t .set; descriptor = t .descriptor; sized = true; «upper_left» = first; «lower_right» = last })
+
+module _ (s : ℕ → Bool) (g : ℕ → ℕ) (w : ℕ) where
+  described :
+      (t : ℕ) → t < 8 →
+      registersBy (changed (15 + t) true s) (changed (15 + t) w g) ≡
+      withTiles (registersBy s g) (describedAt (tilesBy s g) t (tileDescriptorOf (fieldsIn tileDescriptorLines w)))
+  unfolding registersBy
+  described =
+      by-eight
+      (λ (t : ℕ). registersBy (changed (15 + t) true s) (changed (15 + t) w g) ≡
+      withTiles (registersBy s g) (describedAt (tilesBy s g) t (tileDescriptorOf (fieldsIn tileDescriptorLines w))))
+      refl refl refl refl refl refl refl refl
+
+  sized :
+      (t : ℕ) → t < 8 →
+      registersBy (changed (23 + t) true s) (changed (23 + t) w g) ≡
+      withTiles (registersBy s g)
+      (sizedAt (tilesBy s g) t (tileAreaOf (fieldsIn tileAreaLines w) .«upper_left») (tileAreaOf (fieldsIn tileAreaLines w) .«lower_right»))
+  unfolding registersBy
+  sized =
+      by-eight
+      (λ (t : ℕ). registersBy (changed (23 + t) true s) (changed (23 + t) w g) ≡
+      withTiles (registersBy s g)
+      (sizedAt (tilesBy s g) t (tileAreaOf (fieldsIn tileAreaLines w) .«upper_left») (tileAreaOf (fieldsIn tileAreaLines w) .«lower_right»)))
+      refl refl refl refl refl refl refl refl
+
+-- ---- a command
+
+-- a number is one of a list, or none of them
+abbrev Each : Type 0 → ℕ → List ℕ → Type 0
+Each P n [] = Unit
+Each P n (k ∷ ks) = (n ≡ k → P) × Each P n ks
+
+by-number : {P : Type 0} (ks : List ℕ) (n : ℕ) → Each P n ks → (T (not (among n ks)) → P) → P
+by-number [] n each other = other tt
+by-number (k ∷ ks) n each other =
+    by-test (eqb n k) (λ t. each .0 (eqb-true n k t)) (λ f. by-number ks n (each .1) (λ o. other (rw f o)))
+
+-- a command that sets no register
+kept : (r : Registers) (c : Command) → T (not (among (numberOf c) setters)) → registersAfter r c ≡ r
 unfolding registersAfter
-kept g r (NoOperation x) k = refl
-kept g r (FillTriangle x) k = refl
-kept g r (TextureRectangle x) k = refl
-kept g r (TextureRectangleFlip x) k = refl
-kept g r SyncLoad k = refl
-kept g r SyncPipe k = refl
-kept g r SyncTile k = refl
-kept g r SyncFull k = refl
-kept g r (SetKeyGb x) k = combiner-only g r _ k
-kept g r (SetKeyR x) k = combiner-only g r _ k
-kept g r (SetConvert x) k = combiner-only g r _ k
-kept g r (SetScissor x) k = modes-only g r _ k
-kept g r (SetPrimitiveDepth x) k = modes-only g r _ k
-kept g r (SetOtherModes x) k = modes-only g r _ k
-kept g r (LoadTlut x) k = tiles-only g r _ k
-kept g r (SetTileSize x) k = tiles-only g r _ k
-kept g r (LoadBlock x) k = tiles-only g r _ k
-kept g r (LoadTile x) k = tiles-only g r _ k
-kept g r (SetTile x) k = tiles-only g r _ k
-kept g r (FillRectangle x) k = refl
-kept g r (SetFillColor x) k = colors-only g r _ k
-kept g r (SetFogColor x) k = colors-only g r _ k
-kept g r (SetBlendColor x) k = colors-only g r _ k
-kept g r (SetPrimitiveColor x) k = colors-only g r _ k
-kept g r (SetEnvironmentColor x) k = colors-only g r _ k
-kept g r (SetCombineMode x) k = combiner-only g r _ k
-kept g r (SetTextureImage x) k = images-only g r _ k
-kept g r (SetDepthImage x) k = images-only g r _ k
-kept g r (SetColorImage x) k = images-only g r _ k
+kept r (NoOperation x) k = refl
+kept r (FillTriangle x) k = refl
+kept r (TextureRectangle x) k = refl
+kept r (TextureRectangleFlip x) k = refl
+kept r SyncLoad k = refl
+kept r SyncPipe k = refl
+kept r SyncTile k = refl
+kept r SyncFull k = refl
+kept r (SetKeyGb x) k = absurd k
+kept r (SetKeyR x) k = absurd k
+kept r (SetConvert x) k = absurd k
+kept r (SetScissor x) k = absurd k
+kept r (SetPrimitiveDepth x) k = absurd k
+kept r (SetOtherModes x) k = absurd k
+kept r (LoadTlut x) k = absurd k
+kept r (SetTileSize x) k = absurd k
+kept r (LoadBlock x) k = absurd k
+kept r (LoadTile x) k = absurd k
+kept r (SetTile x) k = absurd k
+kept r (FillRectangle x) k = refl
+kept r (SetFillColor x) k = absurd k
+kept r (SetFogColor x) k = absurd k
+kept r (SetBlendColor x) k = absurd k
+kept r (SetPrimitiveColor x) k = absurd k
+kept r (SetEnvironmentColor x) k = absurd k
+kept r (SetCombineMode x) k = absurd k
+kept r (SetTextureImage x) k = absurd k
+kept r (SetDepthImage x) k = absurd k
+kept r (SetColorImage x) k = absurd k
 
--- the numbers of a list that pass a test
-abbrev passing : (ℕ → Bool) → List ℕ → List ℕ
-passing f [] = []
-passing f (k ∷ ks) = cond (f k) (k ∷ passing f ks) (passing f ks)
+module _ (ws : List ℕ) (long : length ws ≡ 32) (c : List ℕ) (there : wholeWords c ≡ 0 → ⊥) where
+  abbrev n : ℕ
+  n = firstNumber c
 
-one-of : (k : ℕ) (ks : List ℕ) (t : ℕ) → OneOf (k ∷ ks) t → (t ≡ k) ⊎ OneOf ks t
-one-of k [] t e = inl e
-one-of k (j ∷ ks) t o = o
+  abbrev w : ℕ
+  w = wordAt c 0
 
-passed : (f : ℕ → Bool) (ks : List ℕ) (t : ℕ) → OneOf (passing f ks) t → T (f t)
-passed f [] t o = absurd o
-passed f (k ∷ ks) t o =
-    by-test (f k)
-    (λ e.
-    let o′ = rw e at o in
-    ⊎-elim (λ q. subst (λ (x : ℕ). T (f x)) (sym q) (rw e tt)) (passed f ks t) (one-of k (passing f ks) t o′))
-    (λ e. let o′ = rw e at o in passed f ks t o′)
+  abbrev own : List ℕ
+  own = ownWords c (wholeWords c)
 
--- the places in the enum, and those of the commands that keep a group
-abbrev places : List ℕ
-places = 0 ∷ 1 ∷ 2 ∷ 3 ∷ 4 ∷ 5 ∷ 6 ∷ 7 ∷ 8 ∷ 9 ∷ 10 ∷ 11 ∷ 12 ∷ 13 ∷ 14 ∷ 15 ∷ 16 ∷ 17 ∷ 18 ∷ 19 ∷ 20 ∷ 21 ∷ 22 ∷ 23 ∷ 24 ∷ 25 ∷ 26 ∷ 27 ∷ 28 ∷ []
+  abbrev Result : ℕ → Type 0
+  Result k = registersIn (wordsAfter ws k w) ≡ registersAfter (registersIn ws) (commandIn k own)
 
-abbrev pub keepers : Group → List ℕ
-keepers g = passing (keeps g) places
+  at-slot :
+      (k i : ℕ) → slotOf k (tileIn w) ≡ i → i < 32 →
+      registersIn (wordsAfter ws k w) ≡ registersBy (changed i (not (eqb w 0)) (isSet ws)) (changed i w (word ws))
+  at-slot k i e h = ap (λ (j : ℕ). registersIn (set ws j w)) e ∙ stored ws i w (rw long h)
 
--- at one of them the group is as it was
-pub unchanged : (g : Group) (r : Registers) (c : Command) → OneOf (keepers g) (tagOf the-type c) → part g r ≡ part g (registersAfter r c)
-unchanged g r c o = sym (kept g r c (passed (keeps g) places (tagOf the-type c) o))
+  -- the word of a command whose number is not 0
+  some : (k : ℕ) → n ≡ k → 0 < k → not (eqb w 0) ≡ true
+  some k e h = let nz : (w ≡ 0 → ⊥) = λ z. let q : n ≡ 0 = ap numberIn z in omega arith in rw (ne-eqb w 0 nz)
 
--- the groups after a command make up the registers after it
-pub assembled :
-    (r : Registers) (c : Command) →
-    _≡_ {A = Registers}
-    (record {
-      colors = colorsAfter (r .colors) c;
-      combiner = combinerAfter (r .combiner) c;
-      modes = modesAfter (r .modes) c;
-      images = imagesAfter (r .images) c;
-      tiles = tilesAfter (r .tiles) c;
-    })
-    (registersAfter r c)
-unfolding registersAfter
-assembled r (NoOperation x) = refl
-assembled r (FillTriangle x) = refl
-assembled r (TextureRectangle x) = refl
-assembled r (TextureRectangleFlip x) = refl
-assembled r SyncLoad = refl
-assembled r SyncPipe = refl
-assembled r SyncTile = refl
-assembled r SyncFull = refl
-assembled r (SetKeyGb x) = refl
-assembled r (SetKeyR x) = refl
-assembled r (SetConvert x) = refl
-assembled r (SetScissor x) = refl
-assembled r (SetPrimitiveDepth x) = refl
-assembled r (SetOtherModes x) = refl
-assembled r (LoadTlut x) = refl
-assembled r (SetTileSize x) = refl
-assembled r (LoadBlock x) = refl
-assembled r (LoadTile x) = refl
-assembled r (SetTile x) = refl
-assembled r (FillRectangle x) = refl
-assembled r (SetFillColor x) = refl
-assembled r (SetFogColor x) = refl
-assembled r (SetBlendColor x) = refl
-assembled r (SetPrimitiveColor x) = refl
-assembled r (SetEnvironmentColor x) = refl
-assembled r (SetCombineMode x) = refl
-assembled r (SetTextureImage x) = refl
-assembled r (SetDepthImage x) = refl
-assembled r (SetColorImage x) = refl
+  setter :
+      (k i : ℕ) → n ≡ k → 0 < k → slotOf k (tileIn w) ≡ i → i < 32 →
+      registersBy (changed i true (isSet ws)) (changed i w (word ws)) ≡ registersAfter (registersIn ws) (commandIn k own) → Result n
+  setter k i e z s h q =
+      ap (λ (j : ℕ). registersIn (wordsAfter ws j w)) e ∙
+      (at-slot k i s h ∙ (ap (λ (b : Bool). registersBy (changed i b (isSet ws)) (changed i w (word ws))) (some k e z) ∙
+      (q ∙ ap (λ (j : ℕ). registersAfter (registersIn ws) (commandIn j own)) (sym e))))
+
+  of-key-gb : n ≡ 0x2A → Result n
+  unfolding slotOf commandOf layout registersAfter registersBy
+  of-key-gb e = setter 0x2A 0 e (lit< tt) refl (lit< tt) refl
+
+  of-key-r : n ≡ 0x2B → Result n
+  unfolding slotOf commandOf layout registersAfter registersBy
+  of-key-r e = setter 0x2B 1 e (lit< tt) refl (lit< tt) refl
+
+  of-convert : n ≡ 0x2C → Result n
+  unfolding slotOf commandOf layout registersAfter registersBy
+  of-convert e = setter 0x2C 2 e (lit< tt) refl (lit< tt) refl
+
+  of-scissor : n ≡ 0x2D → Result n
+  unfolding slotOf commandOf layout registersAfter registersBy
+  of-scissor e = setter 0x2D 3 e (lit< tt) refl (lit< tt) refl
+
+  of-depth : n ≡ 0x2E → Result n
+  unfolding slotOf commandOf layout registersAfter registersBy
+  of-depth e = setter 0x2E 4 e (lit< tt) refl (lit< tt) refl
+
+  of-modes : n ≡ 0x2F → Result n
+  unfolding slotOf commandOf layout registersAfter registersBy
+  of-modes e = setter 0x2F 5 e (lit< tt) refl (lit< tt) refl
+
+  of-fill : n ≡ 0x37 → Result n
+  unfolding slotOf commandOf layout registersAfter registersBy
+  of-fill e = setter 0x37 6 e (lit< tt) refl (lit< tt) refl
+
+  of-fog : n ≡ 0x38 → Result n
+  unfolding slotOf commandOf layout registersAfter registersBy
+  of-fog e = setter 0x38 7 e (lit< tt) refl (lit< tt) refl
+
+  of-blend : n ≡ 0x39 → Result n
+  unfolding slotOf commandOf layout registersAfter registersBy
+  of-blend e = setter 0x39 8 e (lit< tt) refl (lit< tt) refl
+
+  of-primitive : n ≡ 0x3A → Result n
+  unfolding slotOf commandOf layout registersAfter registersBy
+  of-primitive e = setter 0x3A 9 e (lit< tt) refl (lit< tt) refl
+
+  of-environment : n ≡ 0x3B → Result n
+  unfolding slotOf commandOf layout registersAfter registersBy
+  of-environment e = setter 0x3B 10 e (lit< tt) refl (lit< tt) refl
+
+  of-combine : n ≡ 0x3C → Result n
+  unfolding slotOf commandOf layout registersAfter registersBy
+  of-combine e = setter 0x3C 11 e (lit< tt) refl (lit< tt) refl
+
+  of-texture : n ≡ 0x3D → Result n
+  unfolding slotOf commandOf layout registersAfter registersBy
+  of-texture e = setter 0x3D 12 e (lit< tt) refl (lit< tt) refl
+
+  of-depth-image : n ≡ 0x3E → Result n
+  unfolding slotOf commandOf layout registersAfter registersBy
+  of-depth-image e = setter 0x3E 13 e (lit< tt) refl (lit< tt) refl
+
+  of-color-image : n ≡ 0x3F → Result n
+  unfolding slotOf commandOf layout registersAfter registersBy
+  of-color-image e = setter 0x3F 14 e (lit< tt) refl (lit< tt) refl
+
+  abbrev tile : ℕ
+  tile = tileIn w
+
+  of-tile : n ≡ 0x35 → Result n
+  unfolding slotOf commandOf layout registersAfter registersBy describedTiles
+  of-tile e =
+      setter 0x35 (15 + tile) e (lit< tt) refl (omega (arith, tile-small w))
+      (described (isSet ws) (word ws) w tile (tile-small w) ∙
+      ap
+      (λ (i : ℕ). withTiles (registersIn ws) (describedAt (tilesBy (isSet ws) (word ws)) i (tileDescriptorOf (fieldsIn tileDescriptorLines w))))
+      (sym (mod-mod (w / 2 ^ 24))))
+
+  -- the registers with the size of the tile set
+  abbrev resized : Registers
+  resized =
+      let a = tileAreaOf (fieldsIn tileAreaLines w) in
+      withTiles (registersIn ws) (sizedTiles (tilesBy (isSet ws) (word ws)) tile (a .«upper_left») (a .«lower_right»))
+
+  sizer : (k : ℕ) → n ≡ k → 0 < k → slotOf k tile ≡ 23 + tile → resized ≡ registersAfter (registersIn ws) (commandIn k own) → Result n
+  unfolding sizedTiles
+  sizer k e z s q =
+      setter k (23 + tile) e z s (omega (arith, tile-small w))
+      (sized (isSet ws) (word ws) w tile (tile-small w) ∙
+      (ap
+      (λ (i : ℕ).
+      let a = tileAreaOf (fieldsIn tileAreaLines w) in
+      withTiles (registersIn ws) (sizedAt (tilesBy (isSet ws) (word ws)) i (a .«upper_left») (a .«lower_right»)))
+      (sym (mod-mod (w / 2 ^ 24))) ∙ q))
+
+  of-load-tlut : n ≡ 0x30 → Result n
+  unfolding slotOf commandOf layout registersAfter registersBy
+  of-load-tlut e = sizer 0x30 e (lit< tt) refl refl
+
+  of-tile-size : n ≡ 0x32 → Result n
+  unfolding slotOf commandOf layout registersAfter registersBy
+  of-tile-size e = sizer 0x32 e (lit< tt) refl refl
+
+  of-load-block : n ≡ 0x33 → Result n
+  unfolding slotOf commandOf layout registersAfter registersBy
+  of-load-block e = sizer 0x33 e (lit< tt) refl refl
+
+  of-load-tile : n ≡ 0x34 → Result n
+  unfolding slotOf commandOf layout registersAfter registersBy
+  of-load-tile e = sizer 0x34 e (lit< tt) refl refl
+
+  -- slot 31 is not read
+  unread : (s : ℕ → Bool) (g : ℕ → ℕ) (b : Bool) → registersBy (changed 31 b s) (changed 31 w g) ≡ registersBy s g
+  unfolding registersBy
+  unread s g b = refl
+
+  of-others : T (not (among n setters)) → Result n
+  of-others k =
+      at-slot n 31 (other-slot n tile (number-small w) (tile-small w) k) (lit< tt) ∙
+      (unread (isSet ws) (word ws) (not (eqb w 0)) ∙
+      sym (kept (registersIn ws) (commandIn n own) (rw (decoded-number c there) k)))
+
+  result : Result n
+  result =
+      by-number setters n
+      (of-key-gb, (of-key-r, (of-convert, (of-scissor, (of-depth, (of-modes, (of-load-tlut, (of-tile-size, (of-load-block, (of-load-tile, (of-tile, (of-fill, (of-fog, (of-blend, (of-primitive, (of-environment, (of-combine, (of-texture, (of-depth-image, (of-color-image, tt))))))))))))))))))))
+      of-others
+
+  -- a word is stored: its registers are those after its command
+  pub registers-stored : registersIn (wordsAfter ws n w) ≡ afterDecoded (registersIn ws) (decodeOf c)
+  registers-stored = result ∙ ap (afterDecoded (registersIn ws)) (sym (decodes c there))
+
+-- ---- a list
+
+-- words of 0 are the registers before the first command
+pub none-set : registersIn (replicate 32 0) ≡ noRegisters
+unfolding registersBy noRegisters
+none-set = refl
+
+-- the bytes of a first command that is whole are a whole command
+head-there : (bs : List ℕ) → (wholeWords bs ≡ 0 → ⊥) → wholeWords (take (8 * wholeWords bs) bs) ≡ 0 → ⊥
+head-there bs there =
+    let h = is-whole bs there in
+    rw (h .words) (command-there bs 0 (firstNumber bs) refl (omega (arith, h .inside, h .words)))
+
+pub registers-up-to :
+    (end k : ℕ) (bs : List ℕ) (at : ℕ) (ws : List ℕ) → length ws ≡ 32 →
+    registersIn (wordsUpTo end at ws (commandsFrom k bs)) ≡ registersUpTo end at (registersIn ws) (commandsFrom k bs)
+unfolding commandsFrom wordsUpTo registersUpTo
+registers-up-to end zero [] at ws long = refl
+registers-up-to end (suc k) [] at ws long = refl
+registers-up-to end (suc k) (b ∷ bs) at ws long = registers-up-to end k bs at ws long
+registers-up-to end zero (b ∷ bs) at ws long =
+    by-test (eqb (wholeWords (b ∷ bs)) 0) (λ t. rw t)
+    (λ f.
+    by-test (ltb at end)
+    (λ more.
+    let c = take (8 * wholeWords (b ∷ bs)) (b ∷ bs) in
+    let later = commandsFrom (pred (8 * wholeWords (b ∷ bs))) bs in
+    let next = at + wordsOf (firstNumber c) in
+    let ws′ = wordsAfter ws (firstNumber c) (wordAt c 0) in
+    rw (f, more)
+    (registers-up-to end (pred (8 * wholeWords (b ∷ bs))) bs next ws′ (length-set ws _ _ ∙ long) ∙
+    ap (λ (r : Registers). registersUpTo end next r later) (registers-stored ws long c (head-there (b ∷ bs) (eqb-false _ _ f)))))
+    (λ ended. rw (f, ended)))

@@ -8,67 +8,94 @@ use native.Mathlib.Nat.{le-refl}
 use native.Mathlib.Omega.{arith}
 use borrow.Author.Tests.{lt-ltb, le-ltb, ne-eqb}
 use lib.Dec.{eqb, ltb, lit≤}
-use lib.ListN.{length, drop}
+use lib.ListN.{length, drop, set, replicate, length-set}
 use Rattle.rdp_command.specs.Words.{wordAt, numberIn}
 use Rattle.rdp_command.specs.Kinds.{wordsOf}
-use Rattle.rdp_command.specs.Decode.{firstNumber, decodeOf}
+use Rattle.rdp_command.specs.Decode.{firstNumber}
 use Rattle.rdp_command.proofs.Tests.{by-test}
 use Rattle.rdp_command.proofs.KindLaws.{words-pos, words-most}
 use Rattle.rdp_check.specs.Commands.{commandsOf, restOf}
-use Rattle.rdp_check.specs.Registers.{noRegisters, afterDecoded}
+use Rattle.rdp_check.specs.Registers.{noRegisters}
 use Rattle.rdp_check.specs.Check.{State, start, afterCommand, refusalOf, refusalAt, Outcome, atEnd, settle, judge, judgeList, outcomeWithin}
 use Rattle.rdp_check.specs.View.{registersUpTo, endOf}
+use Rattle.rdp_check.specs.RegisterWords.{tileIn, slotOf, wordsUpTo, registersIn}
 use Rattle.rdp_check.specs.declared.Registers.{Registers}
 use Rattle.rdp_command.proofs.PlaceLaws.{number-small, some-words}
-use Rattle.rdp_check.proofs.ListLaws.{commandAt, commands-at, command-number, decoded-at, commands-past}
+use Rattle.rdp_check.proofs.ListLaws.{commands-at, command-number, command-word, commands-past}
+use Rattle.rdp_check.proofs.RegisterLaws.{none-set, registers-up-to}
 
 -- ---- the loop
 
-abbrev pub final : List ℕ → ℕ → Registers
-final list end = registersUpTo end 0 noRegisters (commandsOf list)
-
--- what holds at the head of the loop: the registers after what is left are those after the list
-pub record Replayed (list : List ℕ) (end words : ℕ) (r : Registers) (at : ℕ) : Type 0 where
+-- what holds at the head of the loop: the words after what is left are those after the list
+pub record Replayed (list : List ℕ) (end words : ℕ) (before file : List ℕ) (at : ℕ) : Type 0 where
   pub count : words ≡ length list / 8
   pub within : at ≤ words
-  pub same : registersUpTo end at r (commandsOf (drop (8 * at) list)) ≡ final list end
+  pub long : length file ≡ 32
+  pub same : wordsUpTo end at file (commandsOf (drop (8 * at) list)) ≡ wordsUpTo end 0 before (commandsOf list)
 
-pub first : (list : List ℕ) (end words : ℕ) (r : Registers) → r ≡ noRegisters → words ≡ length list / 8 → Replayed list end words r 0
-first list end words r q e = record { count = e; within = omega arith; same = rw q }
+pub first : (list : List ℕ) (end words : ℕ) (file : List ℕ) → length file ≡ 32 → words ≡ length list / 8 → Replayed list end words file file 0
+first list end words file l e = record { count = e; within = omega arith; long = l; same = refl }
 
-stopped : (end at : ℕ) (r : Registers) (cs : List (List ℕ)) → end ≤ at → registersUpTo end at r cs ≡ r
-unfolding registersUpTo
-stopped end at r [] h = refl
-stopped end at r (c ∷ cs) h = rw (le-ltb _ _ h)
+still : (end at : ℕ) (file : List ℕ) (cs : List (List ℕ)) → end ≤ at → wordsUpTo end at file cs ≡ file
+unfolding wordsUpTo
+still end at file [] h = refl
+still end at file (c ∷ cs) h = rw (le-ltb _ _ h)
 
-module _ {list : List ℕ} {end words : ℕ} {r : Registers} {at : ℕ} (w : Replayed list end words r at) where
-  pub ended : end ≤ at → r ≡ final list end
-  ended h = sym (stopped end at r (commandsOf (drop (8 * at) list)) h) ∙ w .same
+module _ {list : List ℕ} {end words : ℕ} {before file : List ℕ} {at : ℕ} (v : Replayed list end words before file at) where
+  pub ended : end ≤ at → file ≡ wordsUpTo end 0 before (commandsOf list)
+  ended h = sym (still end at file (commandsOf (drop (8 * at) list)) h) ∙ v .same
 
   -- a turn at a command with a number
   module _ (more : at < end) (n : ℕ) (is : n ≡ numberIn (wordAt list at)) (count : ℕ) (long : count ≡ wordsOf n) where
     pub few : count ≤ 22
     few = rw (long, is) (words-most _ (number-small (wordAt list at)))
 
-    pub past : words < at + count → r ≡ final list end
-    unfolding registersUpTo
+    pub past : words < at + count → file ≡ wordsUpTo end 0 before (commandsOf list)
+    unfolding wordsUpTo
     past h =
-        let short : length list / 8 < at + wordsOf n = omega (arith, w .count) in
-        rw (← w .same, commands-past list at n is short)
+        let short : length list / 8 < at + wordsOf n = omega (arith, v .count) in
+        rw (← v .same, commands-past list at n is short)
 
     pub falls : at + count ≤ words → words - (at + count) < words - at
     falls h = omega (arith, some-words list at n is)
 
-    pub again : at + count ≤ words → (q : Registers) → q ≡ afterDecoded r (decodeOf (drop (8 * at) list)) → Replayed list end words q (at + count)
-    unfolding registersUpTo
-    again h q e =
-        let inside : at + wordsOf n ≤ length list / 8 = omega (arith, w .count) in
-        let e′ : q ≡ afterDecoded r (decodeOf (commandAt list at n)) = e ∙ ap (afterDecoded r) (decoded-at list at n is inside) in
+    pub again :
+        at + count ≤ words → (w slot : ℕ) → w ≡ wordAt list at → slot ≡ slotOf n (tileIn w) →
+        Replayed list end words before (set file slot w) (at + count)
+    unfolding wordsUpTo
+    again h w slot is-w is-slot =
+        let inside : at + wordsOf n ≤ length list / 8 = omega (arith, v .count) in
         record {
-          count = w .count;
+          count = v .count;
           within = h;
-          same = rw (← w .same, e′, long, commands-at list at n is inside, lt-ltb _ _ more, command-number list at n is inside);
+          long = length-set file slot w ∙ v .long;
+          same =
+              rw (
+                ← v .same,
+                is-slot,
+                is-w,
+                long,
+                commands-at list at n is inside,
+                lt-ltb _ _ more,
+                command-number list at n is inside,
+                command-word list at n is inside,
+              );
         }
+
+-- ---- the registers after the loop
+
+abbrev pub final : List ℕ → ℕ → Registers
+final list end = registersUpTo end 0 noRegisters (commandsOf list)
+
+pub registers-final :
+    (list : List ℕ) (end : ℕ) (file : List ℕ) → file ≡ wordsUpTo end 0 (replicate 32 0) (commandsOf list) → registersIn file ≡ final list end
+registers-final list end file e =
+    ap registersIn e ∙ registers-up-to end 0 list 0 (replicate 32 0) refl ∙ ap (λ (r : Registers). registersUpTo end 0 r (commandsOf list)) none-set
+
+stopped : (end at : ℕ) (r : Registers) (cs : List (List ℕ)) → end ≤ at → registersUpTo end at r cs ≡ r
+unfolding registersUpTo
+stopped end at r [] h = refl
+stopped end at r (c ∷ cs) h = rw (le-ltb _ _ h)
 
 -- ---- the outcome
 

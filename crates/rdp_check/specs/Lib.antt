@@ -4,6 +4,7 @@ pub mod Registers
 pub mod Check
 pub mod Refusals
 pub mod View
+pub mod RegisterWords
 pub mod Inserted
 pub mod Plan
 pub mod Work

@@ -227,19 +227,3 @@ registersAfter r (SetColorImage g) = withImages r (imagesOf (record { set = true
 abbrev pub afterDecoded : Registers → Decoded → Registers
 afterDecoded r (Whole c) = registersAfter r c
 afterDecoded r (Refused a) = r
-
--- each group after a command; what other groups hold does not matter
-abbrev pub colorsAfter : Colors → Command → Colors
-colorsAfter g c = registersAfter (withColors noRegisters g) c .colors
-
-abbrev pub combinerAfter : Combiner → Command → Combiner
-combinerAfter g c = registersAfter (withCombiner noRegisters g) c .combiner
-
-abbrev pub modesAfter : Modes → Command → Modes
-modesAfter g c = registersAfter (withModes noRegisters g) c .modes
-
-abbrev pub imagesAfter : Images → Command → Images
-imagesAfter g c = registersAfter (withImages noRegisters g) c .images
-
-abbrev pub tilesAfter : List Tile → Command → List Tile
-tilesAfter ts c = registersAfter (withTiles noRegisters ts) c .tiles

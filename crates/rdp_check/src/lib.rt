@@ -218,7 +218,8 @@ pub fn registers_after(list: &[u8]) -> ListState
 {
     let checked = check(list);
     let end = end_of(checked.number, checked.place);
-    let registers = updates::replay(list, end);
+    let file = updates::replay_from([0u64; 32], list, end);
+    let registers = updates::registers_of(file);
     ListState {
         number: checked.number,
         place: checked.place,

@@ -1,434 +1,263 @@
-// The registers after a command, group by group, and after a list. All are zero and not set before the first command.
+// The registers as the words that last set them: after the commands of a list, and their fields out of the words.
+ghost use mathlib.Core.Bool.{not};
 ghost use mathlib.Core.Path.{_≡_};
-ghost use Prim.Native.Nat.{_*_, _≤_};
-ghost use lib.ListN.{length, drop};
-ghost use Rattle.rdp_command.specs.Decode.{decodeOf};
+ghost use Prim.Native.Nat.{_<_};
+ghost use lib.Dec.{eqb};
 ghost use Rattle.rdp_check.specs.Commands.{commandsOf};
-ghost use Rattle.rdp_check.specs.View.{registersUpTo};
-ghost use Rattle.rdp_check.specs.Registers.{noColors, noCombiner, noOtherModes, noModes, noImages, noTile, noRegisters, registersAfter, afterDecoded, describedTiles, sizedTiles, colorsAfter, combinerAfter, modesAfter, imagesAfter, tilesAfter};
+ghost use Rattle.rdp_check.specs.RegisterWords.{HoldSlots, slotOf, tileIn, wordsUpTo, colorBy, tileWith, isSet, word, colorsBy, combinerBy, modesBy, imagesBy, tilesBy, registersIn};
 use crate::walk;
 use crate::*;
-use rdp_command::*;
+use rdp_command::read;
 
-fn colors_after(g: Colors, c: Command) -> Colors
-    ensures { λ r. ⌜ r ≡ colorsAfter g c ⌝ }
+// Where the word of a command goes, by its number: a slot, and 32 more where the tile counts.
+fn slot_table() -> [u8; 64]
+    ensures { λ r. ⌜ HoldSlots r ⌝ }
 {
-    let mut q = g;
-    match c {
-        Command::SetFillColor(color) => {
-            let register = FillColorRegister { set: true, color };
-            q.fill = register;
-            return q;
-        }
-        Command::SetFogColor(color) => {
-            let register = ColorRegister { set: true, color };
-            q.fog = register;
-            return q;
-        }
-        Command::SetBlendColor(color) => {
-            let register = ColorRegister { set: true, color };
-            q.blend = register;
-            return q;
-        }
-        Command::SetPrimitiveColor(color) => {
-            let register = PrimitiveColorRegister { set: true, color };
-            q.primitive = register;
-            return q;
-        }
-        Command::SetEnvironmentColor(color) => {
-            let register = ColorRegister { set: true, color };
-            q.environment = register;
-            return q;
-        }
-        _ => return q,
-    }
+    [
+        31, // 0x00
+        31,
+        31,
+        31,
+        31,
+        31,
+        31,
+        31,
+        31, // 0x08
+        31,
+        31,
+        31,
+        31,
+        31,
+        31,
+        31,
+        31, // 0x10
+        31,
+        31,
+        31,
+        31,
+        31,
+        31,
+        31,
+        31, // 0x18
+        31,
+        31,
+        31,
+        31,
+        31,
+        31,
+        31,
+        31, // 0x20
+        31,
+        31,
+        31,
+        31,
+        31,
+        31,
+        31,
+        31, // 0x28
+        31,
+        0,
+        1,
+        2,
+        3,
+        4,
+        5,
+        55, // 0x30
+        31,
+        55,
+        55,
+        55,
+        47,
+        31,
+        6,
+        7, // 0x38
+        8,
+        9,
+        10,
+        11,
+        12,
+        13,
+        14,
+    ]
 }
 
-fn combiner_after(g: Combiner, c: Command) -> Combiner
-    ensures { λ r. ⌜ r ≡ combinerAfter g c ⌝ }
+// The slot of a command's word.
+fn slot_of(table: &[u8; 64], number: u8, w: u64) -> usize
+    requires { ⌜ HoldSlots (now table) × (number < 64) ⌝ }
+    ensures { λ r. ⌜ r ≡ slotOf number (tileIn w) ⌝ }
 {
-    let mut q = g;
-    match c {
-        Command::SetCombineMode(mode) => {
-            let register = CombineRegister { set: true, mode };
-            q.combine = register;
-            return q;
-        }
-        Command::SetKeyGb(key) => {
-            let register = KeyGbRegister { set: true, key };
-            q.key_gb = register;
-            return q;
-        }
-        Command::SetKeyR(key) => {
-            let register = KeyRRegister { set: true, key };
-            q.key_r = register;
-            return q;
-        }
-        Command::SetConvert(convert) => {
-            let register = ConvertRegister { set: true, convert };
-            q.convert = register;
-            return q;
-        }
-        _ => return q,
-    }
+    let entry = table[number as usize];
+    let tile = ((w >> 24) % 8) as u8;
+    (entry % 32 + entry / 32 * tile) as usize
 }
 
-fn modes_after(g: Modes, c: Command) -> Modes
-    ensures { λ r. ⌜ r ≡ modesAfter g c ⌝ }
-{
-    let mut q = g;
-    match c {
-        Command::SetOtherModes(modes) => {
-            let register = OtherModesRegister { set: true, modes };
-            q.other = register;
-            return q;
-        }
-        Command::SetPrimitiveDepth(depth) => {
-            let register = PrimitiveDepthRegister { set: true, depth };
-            q.depth = register;
-            return q;
-        }
-        Command::SetScissor(scissor) => {
-            let register = ScissorRegister { set: true, scissor };
-            q.scissor = register;
-            return q;
-        }
-        _ => return q,
-    }
-}
-
-fn images_after(g: Images, c: Command) -> Images
-    ensures { λ r. ⌜ r ≡ imagesAfter g c ⌝ }
-{
-    let mut q = g;
-    match c {
-        Command::SetColorImage(image) => {
-            let register = ImageRegister { set: true, image };
-            q.color = register;
-            return q;
-        }
-        Command::SetTextureImage(image) => {
-            let register = ImageRegister { set: true, image };
-            q.texture = register;
-            return q;
-        }
-        Command::SetDepthImage(address) => {
-            let register = DepthImageRegister { set: true, address };
-            q.depth = register;
-            return q;
-        }
-        _ => return q,
-    }
-}
-
-// The tiles with one descriptor set.
-fn described(tiles: [Tile; 8], d: TileDescriptor) -> [Tile; 8]
-    ensures { λ r. ⌜ r ≡ describedTiles tiles d ⌝ }
-{
-    let mut q = tiles;
-    let i = (d.index % 8) as usize;
-    let mut tile = q[i];
-    tile.set = true;
-    tile.descriptor = d;
-    q[i] = tile;
-    q
-}
-
-// The tiles with the size of one set.
-fn sized(tiles: [Tile; 8], index: u8, first: TexelCorner, last: TexelCorner) -> [Tile; 8]
-    ensures { λ r. ⌜ r ≡ sizedTiles tiles index first last ⌝ }
-{
-    let mut q = tiles;
-    let i = (index % 8) as usize;
-    let mut tile = q[i];
-    tile.sized = true;
-    tile.upper_left = first;
-    tile.lower_right = last;
-    q[i] = tile;
-    q
-}
-
-// A load sets its tile's size too; of a Load Block the last value is dxt.
-fn tiles_after(g: [Tile; 8], c: Command) -> [Tile; 8]
-    ensures { λ r. ⌜ r ≡ tilesAfter g c ⌝ }
-{
-    match c {
-        Command::SetTile(d) => return described(g, d),
-        Command::SetTileSize(a) => return sized(g, a.tile, a.upper_left, a.lower_right),
-        Command::LoadTlut(a) => return sized(g, a.tile, a.upper_left, a.lower_right),
-        Command::LoadTile(a) => return sized(g, a.tile, a.upper_left, a.lower_right),
-        Command::LoadBlock(b) => {
-            let last = TexelCorner {
-                s: b.lower_right_s,
-                t: b.dxt,
-            };
-            return sized(g, b.tile, b.upper_left, last);
-        }
-        _ => return g,
-    }
-}
-
-// The registers after a command.
-fn apply(r: Registers, c: Command) -> Registers
-    ensures { λ q. ⌜ q ≡ registersAfter r c ⌝ }
-{
-    let colors = colors_after(r.colors, c);
-    let combiner = combiner_after(r.combiner, c);
-    let modes = modes_after(r.modes, c);
-    let images = images_after(r.images, c);
-    let before = r.tiles;
-    let tiles = tiles_after(before, c);
-    Registers {
-        colors,
-        combiner,
-        modes,
-        images,
-        tiles,
-    }
-}
-
-fn no_colors() -> Colors
-    ensures { λ r. ⌜ r ≡ noColors ⌝ }
-{
-    let none = Color {
-        red: 0,
-        green: 0,
-        blue: 0,
-        alpha: 0,
-    };
-    let register = ColorRegister {
-        set: false,
-        color: none,
-    };
-    Colors {
-        fill: FillColorRegister {
-            set: false,
-            color: 0,
-        },
-        fog: register,
-        blend: register,
-        primitive: PrimitiveColorRegister {
-            set: false,
-            color: PrimitiveColor {
-                min_level: 0,
-                prim_lod_frac: 0,
-                color: none,
-            },
-        },
-        environment: register,
-    }
-}
-
-fn no_combiner() -> Combiner
-    ensures { λ r. ⌜ r ≡ noCombiner ⌝ }
-{
-    Combiner {
-        combine: CombineRegister {
-            set: false,
-            mode: 0,
-        },
-        key_gb: KeyGbRegister {
-            set: false,
-            key: KeyGb {
-                width_g: 0,
-                width_b: 0,
-                center_g: 0,
-                scale_g: 0,
-                center_b: 0,
-                scale_b: 0,
-            },
-        },
-        key_r: KeyRRegister {
-            set: false,
-            key: KeyR {
-                width_r: 0,
-                center_r: 0,
-                scale_r: 0,
-            },
-        },
-        convert: ConvertRegister {
-            set: false,
-            convert: Convert {
-                k0: 0,
-                k1: 0,
-                k2: 0,
-                k3: 0,
-                k4: 0,
-                k5: 0,
-            },
-        },
-    }
-}
-
-fn no_other_modes() -> OtherModes
-    ensures { λ r. ⌜ r ≡ noOtherModes ⌝ }
-{
-    OtherModes {
-        atomic_prim: false,
-        cycle_type: 0,
-        texture: TextureModes {
-            persp_tex_en: false,
-            detail_tex_en: false,
-            sharpen_tex_en: false,
-            tex_lod_en: false,
-            tlut_en: false,
-            tlut_type: false,
-            sample_type: false,
-            mid_texel: false,
-            bi_lerp_0: false,
-            bi_lerp_1: false,
-            convert_one: false,
-        },
-        key_en: false,
-        rgb_dither_sel: 0,
-        alpha_dither_sel: 0,
-        blender: BlenderInputs {
-            bl_m1a_0: 0,
-            bl_m1a_1: 0,
-            bl_m1b_0: 0,
-            bl_m1b_1: 0,
-            bl_m2a_0: 0,
-            bl_m2a_1: 0,
-            bl_m2b_0: 0,
-            bl_m2b_1: 0,
-        },
-        pixel: PixelModes {
-            force_blend: false,
-            alpha_cvg_select: false,
-            cvg_x_alpha: false,
-            z_mode: 0,
-            cvg_dest: 0,
-            color_on_cvg: false,
-            image_read_en: false,
-            z_update_en: false,
-            z_compare_en: false,
-            antialias_en: false,
-            z_source_sel: false,
-            dither_alpha_en: false,
-            alpha_compare_en: false,
-        },
-    }
-}
-
-fn no_modes() -> Modes
-    ensures { λ r. ⌜ r ≡ noModes ⌝ }
-{
-    let modes = no_other_modes();
-    let corner = Corner { x: 0, y: 0 };
-    Modes {
-        other: OtherModesRegister { set: false, modes },
-        depth: PrimitiveDepthRegister {
-            set: false,
-            depth: PrimitiveDepth { z: 0, dz: 0 },
-        },
-        scissor: ScissorRegister {
-            set: false,
-            scissor: Scissor {
-                upper_left: corner,
-                field: false,
-                odd: false,
-                lower_right: corner,
-            },
-        },
-    }
-}
-
-fn no_images() -> Images
-    ensures { λ r. ⌜ r ≡ noImages ⌝ }
-{
-    let none = ImageRegister {
-        set: false,
-        image: Image {
-            format: 0,
-            size: 0,
-            width: 0,
-            address: 0,
-        },
-    };
-    Images {
-        color: none,
-        texture: none,
-        depth: DepthImageRegister {
-            set: false,
-            address: 0,
-        },
-    }
-}
-
-fn no_tile() -> Tile
-    ensures { λ r. ⌜ r ≡ noTile ⌝ }
-{
-    let corner = TexelCorner { s: 0, t: 0 };
-    Tile {
-        set: false,
-        descriptor: TileDescriptor {
-            format: 0,
-            size: 0,
-            line: 0,
-            address: 0,
-            index: 0,
-            palette: 0,
-            clamp_t: false,
-            mirror_t: false,
-            mask_t: 0,
-            shift_t: 0,
-            clamp_s: false,
-            mirror_s: false,
-            mask_s: 0,
-            shift_s: 0,
-        },
-        sized: false,
-        upper_left: corner,
-        lower_right: corner,
-    }
-}
-
-// The registers before the first command.
-pub fn reset() -> Registers
-    ensures { λ r. ⌜ r ≡ noRegisters ⌝ }
-{
-    let colors = no_colors();
-    let combiner = no_combiner();
-    let modes = no_modes();
-    let images = no_images();
-    let tile = no_tile();
-    let tiles = [tile; 8];
-    Registers {
-        colors,
-        combiner,
-        modes,
-        images,
-        tiles,
-    }
-}
-
-// The registers after what stands at a place of a list: its command, where that is whole.
-fn apply_at(r: Registers, list: &[u8], at: usize) -> Registers
-    requires { ⌜ 8 * at ≤ length (now list) ⌝ }
-    ensures { λ q. ⌜ q ≡ afterDecoded r (decodeOf (drop (8 * at) (now (list .entry)))) ⌝ }
-{
-    let from = 8 * at;
-    let decoded = rdp_command::decode(&list[from..]);
-    match decoded {
-        Decoded::Whole(c) => return apply(r, c),
-        Decoded::Refused(_) => return r,
-    }
-}
-
-// The registers after the commands of a list that begin before a place.
-pub fn replay(list: &[u8], end: usize) -> Registers
-    ensures { λ r. ⌜ r ≡ registersUpTo end 0 noRegisters (commandsOf (now (list .entry))) ⌝ }
+// The words after the commands of a list that begin before a place.
+pub fn replay_from(file: [u64; 32], list: &[u8], end: usize) -> [u64; 32]
+    ensures { λ r. ⌜ r ≡ wordsUpTo end 0 file (commandsOf (now (list .entry))) ⌝ }
 {
     let words = list.len() / 8;
-    let mut registers = reset();
+    let table = slot_table();
+    let mut q = file;
     let mut at: usize = 0;
     while at < end {
-        let next = at + walk::words_at(list, at);
+        let head = rdp_command::head_at(list, at);
+        let number = head.number;
+        let next = at + walk::count_of(number);
         if words < next {
-            return registers;
+            return q;
         }
-        registers = apply_at(registers, list, at);
+        let w = rdp_command::word_at(list, at);
+        let slot = slot_of(&table, number, w);
+        q[slot] = w;
         at = next;
     }
-    registers
+    q
+}
+
+fn color_of(w: u64) -> ColorRegister
+    ensures { λ r. ⌜ r ≡ colorBy (not (eqb w 0)) w ⌝ }
+{
+    ColorRegister {
+        set: w != 0,
+        color: read::color(w),
+    }
+}
+
+fn colors_of(file: &[u64; 32]) -> Colors
+    ensures { λ r. ⌜ r ≡ colorsBy (isSet (now (file .entry))) (word (now (file .entry))) ⌝ }
+{
+    let fill = file[6];
+    let primitive = file[9];
+    Colors {
+        fill: FillColorRegister {
+            set: fill != 0,
+            color: read::fill_color(fill),
+        },
+        fog: color_of(file[7]),
+        blend: color_of(file[8]),
+        primitive: PrimitiveColorRegister {
+            set: primitive != 0,
+            color: read::primitive_color(primitive),
+        },
+        environment: color_of(file[10]),
+    }
+}
+
+fn combiner_of(file: &[u64; 32]) -> Combiner
+    ensures { λ r. ⌜ r ≡ combinerBy (isSet (now (file .entry))) (word (now (file .entry))) ⌝ }
+{
+    let combine = file[11];
+    let key_gb = file[0];
+    let key_r = file[1];
+    let convert = file[2];
+    Combiner {
+        combine: CombineRegister {
+            set: combine != 0,
+            mode: read::combine_mode(combine),
+        },
+        key_gb: KeyGbRegister {
+            set: key_gb != 0,
+            key: read::key_gb(key_gb),
+        },
+        key_r: KeyRRegister {
+            set: key_r != 0,
+            key: read::key_r(key_r),
+        },
+        convert: ConvertRegister {
+            set: convert != 0,
+            convert: read::convert(convert),
+        },
+    }
+}
+
+fn modes_of(file: &[u64; 32]) -> Modes
+    ensures { λ r. ⌜ r ≡ modesBy (isSet (now (file .entry))) (word (now (file .entry))) ⌝ }
+{
+    let other = file[5];
+    let depth = file[4];
+    let scissor = file[3];
+    Modes {
+        other: OtherModesRegister {
+            set: other != 0,
+            modes: read::other_modes(other),
+        },
+        depth: PrimitiveDepthRegister {
+            set: depth != 0,
+            depth: read::primitive_depth(depth),
+        },
+        scissor: ScissorRegister {
+            set: scissor != 0,
+            scissor: read::scissor(scissor),
+        },
+    }
+}
+
+fn images_of(file: &[u64; 32]) -> Images
+    ensures { λ r. ⌜ r ≡ imagesBy (isSet (now (file .entry))) (word (now (file .entry))) ⌝ }
+{
+    let color = file[14];
+    let texture = file[12];
+    let depth = file[13];
+    Images {
+        color: ImageRegister {
+            set: color != 0,
+            image: read::color_image(color),
+        },
+        texture: ImageRegister {
+            set: texture != 0,
+            image: read::image(texture),
+        },
+        depth: DepthImageRegister {
+            set: depth != 0,
+            address: read::depth_image(depth),
+        },
+    }
+}
+
+// A tile by the words of its descriptor and its size.
+fn tile_of(descriptor: u64, size: u64) -> Tile
+    ensures { λ r. ⌜ r ≡ tileWith (not (eqb descriptor 0)) descriptor (not (eqb size 0)) size ⌝ }
+{
+    let area = read::tile_area(size);
+    let upper_left = area.upper_left;
+    let lower_right = area.lower_right;
+    Tile {
+        set: descriptor != 0,
+        descriptor: read::tile_descriptor(descriptor),
+        sized: size != 0,
+        upper_left,
+        lower_right,
+    }
+}
+
+fn tiles_of(file: &[u64; 32]) -> [Tile; 8]
+    ensures { λ r. ⌜ r ≡ tilesBy (isSet (now (file .entry))) (word (now (file .entry))) ⌝ }
+{
+    let t0 = tile_of(file[15], file[23]);
+    let t1 = tile_of(file[16], file[24]);
+    let t2 = tile_of(file[17], file[25]);
+    let t3 = tile_of(file[18], file[26]);
+    let t4 = tile_of(file[19], file[27]);
+    let t5 = tile_of(file[20], file[28]);
+    let t6 = tile_of(file[21], file[29]);
+    let t7 = tile_of(file[22], file[30]);
+    [t0, t1, t2, t3, t4, t5, t6, t7]
+}
+
+// The registers of the words.
+pub fn registers_of(file: [u64; 32]) -> Registers
+    ensures { λ r. ⌜ r ≡ registersIn file ⌝ }
+{
+    let colors = colors_of(&file);
+    let combiner = combiner_of(&file);
+    let modes = modes_of(&file);
+    let images = images_of(&file);
+    let tiles = tiles_of(&file);
+    Registers {
+        colors,
+        combiner,
+        modes,
+        images,
+        tiles,
+    }
 }

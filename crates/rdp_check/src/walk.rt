@@ -63,6 +63,17 @@ fn has_bit(numbers: u64, number: u8) -> bool
     (numbers >> number) % 2 == 1
 }
 
+// The words of a command. Nearly all have one word; by the branch the place after such a command need not wait for its number.
+pub fn count_of(number: u8) -> usize
+    requires { ⌜ number < 64 ⌝ }
+    ensures { λ r. ⌜ r ≡ wordsOf number ⌝ }
+{
+    if !has_bit(LONG, number) {
+        return 1;
+    }
+    rdp_command::words_of(number)
+}
+
 // The first refusal of a command, or 0: 4, then its refusal as a draw, then a missing sync.
 fn refusal(ended: bool, draw: u8, required: u8) -> u32
     requires { ⌜ required ≤ 3 ⌝ }

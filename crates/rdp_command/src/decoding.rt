@@ -65,9 +65,9 @@ fn command_in(base: Base) -> Command
         0x39 => return Command::SetBlendColor(read::color(base.w0)),
         0x3A => return Command::SetPrimitiveColor(read::primitive_color(base.w0)),
         0x3B => return Command::SetEnvironmentColor(read::color(base.w0)),
-        0x3C => return Command::SetCombineMode(base.w0 % 0x100000000000000),
+        0x3C => return Command::SetCombineMode(read::combine_mode(base.w0)),
         0x3D => return Command::SetTextureImage(read::image(base.w0)),
-        0x3E => return Command::SetDepthImage((base.w0 % 0x1000000) as u32),
+        0x3E => return Command::SetDepthImage(read::depth_image(base.w0)),
         0x3F => return Command::SetColorImage(read::color_image(base.w0)),
         _ => return Command::NoOperation(number),
     }

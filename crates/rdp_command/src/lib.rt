@@ -11,7 +11,7 @@ ghost use Rattle.rdp_command.specs.Numbers.{fieldsAnswer, fieldsOut, fro
 mod decoding;
 mod encoding;
 mod packing;
-mod read;
+pub mod read;
 mod table;
 mod values;
 mod words;

@@ -2,9 +2,9 @@
 ghost use mathlib.Core.Path.{_≡_};
 ghost use mathlib.Core.List.{[], _∷_};
 ghost use Prim.Native.Nat.{_*_, _<_, _≤_};
-ghost use Rattle.rdp_command.specs.Layout.{edgeLines, triangleBaseLines, textureStepLines, texturedRectangleLines, keyGbLines, keyRLines, convertLines, scissorLines, primitiveDepthLines, textureModesLines, blenderInputsLines, pixelModesLines, otherModesLines, tileAreaLines, blockLines, tileDescriptorLines, rectangleLines, colorLines, primitiveColorLines, imageLines, colorImageLines};
+ghost use Rattle.rdp_command.specs.Layout.{edgeLines, triangleBaseLines, textureStepLines, texturedRectangleLines, keyGbLines, keyRLines, convertLines, scissorLines, primitiveDepthLines, textureModesLines, blenderInputsLines, pixelModesLines, otherModesLines, tileAreaLines, blockLines, tileDescriptorLines, rectangleLines, colorLines, primitiveColorLines, combineModeLines, imageLines, depthImageLines, colorImageLines};
 ghost use Rattle.rdp_command.specs.Fields.{twosComplement, fieldsOf};
-ghost use Rattle.rdp_command.specs.Groups.{edgeOf, triangleBaseOf, textureStepOf, texturedRectangleOf, keyGbOf, keyROf, convertOf, scissorOf, primitiveDepthOf, textureModesOf, blenderInputsOf, pixelModesOf, otherModesOf, tileAreaOf, blockOf, tileDescriptorOf, rectangleOf, colorOf, primitiveColorOf, imageOf};
+ghost use Rattle.rdp_command.specs.Groups.{natAt, edgeOf, triangleBaseOf, textureStepOf, texturedRectangleOf, keyGbOf, keyROf, convertOf, scissorOf, primitiveDepthOf, textureModesOf, blenderInputsOf, pixelModesOf, otherModesOf, tileAreaOf, blockOf, tileDescriptorOf, rectangleOf, colorOf, primitiveColorOf, imageOf};
 ghost use Rattle.rdp_command.specs.Decode.{cycleTypeIn, fillColorIn, headOf};
 use crate::words::number_in;
 use crate::*;
@@ -327,6 +327,18 @@ pub fn fill_color(w: u64) -> u32
     ensures { λ r. ⌜ r ≡ fillColorIn w ⌝ }
 {
     (w % 0x100000000) as u32
+}
+
+pub fn combine_mode(w: u64) -> u64
+    ensures { λ r. ⌜ r ≡ natAt (fieldsOf combineModeLines (w ∷ [])) 0 ⌝ }
+{
+    w % 0x100000000000000
+}
+
+pub fn depth_image(w: u64) -> u32
+    ensures { λ r. ⌜ r ≡ natAt (fieldsOf depthImageLines (w ∷ [])) 0 ⌝ }
+{
+    (w % 0x1000000) as u32
 }
 
 // The cycle type alone of a Set Other Modes.

@@ -4,7 +4,7 @@ use mathlib.Core.Path.{ap, refl, _∙_}
 use borrow.Author.Tests.{ne-eqb}
 use Rattle.rdp_command.specs.Layout.{layout}
 use Rattle.rdp_command.specs.Commands.{commandOf}
-use Rattle.rdp_command.specs.declared.Command.the-variants.{FillTriangle, TextureRectangle, TextureRectangleFlip, SetKeyGb, SetKeyR, SetConvert, SetScissor, SetPrimitiveDepth, SetOtherModes, LoadTlut, SetTileSize, LoadBlock, LoadTile, SetTile, FillRectangle, SetFillColor, SetFogColor, SetBlendColor, SetPrimitiveColor, SetEnvironmentColor, SetTextureImage, SetColorImage}
+use Rattle.rdp_command.specs.declared.Command.the-variants.{FillTriangle, TextureRectangle, TextureRectangleFlip, SetKeyGb, SetKeyR, SetConvert, SetScissor, SetPrimitiveDepth, SetOtherModes, LoadTlut, SetTileSize, LoadBlock, LoadTile, SetTile, FillRectangle, SetFillColor, SetFogColor, SetBlendColor, SetPrimitiveColor, SetEnvironmentColor, SetCombineMode, SetTextureImage, SetDepthImage, SetColorImage}
 use Rattle.rdp_command.specs.declared.decoding.Base.{Base}
 use Rattle.rdp_command.proofs.CommandLaws.{at-number, at-triangle}
 use borrow.Author.Needs.{needs}
@@ -169,9 +169,12 @@ returns-24 : tie.Need-returns-24
 unfolding commandOf layout
 returns-24 c = at-number (words (c .before .before .before .args .base)) (c .before .match .keys23) (ap SetEnvironmentColor (c .color3 .ensures))
 
+combine-mode-requires : tie.Need-combine-mode-requires
+combine-mode-requires c κs = search needs
+
 returns-25 : tie.Need-returns-25
 unfolding commandOf layout
-returns-25 c = at-number (words (c .before .before .before .args .base)) (c .before .match .keys24) refl
+returns-25 c = at-number (words (c .before .before .before .args .base)) (c .before .match .keys24) (ap SetCombineMode (c .combine-mode .ensures))
 
 image-requires : tie.Need-image-requires
 image-requires c κs = search needs
@@ -180,12 +183,12 @@ returns-26 : tie.Need-returns-26
 unfolding commandOf layout
 returns-26 c = at-number (words (c .before .before .before .args .base)) (c .before .match .keys25) (ap SetTextureImage (c .image .ensures))
 
-cast-t28 : tie.Need-cast-t28
-cast-t28 c = search needs
+depth-image-requires : tie.Need-depth-image-requires
+depth-image-requires c κs = search needs
 
 returns-27 : tie.Need-returns-27
 unfolding commandOf layout
-returns-27 c = at-number (words (c .before .before .before .args .base)) (c .before .match .keys26) refl
+returns-27 c = at-number (words (c .before .before .before .args .base)) (c .before .match .keys26) (ap SetDepthImage (c .depth-image .ensures))
 
 color-image-requires : tie.Need-color-image-requires
 color-image-requires c κs = search needs
@@ -277,10 +280,11 @@ command-in-spec =
     returns-23
     color-requires-3
     returns-24
+    combine-mode-requires
     returns-25
     image-requires
     returns-26
-    cast-t28
+    depth-image-requires
     returns-27
     color-image-requires
     returns-28

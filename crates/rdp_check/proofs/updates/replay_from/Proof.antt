@@ -1,0 +1,103 @@
+-- `rdp_check::updates::replay_from` meets its contract. The loop's invariant: the words after what is left are those after the list. The measure is what
+-- is left of the words. Assumes nothing.
+use mathlib.Core.Path.{refl, ap}
+use Prim.Native.Nat.{_-_, _<_}
+use native.Mathlib.Omega.{arith}
+use Rattle.rdp_command.proofs.PlaceLaws.{number-small}
+use Rattle.rdp_check.specs.RegisterWords.{tileIn}
+use Rattle.rdp_check.proofs.RegisterLaws.{slot-small, tile-small}
+use Rattle.rdp_check.proofs.ReplayLaws.{Replayed, first, ended, few, past, falls, again}
+use borrow.Author.Needs.{needs}
+use Rattle.rdp_check.proofs.updates.replay_from.Statement.{statement}
+use Rattle.rdp_check.proofs.updates.replay_from.Tie as tie
+
+abbrev Inv-loop : tie.InvT-loop
+Inv-loop list end words table q₀ at₀ q at = Replayed list end words q₀ q at
+
+abbrev μ-loop : tie.MeasureT-loop
+μ-loop list end words table q₀ at₀ q at = words - at
+
+slot-table-requires : tie.Need-slot-table-requires Inv-loop μ-loop
+slot-table-requires c κs = search needs
+
+loop-holds : tie.Need-loop-holds Inv-loop μ-loop
+loop-holds c = first _ _ _ _ (search needs) refl
+
+head-at-requires : tie.Need-head-at-requires Inv-loop μ-loop
+head-at-requires c κs = search needs
+
+count-of-requires : tie.Need-count-of-requires Inv-loop μ-loop
+count-of-requires c κs = rw (c .head-at .ensures) (number-small _)
+
+add-next : tie.Need-add-next Inv-loop μ-loop
+add-next c =
+    let t = c .before .before in
+    let v = t .before .loop .inv in
+    let f = few v (t .loop-test .taken) _ (ap (λ x. x .number) (c .before .head-at .ensures)) _ (c .count-of .ensures) in
+    omega (arith, f, v .within, v .count)
+
+returns : tie.Need-returns Inv-loop μ-loop
+returns c =
+    let w = c .before in
+    let t = w .before .before in
+    past (t .before .loop .inv) (t .loop-test .taken) _ (ap (λ x. x .number) (w .before .head-at .ensures)) _ (w .count-of .ensures) (c .if1 .taken)
+
+word-at-requires : tie.Need-word-at-requires Inv-loop μ-loop
+word-at-requires c κs = search needs
+
+slot-of-requires : tie.Need-slot-of-requires Inv-loop μ-loop
+slot-of-requires c κs =
+    let h = c .before .before .before .before in
+    (h .before .before .before .slot-table .ensures, rw (h .head-at .ensures) (number-small _))
+
+mul-q : tie.Need-mul-q Inv-loop μ-loop
+mul-q c =
+    let h = c .before .before .before .before .before in
+    let small : h .head-at .result .number < 64 = rw (h .head-at .ensures) (number-small _) in
+    let slot = slot-small (h .head-at .result .number) (tileIn (c .before .before .word-at .result)) small (tile-small _) in
+    record { fits = omega (arith, slot, c .slot-of .ensures) }
+
+array-write-q : tie.Need-array-write-q Inv-loop μ-loop
+array-write-q c =
+    let h = c .before .before .before .before .before in
+    let small : h .head-at .result .number < 64 = rw (h .head-at .ensures) (number-small _) in
+    let slot = slot-small (h .head-at .result .number) (tileIn (c .before .before .word-at .result)) small (tile-small _) in
+    omega (arith, slot, c .slot-of .ensures)
+
+loop-less : tie.Need-loop-less Inv-loop μ-loop
+loop-less c =
+    let i = c .before .before .before in
+    let h = i .before .before in
+    let t = h .before in
+    falls (t .before .loop .inv) (t .loop-test .taken) _ (ap (λ x. x .number) (h .head-at .ensures)) _ (i .before .count-of .ensures) (i .if1 .left)
+
+loop-again : tie.Need-loop-again Inv-loop μ-loop
+loop-again c =
+    let i = c .before .before .before in
+    let h = i .before .before in
+    let t = h .before in
+    again (t .before .loop .inv) (t .loop-test .taken) _ (ap (λ x. x .number) (h .head-at .ensures)) _ (i .before .count-of .ensures) (i .if1 .left) _ _
+    (c .before .before .word-at .ensures) (c .slot-of .ensures)
+
+returns-2 : tie.Need-returns-2 Inv-loop μ-loop
+returns-2 c = ended (c .before .loop .inv) (c .loop-test .left)
+
+pub replay-from-spec : {M : Type 1} → statement M
+replay-from-spec =
+    tie.close
+    (tie.spec
+    Inv-loop
+    μ-loop
+    slot-table-requires
+    loop-holds
+    head-at-requires
+    count-of-requires
+    add-next
+    returns
+    word-at-requires
+    slot-of-requires
+    mul-q
+    array-write-q
+    loop-less
+    loop-again
+    returns-2)
