@@ -13,22 +13,25 @@ use Rattle.rdp_command.specs.declared.Decoded.{Decoded}
 use Rattle.rdp_command.specs.declared.Decoded.the-variants.{Whole, Refused}
 use Rattle.rdp_command.proofs.PlaceLaws.{number-small}
 use Rattle.rdp_command.proofs.BoundLaws.{decode-refused, fields-decoded, lines-most, fields-most, fields-place, from-refused, encode-most, encode-words}
-use Rattle.rdp_check.proofs.BoundLaws.{check-most, place-most, repair-bounds}
-use Rattle.rdp_draw.proofs.BoundLaws.{draw-most, draw-place}
+use Rattle.rdp_check.specs.Check.{checkRefusals, checkOf}
+use Rattle.rdp_check.specs.Repair.{repairOf}
+use Rattle.rdp_draw.specs.Draw.{drawAnswer}
+use Rattle.rdp_check.proofs.BoundLaws.{checkNumbers, repairNumbers, check-numbers, among-below, place-most, repair-bounds}
+use Rattle.rdp_draw.proofs.BoundLaws.{drawNumbers, draw-numbers, draw-place}
 use Rattle.lanyardrove.specs.Replies.{Reply, packed, unpacked, plain, checkReply, repairReply, drawReply, decodedReply, decodeReply, madeReply, encodeReply, Occurs, ofCheck, ofRepair, ofDraw, ofDecode, ofEncode}
 use Rattle.lanyardrove.proofs.PackLaws.{Small, unpacked-packed, packed-fits}
 
 check-small : (list : List ℕ) → Small (checkReply list)
-check-small list = record { number = omega (arith, check-most list); third = omega arith; place = omega (arith, place-most 4096 true list) }
+check-small list = record { number = among-below 256 (checkOf list .number) checkNumbers tt (check-numbers list); third = omega arith; place = omega (arith, place-most 4096 checkRefusals list) }
 
 repair-small : (list : List ℕ) (work out : ℕ) → Small (repairReply list work out)
 repair-small list work out =
     let b = repair-bounds list work out in
-    record { number = omega (arith, b .number); third = omega (arith, b .cycles); place = omega (arith, b .place) }
+    record { number = among-below 256 (repairOf list work out .number) repairNumbers tt (b .number); third = omega (arith, b .cycles); place = omega (arith, b .place) }
 
 draw-small : (list : List ℕ) (start len : ℕ) → Small (drawReply list start len)
 draw-small list start len =
-    record { number = omega (arith, draw-most list start len); third = omega arith; place = omega (arith, draw-place list start len) }
+    record { number = among-below 256 (drawAnswer list start len .number) drawNumbers tt (draw-numbers list start len); third = omega arith; place = omega (arith, draw-place list start len) }
 
 -- a refusal that is known
 plain-small : (a : Answer) (n : ℕ) → n < 2 ^ 8 → a ≡ record { number = n; place = 0 } → Small (plain a)

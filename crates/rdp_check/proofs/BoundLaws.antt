@@ -1,49 +1,57 @@
 -- Which answers the check and the repair give, and how large their parts are. Assumes nothing.
-use Prim.Native.Nat.{ℕ, zero, suc, _+_, _*_, _/_, _%_, _≤_}
-use mathlib.Core.Bool.{Bool, false}
+use Prim.Native.Nat.{ℕ, zero, suc, _+_, _*_, _/_, _%_, _≤_, _<_}
+use mathlib.Core.Bool.{Bool, true, _&&_}
 use mathlib.Core.List.{List, [], _∷_}
 use mathlib.Core.Path.{_≡_}
 use native.Mathlib.Omega.{arith}
-use borrow.Author.Tests.{eqb-true, eqb-false, ltb-false}
-use lib.Dec.{eqb, ltb}
+use borrow.Author.Tests.{eqb-true, ltb-true, ltb-false}
+use lib.Dec.{T, eqb, ltb}
 use lib.ListN.{length, length-map}
-use Rattle.rdp_command.specs.Words.{wordAt}
-use Rattle.rdp_command.specs.Kinds.{wordsOf}
+use Rattle.rdp_command.specs.Kinds.{among, wordsOf}
 use Rattle.rdp_command.specs.Decode.{firstNumber}
-use Rattle.rdp_command.proofs.Tests.{by-test}
-use Rattle.rdp_command.proofs.PlaceLaws.{number-small}
+use Rattle.rdp_command.proofs.Tests.{both, true-of, by-test}
 use Rattle.rdp_check.specs.Commands.{commandsOf, restOf, wordsIn}
-use Rattle.rdp_check.specs.Check.{State, start, Outcome, settle, afterCommand, refusalAt, judge, outcomeWithin, checkOf}
-use Rattle.rdp_check.specs.Refusals.{stateAfter, Refuses, afterSyncFull, notSet, fillOnFourBits, syncMissing, Holds, tooLong, notWords, pastEnd, atCommand}
+use Rattle.rdp_check.specs.Check.{State, start, Refusals, ownRefusals, syncRefusals, checkRefusals, repairRefusals, Outcome, settle, afterCommand, refusalAt, judge, outcomeWithin, checkOf}
 use Rattle.rdp_check.specs.Plan.{best, numbersOf}
 use Rattle.rdp_check.specs.Repair.{repairedBytes, roomed, repairOf}
 use Rattle.rdp_check.specs.declared.Repaired.{Repaired}
-use Rattle.rdp_check.proofs.HazardLaws.{required-most}
-use Rattle.rdp_check.proofs.FirstLaws.{check-first}
+use Rattle.rdp_check.proofs.OrderLaws.{allGive}
+use Rattle.rdp_check.proofs.FirstLaws.{own-numbered, outcome-gives}
 use Rattle.rdp_check.proofs.JoinLaws.{words-inside}
-use Rattle.rdp_check.proofs.JudgeLaws.{loose-most}
 use Rattle.rdp_check.proofs.BackLaws.{best-most}
 use Rattle.rdp_check.proofs.RepairedLaws.{sound, repaired-most}
 use Rattle.rdp_check.proofs.RepairLaws.{commands-few}
 
--- ---- the numbers of the check
+-- ---- the numbers that there are
 
-refuses-most : (s : State) (c : List ℕ) (n : ℕ) → Refuses s c n → n ≤ 9
-refuses-most s c n (afterSyncFull t) = omega arith
-refuses-most s c n (notSet t u) = omega arith
-refuses-most s c n (fillOnFourBits t u) = omega arith
-refuses-most s c n (syncMissing k e) = omega (arith, required-most (s .hazards) (firstNumber c) (number-small (wordAt c 0)))
+-- the numbers of the check's answers, and of the repair's
+abbrev pub checkNumbers : List ℕ
+checkNumbers = 0 ∷ 1 ∷ 2 ∷ 3 ∷ 4 ∷ 5 ∷ 6 ∷ 7 ∷ 8 ∷ 9 ∷ []
 
-pub holds-most : (list : List ℕ) (n p : ℕ) → Holds list n p → n ≤ 9
-holds-most list n p (tooLong h) = omega arith
-holds-most list n p (notWords h) = omega arith
-holds-most list n p (pastEnd h) = omega arith
-holds-most list n p (atCommand before c after m e r) = refuses-most (stateAfter start before) c n r
+abbrev pub repairNumbers : List ℕ
+repairNumbers = 0 ∷ 1 ∷ 2 ∷ 3 ∷ 4 ∷ 5 ∷ 6 ∷ 13 ∷ 14 ∷ []
 
-pub check-most : (list : List ℕ) → checkOf list .number ≤ 9
-check-most list =
-    by-test (eqb (checkOf list .number) 0) (λ t. omega (arith, eqb-true (checkOf list .number) 0 t))
-    (λ f. holds-most list _ _ (check-first list .refused (eqb-false _ _ f) .0))
+check-known : (s : State) (c : List ℕ) → T (allGive (λ n. among n checkNumbers) (checkRefusals s c))
+unfolding ownRefusals syncRefusals
+check-known s c = tt
+
+pub check-numbers : (list : List ℕ) → T (among (checkOf list .number) checkNumbers)
+check-numbers list = outcome-gives (λ n. among n checkNumbers) checkRefusals check-known tt tt tt tt 4096 list
+
+own-known : (s : State) (c : List ℕ) → T (allGive (λ n. among n repairNumbers) (repairRefusals s c))
+unfolding ownRefusals
+own-known s c = tt
+
+-- a number of a list is below what all of them are below
+abbrev pub allBelow : ℕ → List ℕ → Bool
+allBelow b [] = true
+allBelow b (x ∷ xs) = ltb x b && allBelow b xs
+
+pub among-below : (b n : ℕ) (xs : List ℕ) → T (allBelow b xs) → T (among n xs) → n < b
+among-below b n [] t m = absurd m
+among-below b n (x ∷ xs) t m =
+    let r = both (ltb x b) (allBelow b xs) t in
+    by-test (eqb n x) (λ e. rw (eqb-true n x e) (ltb-true _ _ (true-of _ (r .0)))) (λ f. among-below b n xs (r .1) (rw f at m))
 
 -- ---- places
 
@@ -51,48 +59,48 @@ settled-place : (g at words : ℕ) (s : State) (next : Outcome) → next .place 
 settled-place zero at words s next h = h
 settled-place (suc g) at words s next h = omega arith
 
-judge-place : (strict : Bool) (s : State) (at : ℕ) (cs : List (List ℕ)) (rest : List ℕ) → judge strict s at cs rest .place ≤ at + wordsIn cs
+judge-place : (refusals : Refusals) (s : State) (at : ℕ) (cs : List (List ℕ)) (rest : List ℕ) → judge refusals s at cs rest .place ≤ at + wordsIn cs
 unfolding judge
-judge-place strict s at [] [] = omega arith
-judge-place strict s at [] (b ∷ rest) = omega arith
-judge-place strict s at (c ∷ cs) rest =
-    settled-place (refusalAt strict s c) at (wordsOf (firstNumber c) + wordsIn cs) s _
-    (omega (arith, judge-place strict (afterCommand s c) (at + wordsOf (firstNumber c)) cs rest))
+judge-place refusals s at [] [] = omega arith
+judge-place refusals s at [] (b ∷ rest) = omega arith
+judge-place refusals s at (c ∷ cs) rest =
+    settled-place (refusalAt refusals s c) at (wordsOf (firstNumber c) + wordsIn cs) s _
+    (omega (arith, judge-place refusals (afterCommand s c) (at + wordsOf (firstNumber c)) cs rest))
 
 -- the place is within the words allowed
-pub place-most : (words : ℕ) (strict : Bool) (list : List ℕ) → outcomeWithin words strict list .place ≤ words
+pub place-most : (words : ℕ) (refusals : Refusals) (list : List ℕ) → outcomeWithin words refusals list .place ≤ words
 unfolding outcomeWithin
-place-most words strict list =
+place-most words refusals list =
     by-test (ltb (8 * words) (length list)) (λ t. rw t (omega arith))
     (λ f.
     let short : length list ≤ 8 * words = ltb-false _ _ f in
     by-test (eqb (length list % 8) 0)
-    (λ t. rw (f, t) (omega (arith, judge-place strict start 0 (commandsOf list) (restOf list), words-inside list)))
+    (λ t. rw (f, t) (omega (arith, judge-place refusals start 0 (commandsOf list) (restOf list), words-inside list)))
     (λ g. rw (f, g) (omega arith)))
 
 -- ---- the repair
 
 pub record Bounds (r : Repaired) : Type 0 where
-  pub number : r .number ≤ 14
+  pub number : T (among (r .number) repairNumbers)
   pub place : r .place ≤ 4096
   pub cycles : r .cycles ≤ 102400
 
-room-bounds : (list : List ℕ) (work out : ℕ) → outcomeWithin 2048 false list .number ≡ 0 → Bounds (roomed list work out)
+room-bounds : (list : List ℕ) (work out : ℕ) → outcomeWithin 2048 repairRefusals list .number ≡ 0 → Bounds (roomed list work out)
 unfolding roomed
 room-bounds list work out e =
-    let s = sound false list e in
+    let s = sound repairRefusals own-numbered list e in
     let few : length (commandsOf list) ≤ 2048 = commands-few list e in
     let long : length (repairedBytes list) / 8 ≤ 4096 = omega (arith, repaired-most list (s .none), s .short) in
     let least : best (numbersOf (commandsOf list)) 0 ≤ 102400 = omega (arith, best-most (numbersOf (commandsOf list)) 0, length-map (commandsOf list) firstNumber) in
-    by-test (ltb work (16 * length (commandsOf list))) (λ t. rw t (record { number = omega arith; place = omega arith; cycles = omega arith }))
+    by-test (ltb work (16 * length (commandsOf list))) (λ t. rw t (record { number = tt; place = omega arith; cycles = omega arith }))
     (λ f.
     by-test (ltb out (length (repairedBytes list)))
-    (λ t. rw (f, t) (record { number = omega arith; place = long; cycles = omega arith }))
-    (λ g. rw (f, g) (record { number = omega arith; place = long; cycles = least })))
+    (λ t. rw (f, t) (record { number = tt; place = long; cycles = omega arith }))
+    (λ g. rw (f, g) (record { number = tt; place = long; cycles = least })))
 
 pub repair-bounds : (list : List ℕ) (work out : ℕ) → Bounds (repairOf list work out)
 unfolding repairOf
 repair-bounds list work out =
-    by-test (eqb (outcomeWithin 2048 false list .number) 0)
+    by-test (eqb (outcomeWithin 2048 repairRefusals list .number) 0)
     (λ t. rw t (room-bounds list work out (eqb-true _ _ t)))
-    (λ f. rw f (record { number = omega (arith, loose-most 2048 list); place = omega (arith, place-most 2048 false list); cycles = omega arith }))
+    (λ f. rw f (record { number = outcome-gives (λ n. among n repairNumbers) repairRefusals own-known tt tt tt tt 2048 list; place = omega (arith, place-most 2048 repairRefusals list); cycles = omega arith }))

@@ -1,304 +1,246 @@
--- The check accepts exactly where no refusal holds, and else answers the first that does, at its place. Assumes nothing.
-use mathlib.Core.Bool.{Bool, true, false, cond, not, _&&_}
+-- A list's judgement is the first of its refusals in their order; so the check accepts exactly where none of its refusals holds. Assumes nothing.
+use mathlib.Core.Bool.{Bool, not}
 use mathlib.Core.List.{List, [], _∷_, _++_}
+use mathlib.Core.Logic.{inl, inr, ⊎-elim}
 use mathlib.Core.Path.{_≡_, refl, sym, ap, subst, _∙_}
-use Prim.Native.Nat.{ℕ, zero, suc, _+_, _/_, _%_, _≤_, _<_}
+use Prim.Native.Nat.{ℕ, zero, suc, _+_, _*_, _/_, _%_}
+use native.Mathlib.Nat.{suc-ne-zero}
 use native.Mathlib.Omega.{arith}
-use borrow.Author.Tests.{ltb-true, ltb-false, eqb-true, eqb-false, le-leb, lt-leb}
-use lib.Dec.{T, eqb, ltb, leb}
+use borrow.Author.Tests.{ltb-true, eqb-false, lt-ltb, ne-eqb}
+use lib.Dec.{T, eqb, ltb}
 use lib.ListN.{length}
 use Rattle.rdp_command.specs.Kinds.{wordsOf}
 use Rattle.rdp_command.specs.Decode.{firstNumber}
-use Rattle.rdp_command.proofs.Tests.{both, both-of, by-test}
-use Rattle.rdp_check.specs.Hazards.{requiredOf}
+use Rattle.rdp_command.specs.declared.Answer.{Answer}
+use Rattle.rdp_command.proofs.Tests.{by-test, true-of, false-of}
 use Rattle.rdp_check.specs.Commands.{commandsOf, restOf, wordsIn}
-use Rattle.rdp_check.specs.Check.{State, start, afterCommand, draws, ready, fourBitFill, missing, refusalOf, refusalAt, Outcome, outcome, atEnd, settle, judge, judgeList, outcomeWithin, checkOf}
-use Rattle.rdp_check.specs.Refusals.{stateAfter, Refuses, afterSyncFull, notSet, fillOnFourBits, syncMissing, Holds, tooLong, notWords, pastEnd, atCommand, NotAfter, earlier, same, IsFirst}
-use Rattle.rdp_check.proofs.JoinLaws.{command-some, parsed, joined-whole, length-joined}
+use Rattle.rdp_check.specs.Order.{firstOf, answer, placed, Among}
+use Rattle.rdp_check.specs.Check.{State, start, afterCommand, Refusals, ownRefusals, syncRefusals, checkRefusals, repairRefusals, noRefusals, Outcome, settle, judge, outcomeWithin, checkOf}
+use Rattle.rdp_check.specs.Refusals.{stateAfter, Holds, tooLong, notWords, pastEnd, atCommand, isSome, commandGrounds, groundsOf, FirstRefusal}
+use Rattle.rdp_check.proofs.OrderLaws.{Found, none, some, found, among-left, among-right, among-parts, none-among, among-placed, placed-among, refusedAt, placed-first, allGive, among-gives, first-gives, answered}
+use Rattle.rdp_check.proofs.JoinLaws.{parsed, joined-whole, length-joined}
 
--- ---- at one command
+-- no refusal of a command has number 0
+abbrev pub Numbered : Refusals → Type 0
+Numbered refusals = (s : State) (c : List ℕ) → Among 0 (refusals s c) → ⊥
 
--- a number is 0 where nothing holds, and else the least that holds
-pub record Least (P : ℕ → Type 0) (g : ℕ) : Type 0 where
-  pub none : g ≡ 0 → (n : ℕ) → P n → ⊥
-  pub some : (g ≡ 0 → ⊥) → P g
-  pub least : (n : ℕ) → P n → g ≤ n
+pub own-numbered : Numbered repairRefusals
+unfolding ownRefusals
+own-numbered s c m = among-gives (λ n. not (eqb n 0)) 0 (repairRefusals s c) tt m
 
--- a test for the number k, and else the least above it
-pub first-of :
-    (P : ℕ → Type 0) (k : ℕ) (b : Bool) (g : ℕ) → 0 < k → (T b → P k) → ((n : ℕ) → P n → n ≡ k → T b) → ((n : ℕ) → P n → k ≤ n) →
-    Least (λ (n : ℕ). P n × (k < n)) g → Least P (cond b k g)
-first-of P k true g h to of low l = record { none = λ z n p. omega arith; some = λ z. to tt; least = low }
-first-of P k false g h to of low l =
-    let above : (n : ℕ) → P n → k < n = λ n p. by-test (eqb n k) (λ t. absurd (of n p (eqb-true n k t))) (λ f. omega (arith, eqb-false n k f, low n p)) in
-    record { none = λ z n p. l .none z n (p, above n p); some = λ z. l .some z .0; least = λ n p. l .least n (p, above n p) }
+pub check-numbered : Numbered checkRefusals
+unfolding ownRefusals syncRefusals
+check-numbered s c m = among-gives (λ n. not (eqb n 0)) 0 (checkRefusals s c) tt m
 
-module _ (s : State) (c : List ℕ) where
-  abbrev q : ℕ
-  q = requiredOf (s .hazards) (firstNumber c)
+pub none-numbered : Numbered noRefusals
+none-numbered s c m = m
 
-  abbrev drawing : Bool
-  drawing = draws (firstNumber c)
+-- ---- bytes that are left
 
-  from-four : (n : ℕ) → Refuses s c n → 4 ≤ n
-  from-four n (afterSyncFull t) = omega arith
-  from-four n (notSet t u) = omega arith
-  from-four n (fillOnFourBits t u) = omega arith
-  from-four n (syncMissing k e) = omega arith
+some-bytes : (bs : List ℕ) → (bs ≡ [] → ⊥) → T (isSome bs)
+some-bytes [] h = h refl
+some-bytes (b ∷ bs) h = tt
 
-  of-four : (n : ℕ) → Refuses s c n → n ≡ 4 → T (s .ended)
-  of-four n (afterSyncFull t) e = t
-  of-four n (notSet t u) e = absurd (omega arith)
-  of-four n (fillOnFourBits t u) e = absurd (omega arith)
-  of-four n (syncMissing k z) e = absurd (omega arith)
+bytes-some : (bs : List ℕ) → T (isSome bs) → bs ≡ [] → ⊥
+bytes-some [] t e = t
+bytes-some (b ∷ bs) t e = suc-ne-zero (length bs) (ap length e)
 
-  of-five : (n : ℕ) → Refuses s c n → n ≡ 5 → T (drawing && not (ready (s .registers)))
-  of-five n (afterSyncFull t) e = absurd (omega arith)
-  of-five n (notSet t u) e = both-of drawing (not (ready (s .registers))) t u
-  of-five n (fillOnFourBits t u) e = absurd (omega arith)
-  of-five n (syncMissing k z) e = absurd (omega arith)
+-- what cannot be left is not there
+pub no-bytes : (bs : List ℕ) → ((bs ≡ [] → ⊥) → ⊥) → bs ≡ []
+no-bytes [] h = refl
+no-bytes (b ∷ bs) h = absurd (h (λ e. suc-ne-zero (length bs) (ap length e)))
 
-  of-six : (n : ℕ) → Refuses s c n → n ≡ 6 → T (drawing && fourBitFill (s .registers))
-  of-six n (afterSyncFull t) e = absurd (omega arith)
-  of-six n (notSet t u) e = absurd (omega arith)
-  of-six n (fillOnFourBits t u) e = both-of drawing (fourBitFill (s .registers)) t u
-  of-six n (syncMissing k z) e = absurd (omega arith)
+-- ---- the judgement is the first in the order
 
-  of-more : (n : ℕ) → Refuses s c n → 6 < n → n ≡ 6 + q
-  of-more n (afterSyncFull t) h = absurd (omega arith)
-  of-more n (notSet t u) h = absurd (omega arith)
-  of-more n (fillOnFourBits t u) h = absurd (omega arith)
-  of-more n (syncMissing k z) h = omega arith
+abbrev pub answerOf : Outcome → Answer
+answerOf o = answer (o .number) (o .place)
 
-  to-more : (j : ℕ) → q ≡ j → (j ≡ 0 → ⊥) → Refuses s c (6 + j)
-  to-more zero e z = absurd (z refl)
-  to-more (suc k) e z = let r : 7 + k ≡ 6 + suc k = omega arith in subst (Refuses s c) r (syncMissing k e)
+settled-refused : (g at : ℕ) (s : State) (next : Outcome) → answerOf (settle g at s next) ≡ refusedAt g at (answerOf next)
+settled-refused zero at s next = refl
+settled-refused (suc g) at s next = refl
 
-  abbrev Above : ℕ → Type 0
-  Above n = ((Refuses s c n × (4 < n)) × (5 < n)) × (6 < n)
+module _ (refusals : Refusals) where
+  module _ (known : Numbered refusals) where
+    judged-first :
+        (s : State) (at : ℕ) (cs : List (List ℕ)) (rest : List ℕ) →
+        answerOf (judge refusals s at cs rest) ≡ firstOf (commandGrounds refusals s at cs rest) (answer 0 (at + wordsIn cs))
+    unfolding judge commandGrounds
+    judged-first s at [] [] = ap (answer 0) (omega arith)
+    judged-first s at [] (b ∷ rest) = refl
+    judged-first s at (c ∷ cs) rest =
+        let w = wordsOf (firstNumber c) in
+        let e : (at + w) + wordsIn cs ≡ at + (w + wordsIn cs) = omega arith in
+        let next = judge refusals (afterCommand s c) (at + w) cs rest in
+        let more = commandGrounds refusals (afterCommand s c) (at + w) cs rest in
+        settled-refused (firstOf (refusals s c) 0) at s next ∙
+        ap (refusedAt (firstOf (refusals s c) 0) at) (judged-first (afterCommand s c) (at + w) cs rest ∙ ap (λ (k : ℕ). firstOf more (answer 0 k)) e) ∙
+        sym (placed-first at more (answer 0 (at + (w + wordsIn cs))) (refusals s c) (known s c))
 
-  more-least : Least Above (missing q)
-  more-least =
-      by-test (eqb q 0)
-      (λ t.
-      let z : q ≡ 0 = eqb-true q 0 t in
-      rw t
-      (record {
-        none = λ e n p. omega (arith, of-more n (p .0 .0 .0) (p .1), p .1);
-        some = λ ne. absurd (ne refl);
-        least = λ n p. omega arith;
-      }))
-      (λ f.
-      let nz : q ≡ 0 → ⊥ = eqb-false q 0 f in
-      rw f
-      (record {
-        none = λ e n p. omega arith;
-        some = λ ne. (((to-more q refl nz, omega arith), omega arith), omega arith);
-        least = λ n p. omega (arith, of-more n (p .0 .0 .0) (p .1));
-      }))
+    outcome-first :
+        (words : ℕ) (list : List ℕ) →
+        answerOf (outcomeWithin words refusals list) ≡ firstOf (groundsOf words refusals list) (answer 0 (wordsIn (commandsOf list)))
+    unfolding outcomeWithin groundsOf
+    outcome-first words list =
+        let cs = commandsOf list in
+        let e : 0 + wordsIn cs ≡ wordsIn cs = omega arith in
+        by-test (ltb (8 * words) (length list)) (λ t. rw t)
+        (λ f.
+        by-test (eqb (length list % 8) 0)
+        (λ t.
+        rw (f, t)
+        (judged-first start 0 cs (restOf list) ∙ ap (λ (k : ℕ). firstOf (commandGrounds refusals start 0 cs (restOf list)) (answer 0 k)) e))
+        (λ g. rw (f, g)))
 
-  refusal-least : Least (Refuses s c) (refusalAt true s c)
-  unfolding refusalOf
-  refusal-least =
-      first-of (Refuses s c) 4 (s .ended) _ (omega arith) afterSyncFull of-four from-four
-      (first-of (λ (n : ℕ). Refuses s c n × (4 < n)) 5 (drawing && not (ready (s .registers))) _ (omega arith)
-      (λ t. let b = both drawing (not (ready (s .registers))) t in (notSet (b .0) (b .1), omega arith))
-      (λ n p. of-five n (p .0))
-      (λ n p. p .1)
-      (first-of (λ (n : ℕ). (Refuses s c n × (4 < n)) × (5 < n)) 6 (drawing && fourBitFill (s .registers)) _ (omega arith)
-      (λ t. let b = both drawing (fourBitFill (s .registers)) t in ((fillOnFourBits (b .0) (b .1), omega arith), omega arith))
-      (λ n p. of-six n (p .0 .0))
-      (λ n p. p .1)
-      more-least))
+  -- ---- the order has exactly the refusals that may hold
 
--- ---- along the commands
+  to-commands :
+      (s : State) (at : ℕ) (before : List (List ℕ)) (c : List ℕ) (after : List (List ℕ)) (rest : List ℕ) (n : ℕ) →
+      Among n (refusals (stateAfter s before) c) → Among (answer n (at + wordsIn before)) (commandGrounds refusals s at (before ++ c ∷ after) rest)
+  unfolding commandGrounds
+  to-commands s at [] c after rest n m =
+      let e : at ≡ at + 0 = omega arith in
+      subst (λ (p : ℕ). Among (answer n p) (commandGrounds refusals s at (c ∷ after) rest)) e
+      (among-left (answer n at) (placed at (refusals s c)) _ (among-placed n at (refusals s c) m))
+  to-commands s at (b ∷ before) c after rest n m =
+      let w = wordsOf (firstNumber b) in
+      let e : (at + w) + wordsIn before ≡ at + (w + wordsIn before) = omega arith in
+      among-right (answer n (at + (w + wordsIn before))) (placed at (refusals s b)) _
+      (subst (λ (p : ℕ). Among (answer n p) (commandGrounds refusals (afterCommand s b) (at + w) (before ++ c ∷ after) rest)) e
+      (to-commands (afterCommand s b) (at + w) before c after rest n m))
 
--- no command of some is refused
-abbrev None : State → List (List ℕ) → Type 0
-None s cs = (before : List (List ℕ)) (c : List ℕ) (after : List (List ℕ)) (n : ℕ) → cs ≡ before ++ c ∷ after → Refuses (stateAfter s before) c n → ⊥
+  to-end :
+      (s : State) (at : ℕ) (cs : List (List ℕ)) (rest : List ℕ) → T (isSome rest) →
+      Among (answer 3 (at + wordsIn cs)) (commandGrounds refusals s at cs rest)
+  unfolding commandGrounds
+  to-end s at [] rest t = let e : at ≡ at + 0 = omega arith in inl (t, ap (answer 3) e)
+  to-end s at (c ∷ cs) rest t =
+      let w = wordsOf (firstNumber c) in
+      let e : (at + w) + wordsIn cs ≡ at + (w + wordsIn cs) = omega arith in
+      among-right (answer 3 (at + (w + wordsIn cs))) (placed at (refusals s c)) _
+      (subst (λ (p : ℕ). Among (answer 3 p) (commandGrounds refusals (afterCommand s c) (at + w) cs rest)) e (to-end (afterCommand s c) (at + w) cs rest t))
 
--- no command before the place is refused, and the command there by no smaller number
-abbrev First : State → ℕ → List (List ℕ) → ℕ → ℕ → Type 0
-First s at cs number place =
-    (before : List (List ℕ)) (c : List ℕ) (after : List (List ℕ)) (n : ℕ) →
-    cs ≡ before ++ c ∷ after → Refuses (stateAfter s before) c n → NotAfter number place n (at + wordsIn before)
+  -- where in a list's commands a refusal holds
+  data Located (s : State) (at : ℕ) (cs : List (List ℕ)) (rest : List ℕ) (n p : ℕ) : Type 0 where
+    cut : n ≡ 3 → T (isSome rest) → p ≡ at + wordsIn cs → Located s at cs rest n p
+    command :
+        (before : List (List ℕ)) (c : List ℕ) (after : List (List ℕ)) →
+        cs ≡ before ++ c ∷ after → Among n (refusals (stateAfter s before) c) → p ≡ at + wordsIn before → Located s at cs rest n p
 
-data Found (s : State) (at : ℕ) (cs : List (List ℕ)) (rest : List ℕ) (o : Outcome) : Type 0 where
-  accepts : o .number ≡ 0 → rest ≡ [] → o .place ≡ at + wordsIn cs → None s cs → Found s at cs rest o
-  cuts : o .number ≡ 3 → (rest ≡ [] → ⊥) → o .place ≡ at + wordsIn cs → None s cs → Found s at cs rest o
-  refuses :
-      (before : List (List ℕ)) (c : List ℕ) (after : List (List ℕ)) →
-      cs ≡ before ++ c ∷ after → Refuses (stateAfter s before) c (o .number) → o .place ≡ at + wordsIn before → First s at cs (o .number) (o .place) →
-      Found s at cs rest o
+  located-next :
+      (s : State) (at : ℕ) (c : List ℕ) (cs : List (List ℕ)) (rest : List ℕ) (n p : ℕ) →
+      Located (afterCommand s c) (at + wordsOf (firstNumber c)) cs rest n p → Located s at (c ∷ cs) rest n p
+  located-next s at c cs rest n p (cut z t e) = cut z t (omega arith)
+  located-next s at c cs rest n p (command before d after e m q) = command (c ∷ before) d after (ap (λ (x : List (List ℕ)). c ∷ x) e) m (omega arith)
 
-not-empty : (before : List (List ℕ)) (c : List ℕ) (after : List (List ℕ)) → [] ≡ before ++ c ∷ after → ⊥
-not-empty [] c after e = let z : _≡_ {A = ℕ} 0 1 = cc in omega arith
-not-empty (b ∷ before) c after e = let z : _≡_ {A = ℕ} 0 1 = cc in omega arith
+  located :
+      (s : State) (at : ℕ) (cs : List (List ℕ)) (rest : List ℕ) (n p : ℕ) → Among (answer n p) (commandGrounds refusals s at cs rest) →
+      Located s at cs rest n p
+  unfolding commandGrounds
+  located s at [] rest n p (inl h) =
+      let e : at ≡ p = ap (λ (a : Answer). a .place) (h .1) in
+      cut (sym (ap (λ (a : Answer). a .number) (h .1))) (h .0) (omega arith)
+  located s at [] rest n p (inr m) = absurd m
+  located s at (c ∷ cs) rest n p m =
+      ⊎-elim
+      (λ a.
+      let r = placed-among n p at (refusals s c) a in
+      let e : at ≡ p = r .1 in
+      command [] c cs refl (r .0) (omega arith))
+      (λ b. located-next s at c cs rest n p (located (afterCommand s c) (at + wordsOf (firstNumber c)) cs rest n p b))
+      (among-parts (answer n p) (placed at (refusals s c)) _ m)
 
-cons : (b : ℕ) (bs : List ℕ) → b ∷ bs ≡ [] → ⊥
-cons b bs e = let z : _≡_ {A = ℕ} 0 1 = cc in omega arith
+  module _ (words : ℕ) (list : List ℕ) where
+    abbrev cs : List (List ℕ)
+    cs = commandsOf list
 
-found-end : (s : State) (at : ℕ) (rest : List ℕ) → Found s at [] rest (atEnd s at rest)
-found-end s at [] = accepts refl refl (omega arith) (λ before c after n e r. not-empty before c after e)
-found-end s at (b ∷ bs) = cuts refl (cons b bs) (omega arith) (λ before c after n e r. not-empty before c after e)
+    pub to-order : (n p : ℕ) → Holds words refusals list n p → Among (answer n p) (groundsOf words refusals list)
+    unfolding groundsOf
+    to-order n p (tooLong h) = inl (rw (lt-ltb _ _ h) tt, refl)
+    to-order n p (notWords h) = inr (inl (rw (ne-eqb _ _ h) tt, refl))
+    to-order n p (pastEnd h) =
+        let e : 0 + wordsIn cs ≡ wordsIn cs = omega arith in
+        inr (inr (subst (λ (k : ℕ). Among (answer 3 k) (commandGrounds refusals start 0 cs (restOf list))) e
+        (to-end start 0 cs (restOf list) (some-bytes (restOf list) h))))
+    to-order n p (atCommand before c after number split m) =
+        let e : 0 + wordsIn before ≡ wordsIn before = omega arith in
+        inr (inr (subst (λ (k : ℕ). Among (answer number k) (commandGrounds refusals start 0 cs (restOf list))) e
+        (subst (λ (x : List (List ℕ)). Among (answer number (0 + wordsIn before)) (commandGrounds refusals start 0 x (restOf list))) (sym split)
+        (to-commands start 0 before c after (restOf list) number m))))
 
-later : (n p m q : ℕ) → 4 ≤ n → 4 ≤ m → p < q → NotAfter n p m q
-later n p m q hn hm h =
-    let a : 2 < n = omega arith in
-    let b : 2 < m = omega arith in
-    earlier (rw (lt-leb _ _ a, lt-leb _ _ b) (omega arith))
+    at-place : (n p m q : ℕ) → m ≡ n → q ≡ p → Holds words refusals list m q → Holds words refusals list n p
+    at-place n p m q e f h = subst (λ (k : ℕ). Holds words refusals list n k) f (subst (λ (k : ℕ). Holds words refusals list k q) e h)
 
-together : (n p m : ℕ) → 4 ≤ n → n ≤ m → NotAfter n p m p
-together n p m hn h =
-    let a : 2 < n = omega arith in
-    let b : 2 < m = omega arith in
-    same (rw (lt-leb _ _ a, lt-leb _ _ b)) h
+    from-commands : (n p : ℕ) → Located start 0 cs (restOf list) n p → Holds words refusals list n p
+    from-commands n p (cut z t e) = at-place n p 3 (wordsIn cs) (sym z) (omega arith) (pastEnd (bytes-some (restOf list) t))
+    from-commands n p (command before c after split m e) = at-place n p n (wordsIn before) refl (omega arith) (atCommand before c after n split m)
 
-module _ (s : State) (at : ℕ) (c : List ℕ) (cs : List (List ℕ)) (rest : List ℕ) where
-  abbrev w : ℕ
-  w = wordsOf (firstNumber c)
+    pub from-order : (n p : ℕ) → Among (answer n p) (groundsOf words refusals list) → Holds words refusals list n p
+    unfolding groundsOf
+    from-order n p (inl h) =
+        at-place n p 1 words (ap (λ (a : Answer). a .number) (h .1)) (ap (λ (a : Answer). a .place) (h .1)) (tooLong (ltb-true _ _ (true-of _ (h .0))))
+    from-order n p (inr (inl h)) =
+        at-place n p 2 (length list / 8) (ap (λ (a : Answer). a .number) (h .1)) (ap (λ (a : Answer). a .place) (h .1))
+        (notWords (eqb-false _ _ (false-of _ (h .0))))
+    from-order n p (inr (inr m)) = from-commands n p (located start 0 cs (restOf list) n p m)
 
-  -- the first command is not refused: what is found after it is found
-  module _ (quiet : (n : ℕ) → Refuses s c n → ⊥) where
-    none-next : None (afterCommand s c) cs → None s (c ∷ cs)
-    none-next h [] d after n e r = let x : d ≡ c = cc in quiet n (subst (λ (y : List ℕ). Refuses s y n) x r)
-    none-next h (b ∷ before) d after n e r =
-        let x : b ≡ c = cc in
-        let y : cs ≡ before ++ d ∷ after = cc in
-        h before d after n y (subst (λ (z : List ℕ). Refuses (stateAfter (afterCommand s z) before) d n) x r)
+    -- where no refusal holds the words of the commands are those of the list
+    words-of : (Holds words refusals list 3 (wordsIn cs) → ⊥) → wordsIn cs ≡ length list / 8
+    words-of h =
+        let e : restOf list ≡ [] = no-bytes (restOf list) (λ r. h (pastEnd r)) in
+        omega (arith, length-joined cs (parsed list .alone), ap length (joined-whole list e))
 
-    first-next : (number place : ℕ) → First (afterCommand s c) (at + w) cs number place → First s at (c ∷ cs) number place
-    first-next number place h [] d after n e r = let x : d ≡ c = cc in absurd (quiet n (subst (λ (y : List ℕ). Refuses s y n) x r))
-    first-next number place h (b ∷ before) d after n e r =
-        let x : b ≡ c = cc in
-        let y : cs ≡ before ++ d ∷ after = cc in
-        let p : (at + w) + wordsIn before ≡ at + (wordsOf (firstNumber b) + wordsIn before) = rw x (omega arith) in
-        subst (NotAfter number place n) p
-        (h before d after n y (subst (λ (z : List ℕ). Refuses (stateAfter (afterCommand s z) before) d n) x r))
+    at-end : (a : Answer) → Found (groundsOf words refusals list) (answer 0 (wordsIn cs)) a → Found (groundsOf words refusals list) (answer 0 (length list / 8)) a
+    at-end a (none h e) =
+        none h (e ∙ ap (answer 0) (words-of (λ r. none-among (answer 3 (wordsIn cs)) (groundsOf words refusals list) h (to-order 3 (wordsIn cs) r))))
+    at-end a (some f) = some f
 
-    found-next : (o : Outcome) → Found (afterCommand s c) (at + w) cs rest o → Found s at (c ∷ cs) rest o
-    found-next o (accepts z e p h) = accepts z e (omega arith) (none-next h)
-    found-next o (cuts z e p h) = cuts z e (omega arith) (none-next h)
-    found-next o (refuses before d after e r p h) =
-        refuses (c ∷ before) d after (ap (λ (x : List (List ℕ)). c ∷ x) e) r (omega arith) (first-next (o .number) (o .place) h)
+    module _ (known : Numbered refusals) where
+      pub no-zero : (n p : ℕ) → Holds words refusals list n p → n ≡ 0 → ⊥
+      no-zero n p (tooLong h) z = suc-ne-zero 0 z
+      no-zero n p (notWords h) z = suc-ne-zero 1 z
+      no-zero n p (pastEnd h) z = suc-ne-zero 2 z
+      no-zero n p (atCommand before c after number split m) z =
+          known (stateAfter start before) c (subst (λ (k : ℕ). Among k (refusals (stateAfter start before) c)) z m)
 
-  -- the first command is refused
-  found-here : (g : ℕ) → Refuses s c g → ((n : ℕ) → Refuses s c n → g ≤ n) → Found s at (c ∷ cs) rest (outcome g at s)
-  found-here g r low = refuses [] c cs refl r (omega arith) by
-    where
-      by : First s at (c ∷ cs) g at
-      by [] d after n e x =
-          let y : d ≡ c = cc in
-          let p : at ≡ at + 0 = omega arith in
-          subst (NotAfter g at n) p (together g at n (from-four s c g r) (low n (subst (λ (z : List ℕ). Refuses s z n) y x)))
-      by (b ∷ before) d after n e x =
-          later g at n (at + (wordsOf (firstNumber b) + wordsIn before)) (from-four s c g r) (from-four (stateAfter (afterCommand s b) before) d n x)
-          (omega (arith, command-some b))
+      -- a list of at most so many words: its judgement accepts exactly where none of 1 to 3 and of these refusals of a command holds, and is else the
+      -- first in their order, at its place
+      pub judge-first : FirstRefusal words refusals list (outcomeWithin words refusals list .number) (outcomeWithin words refusals list .place)
+      judge-first =
+          answered (Holds words refusals list) (groundsOf words refusals list) (length list / 8) to-order from-order (λ p h. no-zero 0 p h refl)
+          (answerOf (outcomeWithin words refusals list))
+          (at-end _ (subst (Found (groundsOf words refusals list) (answer 0 (wordsIn cs))) (sym (outcome-first known words list)) (found (groundsOf words refusals list) _)))
 
-  found-by : (g : ℕ) (o : Outcome) → Least (Refuses s c) g → Found (afterCommand s c) (at + w) cs rest o → Found s at (c ∷ cs) rest (settle g at s o)
-  found-by zero o l f = found-next (l .none refl) o f
-  found-by (suc g) o l f = found-here (suc g) (l .some (λ z. omega arith)) (l .least)
+-- ---- the numbers that there are
 
-found : (s : State) (at : ℕ) (cs : List (List ℕ)) (rest : List ℕ) → Found s at cs rest (judge true s at cs rest)
-unfolding judge
-found s at [] rest = found-end s at rest
-found s at (c ∷ cs) rest =
-    found-by s at c cs rest (refusalAt true s c) _ (refusal-least s c) (found (afterCommand s c) (at + wordsOf (firstNumber c)) cs rest)
+settled-gives : (f : ℕ → Bool) (g at : ℕ) (s : State) (next : Outcome) → T (f g) → T (f (next .number)) → T (f (settle g at s next .number))
+settled-gives f zero at s next t u = u
+settled-gives f (suc g) at s next t u = t
 
--- ---- the whole list
+-- a test that passes for 0, for 3 and for all refusals of a command passes for a judgement's number; and, for 1 and 2 too, for
+-- those of an outcome and of all refusals that hold
+module _ (f : ℕ → Bool) (refusals : Refusals) (all : (s : State) (c : List ℕ) → T (allGive f (refusals s c))) (at-none : T (f 0)) (at-three : T (f 3)) where
+  pub judge-gives : (s : State) (at : ℕ) (cs : List (List ℕ)) (rest : List ℕ) → T (f (judge refusals s at cs rest .number))
+  unfolding judge
+  judge-gives s at [] [] = at-none
+  judge-gives s at [] (b ∷ rest) = at-three
+  judge-gives s at (c ∷ cs) rest =
+      settled-gives f (firstOf (refusals s c) 0) at s _ (first-gives f (refusals s c) 0 (all s c) at-none)
+      (judge-gives (afterCommand s c) (at + wordsOf (firstNumber c)) cs rest)
 
-positive : (list : List ℕ) (n p : ℕ) → Holds list n p → 1 ≤ n
-positive list n p (tooLong h) = omega arith
-positive list n p (notWords h) = omega arith
-positive list n p (pastEnd h) = omega arith
-positive list n p (atCommand before c after number e r) = omega (arith, from-four (stateAfter start before) c number r)
-
--- a refusal of the whole list comes before those of its commands
-list-first : (n p m q : ℕ) → n ≤ 2 → n ≤ m → NotAfter n p m q
-list-first n p m q small h =
-    by-test (leb m 2) (λ t. same (rw (le-leb _ _ small, t)) h) (λ f. earlier (rw (le-leb _ _ small, f) (omega arith)))
-
-words-append : (xs ys : List (List ℕ)) → wordsIn (xs ++ ys) ≡ wordsIn xs + wordsIn ys
-words-append [] ys = omega arith
-words-append (x ∷ xs) ys = omega (arith, words-append xs ys)
-
-module _ (list : List ℕ) where
-  abbrev cs : List (List ℕ)
-  cs = commandsOf list
-
-  module _ (short : length list ≤ 32768) (whole : length list % 8 ≡ 0) where
-    -- where neither 1 nor 2 holds, a refusal is one of 3 to 9
-    of-commands :
-        (P : ℕ → ℕ → Type 0) →
-        ((restOf list ≡ [] → ⊥) → P 3 (wordsIn cs)) →
-        ((before : List (List ℕ)) (c : List ℕ) (after : List (List ℕ)) (n : ℕ) → cs ≡ before ++ c ∷ after → Refuses (stateAfter start before) c n → P n (wordsIn before)) →
-        (n p : ℕ) → Holds list n p → P n p
-    of-commands P cut at n p (tooLong h) = absurd (omega arith)
-    of-commands P cut at n p (notWords h) = absurd (h whole)
-    of-commands P cut at n p (pastEnd h) = cut h
-    of-commands P cut at n p (atCommand before c after number e r) = at before c after number e r
-
-    first-commands : (o : Outcome) → Found start 0 cs (restOf list) o → IsFirst list (record { number = o .number; place = o .place; hazards = o .state .hazards })
-    first-commands o (accepts z e p none) =
-        record {
-          accepted = λ _. (
-            omega (arith, p, length-joined cs (parsed list .alone), ap length (joined-whole list e)),
-            of-commands (λ (n q : ℕ). ⊥) (λ h. h e) none,
-          );
-          refused = λ ne. absurd (ne z);
-        }
-    first-commands o (cuts z e p none) =
-        let q : wordsIn cs ≡ o .place = omega arith in
-        record {
-          accepted = λ zero. absurd (omega arith);
-          refused = λ ne. (
-            subst (λ (k : ℕ). Holds list k (o .place)) (sym z) (subst (Holds list 3) q (pastEnd e)),
-            of-commands (NotAfter (o .number) (o .place))
-                (λ h. rw (z, ← q) (same refl (omega arith)))
-                (λ before c after n s r. absurd (none before c after n s r)),
-          );
-        }
-    first-commands o (refuses before c after e r p first) =
-        let q : wordsIn before ≡ o .place = omega arith in
-        let four : 4 ≤ o .number = from-four (stateAfter start before) c (o .number) r in
-        record {
-          accepted = λ zero. absurd (omega arith);
-          refused = λ ne. (
-            subst (Holds list (o .number)) q (atCommand before c after (o .number) e r),
-            of-commands (NotAfter (o .number) (o .place))
-                (λ h.
-                let long : wordsIn cs ≡ wordsIn before + (wordsOf (firstNumber c) + wordsIn after) = ap wordsIn e ∙ words-append before (c ∷ after) in
-                let a : 2 < o .number = omega arith in
-                earlier (rw (lt-leb _ _ a) (omega (arith, long, command-some c))))
-                (λ b d a n s x. let k : 0 + wordsIn b ≡ wordsIn b = omega arith in subst (NotAfter (o .number) (o .place) n) k (first b d a n s x)),
-          );
-        }
-
-  -- the check's answer accepts exactly where none of 1 to 9 holds, and is else the first in order, at its place
-  pub check-first : IsFirst list (checkOf list)
+  pub outcome-gives : T (f 1) → T (f 2) → (words : ℕ) (list : List ℕ) → T (f (outcomeWithin words refusals list .number))
   unfolding outcomeWithin
-  check-first =
-      by-test (ltb 32768 (length list))
-      (λ t.
-      rw t
-      (record {
-        accepted = λ z. absurd (omega arith);
-        refused = λ ne. (tooLong (ltb-true _ _ t), λ n p h. list-first 1 4096 n p (omega arith) (positive list n p h));
-      }))
-      (λ f.
-      let short : length list ≤ 32768 = ltb-false _ _ f in
-      by-test (eqb (length list % 8) 0)
-      (λ t. rw (f, t) (first-commands short (eqb-true _ _ t) (judgeList true list) (found start 0 cs (restOf list))))
+  outcome-gives at-one at-two words list =
+      by-test (ltb (8 * words) (length list)) (λ t. rw t at-one)
       (λ g.
-      rw (f, g)
-      (record {
-        accepted = λ z. absurd (omega arith);
-        refused = λ ne. (notWords (eqb-false _ _ g), not-first short);
-      })))
-    where
-      not-first : length list ≤ 32768 → (n p : ℕ) → Holds list n p → NotAfter 2 (length list / 8) n p
-      not-first short n p (tooLong h) = absurd (omega arith)
-      not-first short n p (notWords h) = list-first 2 (length list / 8) 2 p (omega arith) (omega arith)
-      not-first short n p (pastEnd h) = list-first 2 (length list / 8) 3 p (omega arith) (omega arith)
-      not-first short n p (atCommand before c after number e r) =
-          list-first 2 (length list / 8) number p (omega arith) (omega (arith, from-four (stateAfter start before) c number r))
+      by-test (eqb (length list % 8) 0) (λ t. rw (g, t) (judge-gives start 0 (commandsOf list) (restOf list))) (λ h. rw (g, h) at-two))
+
+  pub holds-gives : T (f 1) → T (f 2) → (words : ℕ) (list : List ℕ) (n p : ℕ) → Holds words refusals list n p → T (f n)
+  holds-gives at-one at-two words list n p (tooLong h) = at-one
+  holds-gives at-one at-two words list n p (notWords h) = at-two
+  holds-gives at-one at-two words list n p (pastEnd h) = at-three
+  holds-gives at-one at-two words list n p (atCommand before c after number e m) =
+      among-gives f number (refusals (stateAfter start before) c) (all (stateAfter start before) c) m
+
+-- the check: none of 1 to 9
+pub check-first : (list : List ℕ) → FirstRefusal 4096 checkRefusals list (checkOf list .number) (checkOf list .place)
+check-first list = judge-first checkRefusals 4096 list check-numbered

@@ -1,30 +1,32 @@
--- The judgement of commands by structural recursion, what strictness adds to it, and what inserted syncs do to it. Assumes nothing.
+-- The judgement of commands by structural recursion, what 7 to 9 add to it, and what inserted syncs do to it. Assumes nothing.
 use mathlib.Core.Path.{_≡_, refl, sym, subst}
-use mathlib.Core.Bool.{Bool, true, false}
+use mathlib.Core.Bool.{false}
 use mathlib.Core.List.{List, [], _∷_}
-use Prim.Native.Nat.{ℕ, zero, suc, _+_, _*_, _%_, _≤_}
+use Prim.Native.Nat.{ℕ, zero, suc, _+_}
 use native.Mathlib.Omega.{arith}
-use lib.Dec.{eqb, ltb}
-use lib.ListN.{length}
-use borrow.Author.Tests.{eqb-true}
-use Rattle.rdp_command.proofs.Tests.{by-test}
+use borrow.Author.Tests.{eqb-false}
+use Rattle.rdp_command.proofs.Tests.{false-of}
 use Rattle.rdp_command.specs.Words.{halfOf, wordAt}
 use Rattle.rdp_command.specs.Kinds.{kindOf, wordsOf}
 use Rattle.rdp_command.specs.Layout.{layout}
 use Rattle.rdp_command.specs.Commands.{commandOf}
 use Rattle.rdp_command.specs.Decode.{firstNumber, wholeWords, decodeOf}
-use Rattle.rdp_check.specs.Hazards.{nextOf}
-use Rattle.rdp_check.specs.Commands.{commandsOf, restOf}
+use Rattle.rdp_check.specs.Hazards.{nextOf, requiredOf}
 use Rattle.rdp_check.specs.Registers.{registersAfter}
-use Rattle.rdp_check.specs.Check.{State, afterCommand, draws, missing, refusalOf, refusalAt, Outcome, settle, judge, start, outcomeWithin}
+use Rattle.rdp_check.specs.Check.{State, afterCommand, draws, Refusals, ownRefusals, syncRefusals, checkRefusals, repairRefusals, refusalAt, Outcome, settle, judge}
+use Rattle.rdp_check.specs.Order.{None}
 use Rattle.rdp_check.specs.Inserted.{syncWord}
 use Rattle.rdp_check.specs.Plan.{syncOf, withOption, applied}
+use Rattle.rdp_command.proofs.PlaceLaws.{number-small}
+use Rattle.rdp_check.proofs.HazardLaws.{required-most}
+use Rattle.rdp_check.proofs.OrderLaws.{none-parts, none-both, none-first, first-none}
+use Rattle.rdp_check.proofs.FirstLaws.{Numbered}
 use Rattle.rdp_check.proofs.LeastLaws.{Passes}
 
 -- no command is refused
-abbrev pub Accepted : Bool → State → List (List ℕ) → Type 0
-Accepted strict s [] = Unit {0}
-Accepted strict s (c ∷ cs) = (refusalAt strict s c ≡ 0) × Accepted strict (afterCommand s c) cs
+abbrev pub Accepted : Refusals → State → List (List ℕ) → Type 0
+Accepted refusals s [] = Unit {0}
+Accepted refusals s (c ∷ cs) = None (refusals s c) × Accepted refusals (afterCommand s c) cs
 
 settled-zero : (g at : ℕ) (s : State) (next : Outcome) → settle g at s next .number ≡ 0 → (g ≡ 0) × (next .number ≡ 0)
 settled-zero zero at s next e = (refl, e)
@@ -32,47 +34,54 @@ settled-zero (suc g) at s next e = absurd (omega arith)
 
 -- a judgement of 0 says that no command is refused, and that none runs past the end
 pub judge-accepted :
-    (strict : Bool) (s : State) (at : ℕ) (cs : List (List ℕ)) (rest : List ℕ) → judge strict s at cs rest .number ≡ 0 →
-    Accepted strict s cs × (rest ≡ [])
+    (refusals : Refusals) → Numbered refusals → (s : State) (at : ℕ) (cs : List (List ℕ)) (rest : List ℕ) → judge refusals s at cs rest .number ≡ 0 →
+    Accepted refusals s cs × (rest ≡ [])
 unfolding judge
-judge-accepted strict s at [] [] e = (tt, refl)
-judge-accepted strict s at [] (b ∷ rest) e = absurd (omega arith)
-judge-accepted strict s at (c ∷ cs) rest e =
-    let h = settled-zero (refusalAt strict s c) at s (judge strict (afterCommand s c) (at + wordsOf (firstNumber c)) cs rest) e in
-    let r = judge-accepted strict (afterCommand s c) (at + wordsOf (firstNumber c)) cs rest (h .1) in
-    ((h .0, r .0), r .1)
+judge-accepted refusals known s at [] [] e = (tt, refl)
+judge-accepted refusals known s at [] (b ∷ rest) e = absurd (omega arith)
+judge-accepted refusals known s at (c ∷ cs) rest e =
+    let h = settled-zero (refusalAt refusals s c) at s (judge refusals (afterCommand s c) (at + wordsOf (firstNumber c)) cs rest) e in
+    let r = judge-accepted refusals known (afterCommand s c) (at + wordsOf (firstNumber c)) cs rest (h .1) in
+    ((first-none (refusals s c) 0 (known s c) (h .0), r .0), r .1)
 
-pub accepted-judge : (strict : Bool) (s : State) (at : ℕ) (cs : List (List ℕ)) → Accepted strict s cs → judge strict s at cs [] .number ≡ 0
+pub accepted-judge : (refusals : Refusals) (s : State) (at : ℕ) (cs : List (List ℕ)) → Accepted refusals s cs → judge refusals s at cs [] .number ≡ 0
 unfolding judge
-accepted-judge strict s at [] h = refl
-accepted-judge strict s at (c ∷ cs) h = rw (h .0) (accepted-judge strict (afterCommand s c) (at + wordsOf (firstNumber c)) cs (h .1))
+accepted-judge refusals s at [] h = refl
+accepted-judge refusals s at (c ∷ cs) h =
+    rw (none-first (refusals s c) 0 (h .0)) (accepted-judge refusals (afterCommand s c) (at + wordsOf (firstNumber c)) cs (h .1))
 
--- ---- strict: besides, no sync is missing
+-- ---- the check's: besides, no sync is missing
 
-missing-none : (q : ℕ) → missing q ≡ 0 → q ≡ 0
-missing-none q e = by-test (eqb q 0) (eqb-true q 0) (λ f. absurd (omega (arith, rw f at e)))
-
-refusal-parts : (ended draw ready fill : Bool) (q : ℕ) → refusalOf ended draw ready fill q ≡ 0 → (refusalOf ended draw ready fill 0 ≡ 0) × (q ≡ 0)
-unfolding refusalOf
-refusal-parts true draw ready fill q e = absurd (omega arith)
-refusal-parts false false ready fill q e = (refl, missing-none q e)
-refusal-parts false true false fill q e = absurd (omega arith)
-refusal-parts false true true true q e = absurd (omega arith)
-refusal-parts false true true false q e = (refl, missing-none q e)
-
-pub accepted-loose : (s : State) (cs : List (List ℕ)) → Accepted true s cs → Accepted false s cs
+pub accepted-loose : (s : State) (cs : List (List ℕ)) → Accepted checkRefusals s cs → Accepted repairRefusals s cs
 accepted-loose s [] h = tt
-accepted-loose s (c ∷ cs) h = (refusal-parts _ _ _ _ _ (h .0) .0, accepted-loose (afterCommand s c) cs (h .1))
+accepted-loose s (c ∷ cs) h = (none-parts (ownRefusals s c) (syncRefusals s c) (h .0) .0, accepted-loose (afterCommand s c) cs (h .1))
 
-pub accepted-passes : (s : State) (cs : List (List ℕ)) → Accepted true s cs → Passes (s .hazards) cs
+sync-none : (s : State) (c : List ℕ) → None (syncRefusals s c) → requiredOf (s .hazards) (firstNumber c) ≡ 0
+unfolding syncRefusals
+sync-none s c h =
+    let q = requiredOf (s .hazards) (firstNumber c) in
+    omega (
+      arith,
+      required-most (s .hazards) (firstNumber c) (number-small (wordAt c 0)),
+      eqb-false q 1 (false-of _ (h .0)),
+      eqb-false q 2 (false-of _ (h .1 .0)),
+      eqb-false q 3 (false-of _ (h .1 .1 .0)),
+    )
+
+none-sync : (s : State) (c : List ℕ) → requiredOf (s .hazards) (firstNumber c) ≡ 0 → None (syncRefusals s c)
+unfolding syncRefusals
+none-sync s c e = rw e (tt, (tt, (tt, tt)))
+
+pub accepted-passes : (s : State) (cs : List (List ℕ)) → Accepted checkRefusals s cs → Passes (s .hazards) cs
 unfolding afterCommand
 accepted-passes s [] h = tt
-accepted-passes s (c ∷ cs) h = (refusal-parts _ _ _ _ _ (h .0) .1, accepted-passes (afterCommand s c) cs (h .1))
+accepted-passes s (c ∷ cs) h = (sync-none s c (none-parts (ownRefusals s c) (syncRefusals s c) (h .0) .1), accepted-passes (afterCommand s c) cs (h .1))
 
-pub accepted-strict : (s : State) (cs : List (List ℕ)) → Accepted false s cs → Passes (s .hazards) cs → Accepted true s cs
+pub accepted-strict : (s : State) (cs : List (List ℕ)) → Accepted repairRefusals s cs → Passes (s .hazards) cs → Accepted checkRefusals s cs
 unfolding afterCommand
 accepted-strict s [] h p = tt
-accepted-strict s (c ∷ cs) h p = (rw (p .0) (h .0), accepted-strict (afterCommand s c) cs (h .1) (p .1))
+accepted-strict s (c ∷ cs) h p =
+    (none-both (ownRefusals s c) (syncRefusals s c) (h .0) (none-sync s c (p .0)), accepted-strict (afterCommand s c) cs (h .1) (p .1))
 
 -- ---- inserted syncs
 
@@ -92,56 +101,27 @@ sync-draws zero = refl
 sync-draws (suc zero) = refl
 sync-draws (suc (suc a)) = refl
 
--- without strictness the hazards do not count
-any-hazards : (m : ℕ) (s : State) (cs : List (List ℕ)) → Accepted false s cs → Accepted false (withHazards m s) cs
-unfolding afterCommand
+-- 7 to 9 passed over, the hazards do not count
+any-hazards : (m : ℕ) (s : State) (cs : List (List ℕ)) → Accepted repairRefusals s cs → Accepted repairRefusals (withHazards m s) cs
+unfolding afterCommand ownRefusals
 any-hazards m s [] h = tt
 any-hazards m s (c ∷ cs) h = (h .0, any-hazards (nextOf m (firstNumber c)) (afterCommand s c) cs (h .1))
 
--- where a command is not refused, a command that is no draw is not refused either
-sync-fits : (ended draw ready fill : Bool) → refusalOf ended draw ready fill 0 ≡ 0 → refusalOf ended false ready fill 0 ≡ 0
-unfolding refusalOf
-sync-fits true draw ready fill e = absurd (omega arith)
-sync-fits false draw ready fill e = refl
+-- where a command is not refused, a sync is not refused either
+sync-fits : (a : ℕ) (s : State) (c : List ℕ) → None (ownRefusals s c) → None (ownRefusals s (syncWord (syncOf (suc a))))
+unfolding ownRefusals
+sync-fits a s c h = rw (sync-draws a) (h .0, (tt, (tt, tt)))
 
-with-accepted : (a : ℕ) (s : State) (c : List ℕ) (cs : List (List ℕ)) → Accepted false s (c ∷ cs) → Accepted false s (withOption a c cs)
+with-accepted : (a : ℕ) (s : State) (c : List ℕ) (cs : List (List ℕ)) → Accepted repairRefusals s (c ∷ cs) → Accepted repairRefusals s (withOption a c cs)
 unfolding withOption
 with-accepted zero s c cs h = h
 with-accepted (suc a) s c cs h = (
-  rw (sync-draws a) (sync-fits _ _ _ _ (h .0)),
-  subst (λ (x : State). Accepted false x (c ∷ cs)) (sym (after-sync a s)) (any-hazards (nextOf (s .hazards) (syncOf (suc a))) s (c ∷ cs) h),
+  sync-fits a s c (h .0),
+  subst (λ (x : State). Accepted repairRefusals x (c ∷ cs)) (sym (after-sync a s)) (any-hazards (nextOf (s .hazards) (syncOf (suc a))) s (c ∷ cs) h),
 )
 
-pub applied-accepted : (p : List ℕ) (s : State) (cs : List (List ℕ)) → Accepted false s cs → Accepted false s (applied p cs)
+pub applied-accepted : (p : List ℕ) (s : State) (cs : List (List ℕ)) → Accepted repairRefusals s cs → Accepted repairRefusals s (applied p cs)
 unfolding applied
 applied-accepted p s [] h = tt
 applied-accepted [] s (c ∷ cs) h = h
 applied-accepted (a ∷ p) s (c ∷ cs) h = with-accepted a s c (applied p cs) (h .0, applied-accepted p (afterCommand s c) cs (h .1))
-
--- ---- without strictness a refusal is one of 1 to 6
-
-refusal-most : (ended draw ready fill : Bool) → refusalOf ended draw ready fill 0 ≤ 6
-unfolding refusalOf
-refusal-most true draw ready fill = omega arith
-refusal-most false false ready fill = omega arith
-refusal-most false true false fill = omega arith
-refusal-most false true true true = omega arith
-refusal-most false true true false = omega arith
-
-settled-most : (g at : ℕ) (s : State) (next : Outcome) → g ≤ 6 → next .number ≤ 6 → settle g at s next .number ≤ 6
-settled-most zero at s next h k = k
-settled-most (suc g) at s next h k = h
-
-judge-most : (s : State) (at : ℕ) (cs : List (List ℕ)) (rest : List ℕ) → judge false s at cs rest .number ≤ 6
-unfolding judge
-judge-most s at [] [] = omega arith
-judge-most s at [] (b ∷ rest) = omega arith
-judge-most s at (c ∷ cs) rest =
-    settled-most (refusalAt false s c) at s _ (refusal-most _ _ _ _) (judge-most (afterCommand s c) (at + wordsOf (firstNumber c)) cs rest)
-
-pub loose-most : (words : ℕ) (list : List ℕ) → outcomeWithin words false list .number ≤ 6
-unfolding outcomeWithin
-loose-most words list =
-    by-test (ltb (8 * words) (length list)) (λ t. rw t (omega arith))
-    (λ f.
-    by-test (eqb (length list % 8) 0) (λ t. rw (f, t) (judge-most start 0 (commandsOf list) (restOf list))) (λ g. rw (f, g) (omega arith)))

@@ -7,6 +7,7 @@ pub mod ViewLaws
 pub mod WalkLaws
 pub mod RegisterLaws
 pub mod ReplayLaws
+pub mod OrderLaws
 pub mod FirstLaws
 pub mod SyncLaws
 pub mod ChoiceLaws

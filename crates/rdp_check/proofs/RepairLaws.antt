@@ -1,25 +1,28 @@
 -- What the passes of the repair give together: the work buffer from pass to pass, and the answers. Assumes nothing.
 use mathlib.Core.Path.{_≡_, refl, sym, ap, ap₂, _∙_, subst}
-use mathlib.Core.Bool.{false}
+use mathlib.Core.Bool.{Bool, not}
 use mathlib.Core.List.{List, [], _∷_, _++_}
 use Prim.Native.Nat.{ℕ, zero, suc, _+_, _*_, _/_, _<_, _≤_}
 use native.Mathlib.Omega.{arith}
+use lib.Dec.{T, eqb}
 use lib.ListN.{length, getD, take, drop, replicate, length-map, length-replicate}
 use lib.Seq.{take-at, drop-at}
-use borrow.Author.Tests.{lt-ltb, le-ltb, eq-eqb, ne-eqb}
+use borrow.Author.Tests.{eqb-false, lt-ltb, le-ltb, eq-eqb, ne-eqb}
 use Rattle.rdp_command.specs.Words.{wordAt, overwrite}
 use Rattle.rdp_command.specs.Decode.{firstNumber}
 use Rattle.rdp_check.specs.Commands.{commandsOf, joined}
-use Rattle.rdp_check.specs.Check.{outcomeWithin, checked}
+use Rattle.rdp_check.specs.Check.{State, ownRefusals, repairRefusals, outcomeWithin, checked}
 use Rattle.rdp_check.specs.Plan.{best, plan, applied, numbersOf, planned}
 use Rattle.rdp_check.specs.Work.{notedIn, workOf, optionsIn, insertsOf, Below, dueBytes, WholeList, NotedIs, BackwardIs}
 use Rattle.rdp_check.specs.Repair.{repairedBytes, repairAnswer, roomed, repairOf, outAfter, workAfter, RepairIs}
 use Rattle.rdp_check.specs.declared.Checked.{Checked}
 use Rattle.rdp_check.specs.declared.Repaired.{Repaired}
+use Rattle.rdp_command.proofs.Tests.{false-of}
 use Rattle.rdp_command.proofs.PlaceLaws.{number-small}
 use Rattle.rdp_check.proofs.BackLaws.{length-work}
 use Rattle.rdp_check.proofs.ForwardLaws.{options-plan, work-below}
-use Rattle.rdp_check.proofs.JudgeLaws.{loose-most}
+use Rattle.rdp_check.proofs.OrderLaws.{allGive}
+use Rattle.rdp_check.proofs.FirstLaws.{own-numbered, outcome-gives}
 use Rattle.rdp_check.proofs.RepairedLaws.{sound, count-most, length-repaired, repaired-most, least-repair}
 
 -- ---- the work buffer from pass to pass
@@ -96,19 +99,19 @@ module _ (list work work′ : List ℕ) (held : work′ ≡ overwrite (workOf (n
 
 -- ---- a list that none of refusals 1 to 6 holds for
 
-pub whole-list : (list : List ℕ) (words : ℕ) → outcomeWithin 2048 false list .number ≡ 0 → words ≡ length list / 8 → WholeList list words
+pub whole-list : (list : List ℕ) (words : ℕ) → outcomeWithin 2048 repairRefusals list .number ≡ 0 → words ≡ length list / 8 → WholeList list words
 whole-list list words e w =
-    let s = sound false list e in
+    let s = sound repairRefusals own-numbered list e in
     record { long = omega (arith, s .words); few = omega (arith, s .short); none = s .none }
 
-pub commands-few : (list : List ℕ) → outcomeWithin 2048 false list .number ≡ 0 → length (commandsOf list) ≤ 2048
-commands-few list e = let s = sound false list e in omega (arith, count-most list (s .none), s .short)
+pub commands-few : (list : List ℕ) → outcomeWithin 2048 repairRefusals list .number ≡ 0 → length (commandsOf list) ≤ 2048
+commands-few list e = let s = sound repairRefusals own-numbered list e in omega (arith, count-most list (s .none), s .short)
 
 pub words-needed :
-    (list : List ℕ) → outcomeWithin 2048 false list .number ≡ 0 → (words : ℕ) → words ≡ length list / 8 + insertsOf (plan (numbersOf (commandsOf list)) 0) →
+    (list : List ℕ) → outcomeWithin 2048 repairRefusals list .number ≡ 0 → (words : ℕ) → words ≡ length list / 8 + insertsOf (plan (numbersOf (commandsOf list)) 0) →
     (length (repairedBytes list) ≡ 8 * words) × (words ≤ 4096)
 words-needed list e words w =
-    let s = sound false list e in
+    let s = sound repairRefusals own-numbered list e in
     (omega (arith, length-repaired list (s .none), s .words), omega (arith, length-repaired list (s .none), repaired-most list (s .none), s .words, s .short))
 
 -- ---- the answers
@@ -127,19 +130,27 @@ untouched list work out r e z y =
       needed = λ n. absurd (y n);
     }
 
+-- 14 is no refusal of the list
+abbrev notOut : ℕ → Bool
+notOut n = not (eqb n 14)
+
+own-not-out : (s : State) (c : List ℕ) → T (allGive notOut (repairRefusals s c))
+unfolding ownRefusals
+own-not-out s c = tt
+
 fourteen : _≡_ {A = ℕ} 14 0 → ⊥
 fourteen e = omega arith
 
 module _ (list work out : List ℕ) where
-  pub refused : (r : Checked) → r ≡ checked (outcomeWithin 2048 false list) → (r .number ≡ 0 → ⊥) → RepairIs list work out (repairAnswer (r .number) (r .place) 0) work out
+  pub refused : (r : Checked) → r ≡ checked (outcomeWithin 2048 repairRefusals list) → (r .number ≡ 0 → ⊥) → RepairIs list work out (repairAnswer (r .number) (r .place) 0) work out
   unfolding repairOf
   refused r e z =
-      let number : r .number ≡ outcomeWithin 2048 false list .number = ap (λ (x : Checked). x .number) e in
+      let number : r .number ≡ outcomeWithin 2048 repairRefusals list .number = ap (λ (x : Checked). x .number) e in
       untouched list work out _
       (ap₂ (λ (n p : ℕ). repairAnswer n p 0) number (ap (λ (x : Checked). x .place) e) ∙ rw (ne-eqb _ _ (λ y. z (number ∙ y)))) z
-      (λ y. omega (arith, number, loose-most 2048 list))
+      (λ y. eqb-false _ _ (false-of _ (outcome-gives notOut repairRefusals own-not-out tt tt tt tt 2048 list)) (sym number ∙ y))
 
-  module _ (clean : outcomeWithin 2048 false list .number ≡ 0) where
+  module _ (clean : outcomeWithin 2048 repairRefusals list .number ≡ 0) where
     in-room : roomed list (length work) (length out) ≡ repairOf list (length work) (length out)
     unfolding repairOf
     in-room = rw (eq-eqb _ _ clean)
@@ -165,7 +176,7 @@ module _ (list work out : List ℕ) where
             output = refl;
             cleared = cleared;
             repaired = λ n. absurd (fourteen n);
-            needed = λ n. (repairedBytes list, best (numbersOf (commandsOf list)) 0, least-repair list (sound false list clean), long);
+            needed = λ n. (repairedBytes list, best (numbersOf (commandsOf list)) 0, least-repair list (sound repairRefusals own-numbered list clean), long);
           }
 
       pub repaired-is :
@@ -180,6 +191,6 @@ module _ (list work out : List ℕ) where
             answer = ap₂ (repairAnswer 0) is-words are-cycles ∙ rw (le-ltb _ _ enough, le-ltb _ _ fits) refl ∙ in-room;
             output = written;
             cleared = cleared;
-            repaired = λ n. rw (start, are-cycles) (least-repair list (sound false list clean));
+            repaired = λ n. rw (start, are-cycles) (least-repair list (sound repairRefusals own-numbered list clean));
             needed = λ n. absurd (fourteen (sym n));
           }

@@ -1,6 +1,5 @@
 -- The repaired list is a least repair of the given one, and a list that passes is repaired into itself. Assumes nothing.
 use mathlib.Core.Path.{_≡_, refl, sym, ap, _∙_, subst}
-use mathlib.Core.Bool.{Bool, true, false}
 use mathlib.Core.List.{List, [], _∷_}
 use Prim.Native.Nat.{ℕ, zero, suc, _+_, _*_, _/_, _%_, min, _≤_}
 use native.Mathlib.Nat.{le-antisymm}
@@ -13,7 +12,7 @@ use Rattle.rdp_command.specs.Kinds.{kindOf, wordsOf}
 use Rattle.rdp_command.specs.Decode.{firstNumber}
 use Rattle.rdp_command.proofs.Tests.{by-test}
 use Rattle.rdp_check.specs.Commands.{commandsOf, restOf, joined}
-use Rattle.rdp_check.specs.Check.{start, judgeList, outcomeWithin, outcomeOf}
+use Rattle.rdp_check.specs.Check.{start, Refusals, checkRefusals, repairRefusals, judgeList, outcomeWithin, outcomeOf}
 use Rattle.rdp_check.specs.Inserted.{Inserted, end, keep, insertLoad, insertTile, insertPipe, MadeByInserting}
 use Rattle.rdp_check.specs.Plan.{syncOf, withOption, best, plan, applied, cyclesOf, numbersOf, planned}
 use Rattle.rdp_check.specs.Work.{insertsOf}
@@ -21,24 +20,25 @@ use Rattle.rdp_check.specs.Repair.{Makes, LeastRepair, repairedBytes, re
 use Rattle.rdp_check.proofs.SyncLaws.{wait-some}
 use Rattle.rdp_check.proofs.LeastLaws.{Passes, length-plan, cycles-plan, applied-inserted, planned-inserted, planned-passes, planned-least, plan-first, Single, least-single, first-unique}
 use Rattle.rdp_check.proofs.JoinLaws.{AllAlone, commands-joined, rest-joined, length-joined, count-joined, parsed, joined-whole}
+use Rattle.rdp_check.proofs.FirstLaws.{Numbered, check-numbered}
 use Rattle.rdp_check.proofs.JudgeLaws.{Accepted, judge-accepted, accepted-judge, accepted-loose, accepted-passes, accepted-strict, applied-accepted}
 
 -- ---- a list with none of the refusals
 
-pub record Sound (strict : Bool) (s : List ℕ) : Type 0 where
+pub record Sound (refusals : Refusals) (s : List ℕ) : Type 0 where
   pub short : length s ≤ 16384
   pub words : length s % 8 ≡ 0
   pub none : restOf s ≡ []
-  pub accepted : Accepted strict start (commandsOf s)
+  pub accepted : Accepted refusals start (commandsOf s)
 
-pub sound : (strict : Bool) (s : List ℕ) → outcomeWithin 2048 strict s .number ≡ 0 → Sound strict s
+pub sound : (refusals : Refusals) → Numbered refusals → (s : List ℕ) → outcomeWithin 2048 refusals s .number ≡ 0 → Sound refusals s
 unfolding outcomeWithin
-sound strict s e =
+sound refusals known s e =
     by-test (ltb 16384 (length s)) (λ t. absurd (omega (arith, rw t at e)))
     (λ f.
     by-test (eqb (length s % 8) 0)
     (λ t.
-    let r = judge-accepted strict start 0 (commandsOf s) (restOf s) (rw (f, t) at e) in
+    let r = judge-accepted refusals known start 0 (commandsOf s) (restOf s) (rw (f, t) at e) in
     record { short = ltb-false _ _ f; words = eqb-true _ _ t; none = r .1; accepted = r .0 })
     (λ g. absurd (omega (arith, rw (f, g) at e))))
 
@@ -107,14 +107,14 @@ module _ (s : List ℕ) (none : restOf s ≡ []) where
 
   -- where it has none of refusals 3 to 9, no sync is missing
   made-passes :
-      {ds : List (List ℕ)} {k : ℕ} (u : List ℕ) → Inserted (commandsOf s) ds k → joined ds ≡ u → judgeList true u .number ≡ 0 → Passes 0 ds
+      {ds : List (List ℕ)} {k : ℕ} (u : List ℕ) → Inserted (commandsOf s) ds k → joined ds ≡ u → judgeList checkRefusals u .number ≡ 0 → Passes 0 ds
   made-passes {ds} u i e h =
       accepted-passes start ds
-      (subst (Accepted true start) (ap commandsOf (sym e) ∙ commands-made i) (judge-accepted true start 0 (commandsOf u) (restOf u) h .0))
+      (subst (Accepted checkRefusals start) (ap commandsOf (sym e) ∙ commands-made i) (judge-accepted checkRefusals check-numbered start 0 (commandsOf u) (restOf u) h .0))
 
 -- ---- the repaired list
 
-module _ (s : List ℕ) (given : Sound false s) where
+module _ (s : List ℕ) (given : Sound repairRefusals s) where
   abbrev cs : List (List ℕ)
   cs = commandsOf s
 
@@ -124,14 +124,14 @@ module _ (s : List ℕ) (given : Sound false s) where
   planned-alone : AllAlone (planned cs)
   planned-alone = alone-inserted (planned-inserted cs) (parsed s .alone)
 
-  planned-accepted : Accepted true start (planned cs)
+  planned-accepted : Accepted checkRefusals start (planned cs)
   unfolding planned
   planned-accepted = accepted-strict start (planned cs) (applied-accepted (plan (numbersOf cs) 0) start cs (given .accepted)) (planned-passes cs)
 
-  repaired-judged : judgeList true (repairedBytes s) .number ≡ 0
+  repaired-judged : judgeList checkRefusals (repairedBytes s) .number ≡ 0
   unfolding repairedBytes
   repaired-judged =
-      rw (commands-joined (planned cs) planned-alone, rest-joined (planned cs) planned-alone) (accepted-judge true start 0 (planned cs) planned-accepted)
+      rw (commands-joined (planned cs) planned-alone, rest-joined (planned cs) planned-alone) (accepted-judge checkRefusals start 0 (planned cs) planned-accepted)
 
   repaired-passes : outcomeOf (repairedBytes s) .number ≡ 0
   unfolding outcomeWithin
@@ -161,7 +161,7 @@ module _ (s : List ℕ) (given : Sound false s) where
 
 -- ---- there is one least repair: that list, with those cycles
 
-passes-judged : (t : List ℕ) → outcomeOf t .number ≡ 0 → judgeList true t .number ≡ 0
+passes-judged : (t : List ℕ) → outcomeOf t .number ≡ 0 → judgeList checkRefusals t .number ≡ 0
 unfolding outcomeWithin
 passes-judged t e =
     by-test (ltb 32768 (length t)) (λ a. absurd (omega (arith, rw a at e)))
@@ -198,17 +198,17 @@ pub record RepairedToItself (s : List ℕ) (work out : ℕ) : Type 0 where
 
 -- a list of at most 2,048 words that the check accepts is repaired into itself, with 0 cycles
 pub passes-kept :
-    (s : List ℕ) (work out : ℕ) → outcomeWithin 2048 true s .number ≡ 0 → 16 * length (commandsOf s) ≤ work → length s ≤ out →
+    (s : List ℕ) (work out : ℕ) → outcomeWithin 2048 checkRefusals s .number ≡ 0 → 16 * length (commandsOf s) ≤ work → length s ≤ out →
     RepairedToItself s work out
 unfolding repairedBytes planned repairOf roomed outcomeWithin
 passes-kept s work out e enough room =
     let cs = commandsOf s in
-    let t = sound true s e in
+    let t = sound checkRefusals check-numbered s e in
     let zero-best : best (numbersOf cs) 0 ≡ 0 = omega (arith, planned-least (kept cs) (accepted-passes start cs (t .accepted))) in
     let itself : joined (applied (plan (numbersOf cs) 0) cs) ≡ s =
     ap joined (none-applied (plan (numbersOf cs) 0) cs (cycles-plan (numbersOf cs) 0 ∙ zero-best)) ∙ joined-whole s (t .none) in
-    let loose : judgeList false s .number ≡ 0 =
-    rw (t .none) (accepted-judge false start 0 cs (accepted-loose start cs (t .accepted))) in
+    let loose : judgeList repairRefusals s .number ≡ 0 =
+    rw (t .none) (accepted-judge repairRefusals start 0 cs (accepted-loose start cs (t .accepted))) in
     record {
       bytes = itself;
       answer =

@@ -1,6 +1,6 @@
 -- What the walk carries is a view of the state, before and after each command. Assumes nothing.
 use mathlib.Core.Bool.{Bool, true, false, cond, not, _&&_, _||_, true≢false, and-true, and-false, or-false, Bool·not-not}
-use mathlib.Core.List.{List}
+use mathlib.Core.List.{List, [], _∷_}
 use mathlib.Core.Path.{_≡_, refl, sym, _∙_, ap}
 use Prim.Native.Nat.{ℕ, zero, suc, _/_, _%_, _^_, _≤_, _<_}
 use native.Mathlib.Omega.{arith}
@@ -14,8 +14,9 @@ use Rattle.rdp_command.specs.declared.Command.{Command}
 use Rattle.rdp_command.proofs.Tests.{by-test, neither}
 use Rattle.rdp_check.specs.Hazards.{nextOf, requiredOf, entryOf}
 use Rattle.rdp_check.specs.Registers.{registersAfter, afterDecoded}
-use Rattle.rdp_check.specs.Check.{State, afterCommand, draws, refusalOf, refusalAt}
-use Rattle.rdp_check.specs.View.{code, drawRefusal, view, viewOf, restAfter, viewAfter, orElse, refusalWith, restRefusal, viewRefusal, sets, isWatched, Watches, AdvancedIs}
+use Rattle.rdp_check.specs.Check.{State, afterCommand, draws, ready, fourBitFill, ownRefusals, syncRefusals, refusalAt}
+use Rattle.rdp_check.specs.Order.{ground, firstOf}
+use Rattle.rdp_check.specs.View.{code, drawRefusal, view, viewOf, restAfter, viewAfter, orElse, missing, refusalWith, refusalsBy, restRefusal, viewRefusal, sets, isWatched, Watches, AdvancedIs}
 use Rattle.rdp_check.specs.declared.Registers.{Registers}
 use Rattle.rdp_command.specs.declared.Head.{Head}
 use Rattle.rdp_check.specs.declared.walk.Rest.{Rest}
@@ -23,6 +24,7 @@ use Rattle.rdp_check.specs.declared.walk.View.{View}
 use Rattle.rdp_check.proofs.KeptLaws.{keeps}
 use Rattle.rdp_check.proofs.HazardLaws.{EntryParts, entry-parts, required-most}
 use Rattle.rdp_command.proofs.KindLaws.{bits-by}
+use Rattle.rdp_command.proofs.PlaceLaws.{number-small}
 use Rattle.rdp_command.proofs.ReadLaws.{decoded, decodes, decoded-number, reads-other-modes, reads-scissor, reads-color-image}
 
 -- ---- command numbers as bits
@@ -139,29 +141,53 @@ module _ (strict : Bool) (v : View) (h : Head) (small : h .number < 64) (e : ℕ
 
 -- ---- the view of the state
 
--- modes, image and scissor set (m, i, s), FILL mode (f) and an image of 4 bits (b)
-refused : (ended draw m f i b s : Bool) (q : ℕ) → refusalWith ended (cond draw (drawRefusal (code m f) (code i b) s) 0) q ≡ refusalOf ended draw ((m && i) && s) (f && b) q
-unfolding refusalWith refusalOf
-refused true draw m f i b s q = refl
-refused false false m f i b s q = refl
-refused false true false f i b s q = refl
-refused false true true false false b s q = refl
-refused false true true true false b s q = refl
-refused false true true false true false false q = refl
-refused false true true false true false true q = refl
-refused false true true false true true false q = refl
-refused false true true false true true true q = refl
-refused false true true true true false false q = refl
-refused false true true true true false true q = refl
-refused false true true true true true false q = refl
-refused false true true true true true true q = refl
+-- a missing sync, by the number of the sync required
+missing-is : (q : ℕ) → q ≤ 3 → missing q ≡ firstOf (ground 7 (eqb q 1) ∷ ground 8 (eqb q 2) ∷ ground 9 (eqb q 3) ∷ []) 0
+missing-is zero h = refl
+missing-is (suc zero) h = refl
+missing-is (suc (suc zero)) h = refl
+missing-is (suc (suc (suc zero))) h = refl
+missing-is (suc (suc (suc (suc q)))) h = absurd (omega arith)
 
-pub refusal-seen : (strict : Bool) (s : State) (c : List ℕ) → viewRefusal strict (viewOf s) (firstNumber c) ≡ refusalAt strict s c
-unfolding viewOf
-refusal-seen strict s c =
-    let r = s .registers in
-    refused (s .ended) (draws (firstNumber c)) (r .modes .other .set) (eqb (r .modes .other .modes .«cycle_type») 3) (r .images .color .set)
-    (eqb (r .images .color .image .size) 0) (r .modes .scissor .set) _
+-- 4 to 6, and g where none of them holds
+abbrev ownFirst : Bool → Bool → Bool → Bool → ℕ → ℕ
+ownFirst ended draw ready fill g = cond ended 4 (cond (draw && not ready) 5 (cond (draw && fill) 6 g))
+
+-- modes, image and scissor set (m, i, s), FILL mode (f) and an image of 4 bits (b)
+refused :
+    (ended draw m f i b s : Bool) (g : ℕ) →
+    cond ended 4 (orElse (cond draw (drawRefusal (code m f) (code i b) s) 0) g) ≡ ownFirst ended draw ((m && i) && s) (f && b) g
+refused true draw m f i b s g = refl
+refused false false m f i b s g = refl
+refused false true false f i b s g = refl
+refused false true true false false b s g = refl
+refused false true true true false b s g = refl
+refused false true true false true false false g = refl
+refused false true true false true false true g = refl
+refused false true true false true true false g = refl
+refused false true true false true true true g = refl
+refused false true true true true false false g = refl
+refused false true true true true false true g = refl
+refused false true true true true true false g = refl
+refused false true true true true true true g = refl
+
+module _ (s : State) (c : List ℕ) where
+  seen-with : (g : ℕ) →
+      cond (s .ended) 4 (orElse (cond (draws (firstNumber c)) (restRefusal (viewOf s .rest)) 0) g) ≡
+      ownFirst (s .ended) (draws (firstNumber c)) (ready (s .registers)) (fourBitFill (s .registers)) g
+  unfolding viewOf
+  seen-with g =
+      let r = s .registers in
+      refused (s .ended) (draws (firstNumber c)) (r .modes .other .set) (eqb (r .modes .other .modes .«cycle_type») 3) (r .images .color .set)
+      (eqb (r .images .color .image .size) 0) (r .modes .scissor .set) g
+
+  pub refusal-seen : (strict : Bool) → viewRefusal strict (viewOf s) (firstNumber c) ≡ refusalAt (refusalsBy strict) s c
+  unfolding viewOf refusalWith ownRefusals syncRefusals
+  refusal-seen true =
+      ap (λ (g : ℕ). cond (s .ended) 4 (orElse (cond (draws (firstNumber c)) (restRefusal (viewOf s .rest)) 0) g))
+      (missing-is (requiredOf (s .hazards) (firstNumber c)) (required-most (s .hazards) (firstNumber c) (number-small (wordAt c 0)))) ∙
+      seen-with _
+  refusal-seen false = seen-with 0
 
 -- what is seen of the registers
 abbrev seen : Registers → Bool × Bool × Bool × ℕ × ℕ

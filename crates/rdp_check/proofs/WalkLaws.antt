@@ -15,7 +15,7 @@ use Rattle.rdp_command.specs.Decode.{firstNumber, headOf}
 use Rattle.rdp_check.specs.Hazards.{nextOf, requiredOf, entryOf}
 use Rattle.rdp_check.specs.Commands.{commandsFrom, restFrom, commandsOf, restOf}
 use Rattle.rdp_check.specs.Check.{State, start, afterCommand, refusalAt, Outcome, outcome, settle, judge, judgeList, checked}
-use Rattle.rdp_check.specs.View.{viewOf, viewAfter, refusalWith, viewRefusal, Watches, answerAt}
+use Rattle.rdp_check.specs.View.{viewOf, viewAfter, refusalWith, refusalsBy, viewRefusal, Watches, answerAt}
 use Rattle.rdp_command.specs.declared.Head.{Head}
 use Rattle.rdp_check.specs.declared.walk.Rest.{Rest}
 use Rattle.rdp_check.specs.declared.walk.View.{View}
@@ -26,7 +26,7 @@ use Rattle.rdp_check.proofs.ViewLaws.{longBits, one-word, Unwatched, un
 
 -- the judgement of bytes from a place on
 abbrev pub judged : Bool → State → ℕ → List ℕ → Outcome
-judged strict s at bs = judge strict s at (commandsOf bs) (restOf bs)
+judged strict s at bs = judge (refusalsBy strict) s at (commandsOf bs) (restOf bs)
 
 judged-none : (strict : Bool) (s : State) (at : ℕ) → judged strict s at [] ≡ outcome 0 at s
 unfolding judge commandsFrom restFrom
@@ -40,7 +40,7 @@ pub record Walked (strict : Bool) (list : List ℕ) (words : ℕ) (v : View) (at
   pub whole : length list ≡ 8 * words
   pub few : words ≤ 4096
   pub within : at ≤ words
-  pub same : judged strict state at (drop (8 * at) list) ≡ judgeList strict list
+  pub same : judged strict state at (drop (8 * at) list) ≡ judgeList (refusalsBy strict) list
 
 -- the hazards of the view are those of the state
 pub shown : (number place : ℕ) (v : View) (s : State) → v ≡ viewOf s → answerAt number place (v .hazards) ≡ checked (outcome number place s)
@@ -79,12 +79,12 @@ module _ {strict : Bool} {list : List ℕ} {words : ℕ} {v : View} {at : ℕ} (
   unfolding viewOf
   hazards-low = rw (w .view) (w .low)
 
-  pub ended : words ≤ at → answerAt 0 words (v .hazards) ≡ checked (judgeList strict list)
+  pub ended : words ≤ at → answerAt 0 words (v .hazards) ≡ checked (judgeList (refusalsBy strict) list)
   ended h =
       let e : at ≡ words = omega arith in
       let le : length list ≤ 8 * at = omega arith in
       let none : drop (8 * at) list ≡ [] = drop-of-length-le list le in
-      let end : outcome 0 words (w .state) ≡ judgeList strict list = rw (← w .same, none, ← e) (sym (judged-none strict (w .state) at)) in
+      let end : outcome 0 words (w .state) ≡ judgeList (refusalsBy strict) list = rw (← w .same, none, ← e) (sym (judged-none strict (w .state) at)) in
       shown 0 words v (w .state) (w .view) ∙ ap checked end
 
   -- a turn, at a command with a number
@@ -92,12 +92,12 @@ module _ {strict : Bool} {list : List ℕ} {words : ℕ} {v : View} {at : ℕ} (
     abbrev s : State
     s = w .state
 
-    pub past : words - at < count → answerAt 3 at (v .hazards) ≡ checked (judgeList strict list)
+    pub past : words - at < count → answerAt 3 at (v .hazards) ≡ checked (judgeList (refusalsBy strict) list)
     unfolding judge
     past h =
         let short : length list / 8 < at + wordsOf n = omega arith in
         let cons : drop (8 * at) list ≡ getD list (8 * at) 0 ∷ drop (suc (8 * at)) list = drop-cons list (8 * at) 0 (omega arith) in
-        let cut : outcome 3 at s ≡ judgeList strict list = rw (← w .same, commands-past list at n is short, rest-past list at n is short, cons) in
+        let cut : outcome 3 at s ≡ judgeList (refusalsBy strict) list = rw (← w .same, commands-past list at n is short, rest-past list at n is short, cons) in
         shown 3 at v s (w .view) ∙ ap checked cut
 
     pub falls : count ≤ words - at → words - (at + count) < words - at
@@ -114,24 +114,24 @@ module _ {strict : Bool} {list : List ℕ} {words : ℕ} {v : View} {at : ℕ} (
       abbrev onward : Outcome
       onward = judged strict (afterCommand s c) (at + count) (drop (8 * (at + count)) list)
 
-      step : judged strict s at (drop (8 * at) list) ≡ settle (refusalAt strict s c) at s onward
+      step : judged strict s at (drop (8 * at) list) ≡ settle (refusalAt (refusalsBy strict) s c) at s onward
       unfolding judge
       step = rw (commands-at list at n is inside, rest-at list at n is inside, command-number list at n is inside, long)
 
-      refusal-is : viewRefusal strict v n ≡ refusalAt strict s c
+      refusal-is : viewRefusal strict v n ≡ refusalAt (refusalsBy strict) s c
       refusal-is =
           ap (λ (x : View). viewRefusal strict x n) (w .view) ∙
           ap (viewRefusal strict (viewOf s)) (sym (command-number list at n is inside)) ∙
-          refusal-seen strict s c
+          refusal-seen s c strict
 
-      pub refused : (g : ℕ) → g ≡ viewRefusal strict v n → (g ≡ 0 → ⊥) → answerAt g at (v .hazards) ≡ checked (judgeList strict list)
+      pub refused : (g : ℕ) → g ≡ viewRefusal strict v n → (g ≡ 0 → ⊥) → answerAt g at (v .hazards) ≡ checked (judgeList (refusalsBy strict) list)
       refused g e ne =
           shown g at v s (w .view) ∙
           ap checked (settled g at s onward ne ∙ ap (λ (x : ℕ). settle x at s onward) (e ∙ refusal-is) ∙ sym step ∙ w .same)
 
       pub again : (g : ℕ) → g ≡ viewRefusal strict v n → g ≡ 0 → (u : View) → u ≡ viewAfter v (headOf (wordAt list at)) → Walked strict list words u (at + count)
       again g e z u is-u =
-          let zero-is : refusalAt strict s c ≡ 0 = sym refusal-is ∙ sym e ∙ z in
+          let zero-is : refusalAt (refusalsBy strict) s c ≡ 0 = sym refusal-is ∙ sym e ∙ z in
           record {
             state = afterCommand s c;
             view =

@@ -1,12 +1,13 @@
 -- Document 01, "Grounds": the refusals of a list, command by command, in their order.
 use Prim.Native.Nat.{ℕ, zero, suc, _+_, _*_, _/_, _%_}
-use mathlib.Core.Bool.{Bool, true, false, cond, _&&_, _||_, not}
-use mathlib.Core.List.{List, [], _∷_}
+use mathlib.Core.Bool.{Bool, false, cond, _&&_, _||_, not}
+use mathlib.Core.List.{List, [], _∷_, _++_}
 use lib.Dec.{ltb, eqb}
 use lib.ListN.{length}
 use Rattle.rdp_command.specs.Kinds.{isDraw, kindOf, wordsOf}
 use Rattle.rdp_command.specs.Decode.{firstNumber, decodeOf}
 use Rattle.rdp_check.specs.Hazards.{nextOf, requiredOf}
+use Rattle.rdp_check.specs.Order.{Ground, ground, firstOf}
 use Rattle.rdp_check.specs.Commands.{commandsOf, restOf}
 use Rattle.rdp_check.specs.Registers.{noRegisters, afterDecoded}
 use Rattle.rdp_check.specs.declared.Registers.{Registers}
@@ -36,16 +37,6 @@ afterCommand s c =
 unfoldable pub draws : ℕ → Bool
 draws n = isDraw (kindOf n)
 
--- 7, 8, 9: the sync required is missing
-abbrev pub missing : ℕ → ℕ
-missing required = cond (eqb required 0) 0 (6 + required)
-
--- the first refusal at one command, or 0. 4: it stands after a Sync Full. 5: a draw, where modes, colour image or scissor are not all set. 6: a draw in
--- FILL mode on a 4-bit image. 7 to 9: a sync that it requires is missing
-unfoldable pub refusalOf : Bool → Bool → Bool → Bool → ℕ → ℕ
-refusalOf ended draw ready fourBitFill required =
-    cond ended 4 (cond (draw && not ready) 5 (cond (draw && fourBitFill) 6 (missing required)))
-
 -- modes, colour image and scissor are set in this list
 abbrev pub ready : Registers → Bool
 ready r = (r .modes .other .set && r .images .color .set) && r .modes .scissor .set
@@ -54,11 +45,38 @@ ready r = (r .modes .other .set && r .images .color .set) && r .modes .scissor .
 abbrev pub fourBitFill : Registers → Bool
 fourBitFill r = eqb (r .modes .other .modes .«cycle_type») 3 && eqb (r .images .color .image .size) 0
 
--- the refusal of a command; the check is strict, and the repair passes over 7 to 9
-abbrev pub refusalAt : Bool → State → List ℕ → ℕ
-refusalAt strict s c =
-    refusalOf (s .ended) (draws (firstNumber c)) (ready (s .registers)) (fourBitFill (s .registers))
-    (cond strict (requiredOf (s .hazards) (firstNumber c)) 0)
+-- refusals of a command, in the state before it, by their number and in their order
+abbrev pub Refusals : Type 0
+Refusals = State → List ℕ → List (Ground ℕ)
+
+-- 4: a command after Sync Full. 5: a draw with modes, colour image or scissor not set in this list. 6: a draw in FILL mode on a 4-bit image
+unfoldable pub ownRefusals : Refusals
+ownRefusals s c =
+    let draw = draws (firstNumber c) in
+    ground 4 (s .ended)
+    ∷ ground 5 (draw && not (ready (s .registers)))
+    ∷ ground 6 (draw && fourBitFill (s .registers))
+    ∷ []
+
+-- 7, 8, 9: sync missing: Load, Tile, Pipe
+unfoldable pub syncRefusals : Refusals
+syncRefusals s c =
+    let required = requiredOf (s .hazards) (firstNumber c) in
+    ground 7 (eqb required 1) ∷ ground 8 (eqb required 2) ∷ ground 9 (eqb required 3) ∷ []
+
+-- "at one command 3, 4, 5, 6, then 7 to 9"; the repair passes over 7 to 9; and no refusal of a command is left where only 1 to 3 count
+abbrev pub checkRefusals : Refusals
+checkRefusals s c = ownRefusals s c ++ syncRefusals s c
+
+abbrev pub repairRefusals : Refusals
+repairRefusals = ownRefusals
+
+abbrev pub noRefusals : Refusals
+noRefusals s c = []
+
+-- the first of them that holds, or 0
+abbrev pub refusalAt : Refusals → State → List ℕ → ℕ
+refusalAt refusals s c = firstOf (refusals s c) 0
 
 -- the number of the first refusal, 0 where there is none; its place; and the state there
 pub record Outcome : Type 0 where
@@ -79,23 +97,23 @@ settle zero at s next = next
 settle (suc refusal) at s next = outcome (suc refusal) at s
 
 -- the commands from a place on, in order, with the bytes of one that runs past the end
-unfoldable pub judge : Bool → State → ℕ → List (List ℕ) → List ℕ → Outcome
-judge strict s at [] rest = atEnd s at rest
-judge strict s at (c ∷ cs) rest =
-    settle (refusalAt strict s c) at s (judge strict (afterCommand s c) (at + wordsOf (firstNumber c)) cs rest)
+unfoldable pub judge : Refusals → State → ℕ → List (List ℕ) → List ℕ → Outcome
+judge refusals s at [] rest = atEnd s at rest
+judge refusals s at (c ∷ cs) rest =
+    settle (refusalAt refusals s c) at s (judge refusals (afterCommand s c) (at + wordsOf (firstNumber c)) cs rest)
 
-abbrev pub judgeList : Bool → List ℕ → Outcome
-judgeList strict list = judge strict start 0 (commandsOf list) (restOf list)
+abbrev pub judgeList : Refusals → List ℕ → Outcome
+judgeList refusals list = judge refusals start 0 (commandsOf list) (restOf list)
 
 -- 1: more bytes than those of the words allowed, at that number of words; 2: the length is no multiple of 8; then the commands
-unfoldable pub outcomeWithin : ℕ → Bool → List ℕ → Outcome
-outcomeWithin words strict list =
+unfoldable pub outcomeWithin : ℕ → Refusals → List ℕ → Outcome
+outcomeWithin words refusals list =
     cond (ltb (8 * words) (length list)) (outcome 1 words start)
-    (cond (eqb (length list % 8) 0) (judgeList strict list) (outcome 2 (length list / 8) start))
+    (cond (eqb (length list % 8) 0) (judgeList refusals list) (outcome 2 (length list / 8) start))
 
 -- the check: at most 32,768 bytes
 abbrev pub outcomeOf : List ℕ → Outcome
-outcomeOf list = outcomeWithin 4096 true list
+outcomeOf list = outcomeWithin 4096 checkRefusals list
 
 abbrev pub checked : Outcome → Checked
 checked o = record { number = o .number; place = o .place; hazards = o .state .hazards }

@@ -1,6 +1,7 @@
 pub mod Hazards
 pub mod Commands
 pub mod Registers
+pub mod Order
 pub mod Check
 pub mod Refusals
 pub mod View

@@ -1,13 +1,13 @@
 -- Document 01, "Repair" and refusals 1 to 6, 13, 14: what the repair answers, what it writes, and what the written list is.
 use Prim.Native.Nat.{ℕ, _*_, _/_, _≤_}
-use mathlib.Core.Bool.{true, false, cond, _||_}
+use mathlib.Core.Bool.{cond, _||_}
 use mathlib.Core.List.{List}
 use mathlib.Core.Path.{_≡_}
 use lib.Dec.{eqb, ltb}
 use lib.ListN.{length, take, replicate}
 use Rattle.rdp_command.specs.Words.{overwrite}
 use Rattle.rdp_check.specs.Commands.{commandsOf, joined}
-use Rattle.rdp_check.specs.Check.{judgeList, outcomeWithin, outcomeOf}
+use Rattle.rdp_check.specs.Check.{checkRefusals, repairRefusals, judgeList, outcomeWithin, outcomeOf}
 use Rattle.rdp_check.specs.Inserted.{MadeByInserting}
 use Rattle.rdp_check.specs.Plan.{best, applied, cyclesOf, numbersOf, planned, FirstOf}
 use Rattle.rdp_check.specs.declared.Repaired.{Repaired}
@@ -25,11 +25,11 @@ Makes s p t = (length p ≡ length (commandsOf s)) × (joined (applied p (comman
 pub record LeastRepair (s t : List ℕ) (cycles : ℕ) : Type 0 where
   pub inserted : MadeByInserting s t cycles
   pub passes : outcomeOf t .number ≡ 0
-  pub least : (u : List ℕ) (k : ℕ) → MadeByInserting s u k → judgeList true u .number ≡ 0 → cycles ≤ k
-  pub planned : (u : List ℕ) → MadeByInserting s u cycles → judgeList true u .number ≡ 0 → (q : List ℕ) × Makes s q u × (cyclesOf q ≡ cycles)
+  pub least : (u : List ℕ) (k : ℕ) → MadeByInserting s u k → judgeList checkRefusals u .number ≡ 0 → cycles ≤ k
+  pub planned : (u : List ℕ) → MadeByInserting s u cycles → judgeList checkRefusals u .number ≡ 0 → (q : List ℕ) × Makes s q u × (cyclesOf q ≡ cycles)
   pub first :
       (p : List ℕ) × Makes s p t × (cyclesOf p ≡ cycles) ×
-      ((q u : List ℕ) → Makes s q u → judgeList true u .number ≡ 0 → cyclesOf q ≡ cycles → FirstOf p q)
+      ((q u : List ℕ) → Makes s q u → judgeList checkRefusals u .number ≡ 0 → cyclesOf q ≡ cycles → FirstOf p q)
 
 -- ---- what the repair answers and writes
 
@@ -47,11 +47,11 @@ roomed list work out =
     (cond (ltb out (length (repairedBytes list))) (repairAnswer 14 (length (repairedBytes list) / 8) 0)
     (repairAnswer 0 (length (repairedBytes list) / 8) (best (numbersOf (commandsOf list)) 0)))
 
--- the answer, by the lengths of the work buffer and the output. 1: over 16,384 bytes, 2,048 words. The repair is not strict: it passes over 7 to 9
+-- the answer, by the lengths of the work buffer and the output. 1: over 16,384 bytes, 2,048 words. The repair passes over 7 to 9
 unfoldable pub repairOf : List ℕ → ℕ → ℕ → Repaired
 repairOf list work out =
-    cond (eqb (outcomeWithin 2048 false list .number) 0) (roomed list work out)
-    (repairAnswer (outcomeWithin 2048 false list .number) (outcomeWithin 2048 false list .place) 0)
+    cond (eqb (outcomeWithin 2048 repairRefusals list .number) 0) (roomed list work out)
+    (repairAnswer (outcomeWithin 2048 repairRefusals list .number) (outcomeWithin 2048 repairRefusals list .place) 0)
 
 -- the output: the repaired list at 0, and what it held beyond it; else untouched
 unfoldable pub outAfter : Repaired → List ℕ → List ℕ → List ℕ

@@ -8,7 +8,7 @@ use Rattle.rdp_command.specs.Kinds.{among, hasBit, wordsOf}
 use Rattle.rdp_command.specs.declared.Head.{Head}
 use Rattle.rdp_command.specs.Decode.{firstNumber, decodeOf}
 use Rattle.rdp_check.specs.Hazards.{nextOf, requiredOf}
-use Rattle.rdp_check.specs.Check.{State, draws, missing}
+use Rattle.rdp_check.specs.Check.{State, draws, Refusals, checkRefusals, repairRefusals}
 use Rattle.rdp_check.specs.Registers.{afterDecoded}
 use Rattle.rdp_check.specs.declared.Registers.{Registers}
 use Rattle.rdp_check.specs.declared.Checked.{Checked}
@@ -61,9 +61,18 @@ abbrev pub orElse : ℕ → ℕ → ℕ
 orElse zero g = g
 orElse (suc f) g = suc f
 
+-- 7, 8, 9: the sync required is missing
+abbrev pub missing : ℕ → ℕ
+missing required = cond (eqb required 0) 0 (6 + required)
+
 -- the refusal of a command: 4, then the refusal of a draw where it is one, then a missing sync
 unfoldable pub refusalWith : Bool → ℕ → ℕ → ℕ
 refusalWith ended draw required = cond ended 4 (orElse draw (missing required))
+
+-- the refusals of a strict walk are those of the check, of another those of the repair
+abbrev pub refusalsBy : Bool → Refusals
+refusalsBy true = checkRefusals
+refusalsBy false = repairRefusals
 
 -- the refusal of a draw by what is carried
 abbrev pub restRefusal : Rest → ℕ

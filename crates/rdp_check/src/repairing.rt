@@ -1,5 +1,4 @@
 // The passes of the repair over a list of whole commands: numbers, choices from the back, words to insert, output.
-ghost use mathlib.Core.Bool.{false};
 ghost use mathlib.Core.List.{_++_};
 ghost use mathlib.Core.Path.{_≡_};
 ghost use Prim.Native.Nat.{_+_, _*_, _/_, _<_, _≤_, min};
@@ -7,7 +6,7 @@ ghost use lib.ListN.{length, take, drop, replicate};
 ghost use Rattle.rdp_command.specs.Words.{wordAt, numberIn, overwrite, pasted};
 ghost use Rattle.rdp_check.specs.Commands.{commandsOf};
 ghost use Rattle.rdp_check.specs.Hazards.{Agrees};
-ghost use Rattle.rdp_check.specs.Check.{outcomeWithin};
+ghost use Rattle.rdp_check.specs.Check.{repairRefusals, outcomeWithin};
 ghost use Rattle.rdp_check.specs.Plan.{syncOf};
 ghost use Rattle.rdp_check.specs.Work.{notedIn, optionsIn, insertsOf, Below, optionBytes, dueBytes, WholeList, NotedIs, BackwardIs, PlannedIs, WrittenIs};
 ghost use Rattle.rdp_check.specs.Repair.{RepairIs};
@@ -214,7 +213,7 @@ fn plan_list(list: &[u8], words: usize, work: &mut [u8]) -> Planned
 
 // Repairs a list that none of refusals 1 to 6 holds for, where the work buffer has sixteen bytes for each command.
 pub fn repair_whole(list: &[u8], words: usize, work: &mut [u8], out: &mut [u8]) -> Repaired
-    requires { ⌜ (outcomeWithin 2048 false (now list) .number ≡ 0) × (words ≡ length (now list) / 8)
+    requires { ⌜ (outcomeWithin 2048 repairRefusals (now list) .number ≡ 0) × (words ≡ length (now list) / 8)
         × (16 * length (commandsOf (now list)) ≤ length (now work)) ⌝ }
     ensures { λ r. ⌜ RepairIs (now (list .entry)) (now (work .entry)) (now (out .entry)) r (now (work .exit)) (now (out .exit)) ⌝ }
 {

@@ -7,7 +7,7 @@ ghost use Rattle.rdp_command.specs.Words.{wordAt, numberIn};
 ghost use Rattle.rdp_command.specs.Kinds.{hasBit, wordsOf};
 ghost use Rattle.rdp_check.specs.Hazards.{Agrees, entryOf};
 ghost use Rattle.rdp_check.specs.Check.{start, draws, judgeList, outcomeWithin, checked};
-ghost use Rattle.rdp_check.specs.View.{code, viewOf, restAfter, restRefusal, refusalWith, Watches, AdvancedIs, answerAt};
+ghost use Rattle.rdp_check.specs.View.{refusalsBy, code, viewOf, restAfter, restRefusal, refusalWith, Watches, AdvancedIs, answerAt};
 use crate::Checked;
 use crate::hazards;
 use crate::table;
@@ -224,7 +224,7 @@ fn answer(number: u32, place: usize, hazards: u8) -> Checked
 // sync: the way that they take touches nothing but the hazards, and not even these where they stay, so that the next command need not wait for them.
 fn walk(table: &[u8; 1024], list: &[u8], words: usize, strict: bool) -> Checked
     requires { ⌜ Agrees (now table) × ((length (now list) ≡ 8 * words) × (words ≤ 4096)) ⌝ }
-    ensures { λ r. ⌜ r ≡ checked (judgeList strict (now (list .entry))) ⌝ }
+    ensures { λ r. ⌜ r ≡ checked (judgeList (refusalsBy strict) (now (list .entry))) ⌝ }
 {
     let mut hazards: u8 = 0;
     let mut rest = no_rest();
@@ -272,7 +272,7 @@ fn walk(table: &[u8; 1024], list: &[u8], words: usize, strict: bool) -> Checked
 // The first refusal of a list that may have so many words: 1 and 2 of the list, then those of its commands.
 pub fn check_within(list: &[u8], most: usize, strict: bool) -> Checked
     requires { ⌜ most ≤ 4096 ⌝ }
-    ensures { λ r. ⌜ r ≡ checked (outcomeWithin most strict (now (list .entry))) ⌝ }
+    ensures { λ r. ⌜ r ≡ checked (outcomeWithin most (refusalsBy strict) (now (list .entry))) ⌝ }
 {
     let len = list.len();
     let words = len / 8;

@@ -2,39 +2,49 @@
 use Prim.Native.Nat.{ℕ, zero, suc, _+_, _/_, _≤_}
 use mathlib.Core.Bool.{Bool, true, false, cond}
 use mathlib.Core.List.{List, [], _∷_}
-use mathlib.Core.Path.{_≡_}
+use mathlib.Core.Path.{_≡_, sym, subst}
 use native.Mathlib.Omega.{arith}
 use borrow.Author.Tests.{eqb-true, eqb-false}
-use lib.Dec.{eqb}
+use lib.Dec.{T, eqb}
 use lib.ListN.{length}
-use Rattle.rdp_command.specs.Kinds.{wordsOf}
+use Rattle.rdp_command.specs.Kinds.{among, wordsOf}
 use Rattle.rdp_command.specs.Decode.{firstNumber, decodeOf}
 use Rattle.rdp_command.specs.declared.Answer.{Answer}
 use Rattle.rdp_command.proofs.Tests.{by-test}
-use Rattle.rdp_check.specs.Check.{draws, checkOf}
+use Rattle.rdp_check.specs.Order.{firstOf}
+use Rattle.rdp_check.specs.Check.{State, draws, ownRefusals, syncRefusals, checkRefusals, checkOf}
 use Rattle.rdp_check.specs.Commands.{commandsOf, wordsIn}
 use Rattle.rdp_check.specs.Registers.{noRegisters, afterDecoded}
 use Rattle.rdp_check.specs.declared.Registers.{Registers}
-use Rattle.rdp_check.proofs.FirstLaws.{check-first}
+use Rattle.rdp_check.proofs.OrderLaws.{allGive, among-gives, refusedAt}
+use Rattle.rdp_check.proofs.FirstLaws.{holds-gives, check-first}
 use Rattle.rdp_check.proofs.JoinLaws.{words-inside}
-use Rattle.rdp_check.proofs.BoundLaws.{holds-most, place-most}
-use Rattle.rdp_draw.specs.Draw.{Draw, drawAt, drawsFrom, drawsOf, drawRefusal, refusedAt, firstRefusal, drawAnswer}
-use Rattle.rdp_draw.specs.Refusals.{Refuses, notFill, misaligned, outsideMemory, Holds, atCheck, atDraw}
+use Rattle.rdp_check.proofs.BoundLaws.{place-most}
+use Rattle.rdp_draw.specs.Draw.{Draw, drawAt, drawsFrom, drawsOf, drawRefusals, drawGrounds, firstRefusal, drawAnswer}
+use Rattle.rdp_draw.specs.Refusals.{Holds, atCheck, atDraw}
+use Rattle.rdp_draw.proofs.DrawLaws.{first-next}
 use Rattle.rdp_draw.proofs.DrawnLaws.{draw-first}
 
-refuses-most : (start len : ℕ) (d : Draw) (n : ℕ) → Refuses start len d n → n ≤ 12
-refuses-most start len d n (notFill t) = omega arith
-refuses-most start len d n (misaligned h) = omega arith
-refuses-most start len d n (outsideMemory t u) = omega arith
+-- the numbers of drawing's answers
+abbrev pub drawNumbers : List ℕ
+drawNumbers = 0 ∷ 1 ∷ 2 ∷ 3 ∷ 4 ∷ 5 ∷ 6 ∷ 7 ∷ 8 ∷ 9 ∷ 10 ∷ 11 ∷ 12 ∷ []
 
-draws-most : (list : List ℕ) (start len n p : ℕ) → Holds list start len n p → n ≤ 12
-draws-most list start len n p (atCheck m q h) = omega (arith, holds-most list m q h)
-draws-most list start len n p (atDraw before d after m e r) = refuses-most start len d n r
+check-known : (s : State) (c : List ℕ) → T (allGive (λ n. among n drawNumbers) (checkRefusals s c))
+unfolding ownRefusals syncRefusals
+check-known s c = tt
 
-pub draw-most : (list : List ℕ) (start len : ℕ) → drawAnswer list start len .number ≤ 12
-draw-most list start len =
-    by-test (eqb (drawAnswer list start len .number) 0) (λ t. omega (arith, eqb-true (drawAnswer list start len .number) 0 t))
-    (λ f. draws-most list start len _ _ (draw-first list start len .refused (eqb-false _ _ f) .0))
+draw-known : (start len : ℕ) (d : Draw) → T (allGive (λ n. among n drawNumbers) (drawRefusals start len d))
+unfolding drawRefusals
+draw-known start len d = tt
+
+known : (list : List ℕ) (start len n p : ℕ) → Holds list start len n p → T (among n drawNumbers)
+known list start len n p (atCheck m q h) = holds-gives (λ k. among k drawNumbers) checkRefusals check-known tt tt tt tt 4096 list m q h
+known list start len n p (atDraw before d after m e r) = among-gives (λ k. among k drawNumbers) m (drawRefusals start len d) (draw-known start len d) r
+
+pub draw-numbers : (list : List ℕ) (start len : ℕ) → T (among (drawAnswer list start len .number) drawNumbers)
+draw-numbers list start len =
+    by-test (eqb (drawAnswer list start len .number) 0) (λ t. rw (eqb-true (drawAnswer list start len .number) 0 t) tt)
+    (λ f. known list start len _ _ (draw-first list start len .refused (eqb-false _ _ f)))
 
 -- ---- places
 
@@ -58,10 +68,11 @@ refused-within zero place words next h k = k
 refused-within (suc g) place words next h k = h
 
 first-within : (start len words : ℕ) (ds : List Draw) → Within words ds → firstRefusal start len words ds .place ≤ words
-unfolding firstRefusal
+unfolding firstRefusal drawGrounds
 first-within start len words [] w = omega arith
 first-within start len words (d ∷ ds) w =
-    refused-within (drawRefusal start len d) (d .place) words _ (w .0) (first-within start len words ds (w .1))
+    subst (λ (a : Answer). a .place ≤ words) (sym (first-next start len words d ds))
+    (refused-within (firstOf (drawRefusals start len d) 0) (d .place) words _ (w .0) (first-within start len words ds (w .1)))
 
 -- the place is within the 4,096 words that the check allows
 pub draw-place : (list : List ℕ) (start len : ℕ) → drawAnswer list start len .place ≤ 4096
@@ -71,5 +82,5 @@ draw-place list start len =
     (λ t.
     let words : checkOf list .place ≡ length list / 8 = check-first list .accepted (eqb-true _ _ t) .0 in
     let inside : 0 + wordsIn (commandsOf list) ≤ checkOf list .place = omega (arith, words, words-inside list) in
-    rw t (omega (arith, first-within start len (checkOf list .place) (drawsOf list) (draws-within (checkOf list .place) noRegisters 0 (commandsOf list) inside), place-most 4096 true list)))
-    (λ f. rw f (place-most 4096 true list))
+    rw t (omega (arith, first-within start len (checkOf list .place) (drawsOf list) (draws-within (checkOf list .place) noRegisters 0 (commandsOf list) inside), place-most 4096 checkRefusals list)))
+    (λ f. rw f (place-most 4096 checkRefusals list))

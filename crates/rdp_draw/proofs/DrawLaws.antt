@@ -1,29 +1,30 @@
 -- The answer and the memory of drawing, as its two loops over the draws meet them. Assumes nothing.
-use mathlib.Core.Bool.{Bool, true, false, cond, not}
+use mathlib.Core.Bool.{Bool, true, false, not, _&&_, Bool·not-not}
 use mathlib.Core.List.{List, [], _∷_}
 use mathlib.Core.Path.{_≡_, refl, sym, _∙_, ap}
-use Prim.Native.Nat.{ℕ, zero, suc, _+_, _/_, _%_, _≤_, _<_}
-use native.Mathlib.Nat.{suc-ne-zero}
+use Prim.Native.Nat.{ℕ, _+_, _/_, _%_, _≤_, _<_}
 use native.Mathlib.Omega.{arith}
 use borrow.Author.Tests.{eq-eqb, ne-eqb, ltb-true, ltb-false}
-use lib.Dec.{eqb, ltb}
+use lib.Dec.{T, eqb, ltb}
 use lib.ListN.{length}
 use Rattle.rdp_command.specs.Kinds.{wordsOf}
 use Rattle.rdp_command.specs.declared.Answer.{Answer}
 use Rattle.rdp_command.specs.declared.FillWords.{FillWords}
 use Rattle.rdp_command.specs.declared.FillFields.{FillFields}
-use Rattle.rdp_command.proofs.Tests.{by-test}
+use Rattle.rdp_command.proofs.Tests.{by-test, false-of}
 use Rattle.rdp_check.specs.Commands.{restOf}
 use Rattle.rdp_check.specs.Registers.{noRegisters}
 use Rattle.rdp_check.specs.Check.{checkOf}
+use Rattle.rdp_check.specs.Order.{firstOf, answer, Among}
 use Rattle.rdp_check.specs.Refusals.{tooLong, pastEnd}
-use Rattle.rdp_check.proofs.FirstLaws.{check-first}
+use Rattle.rdp_check.proofs.OrderLaws.{first-none, among-gives, refusedAt, refused-some, refused-none, placed-first}
+use Rattle.rdp_check.proofs.FirstLaws.{no-bytes, check-first}
 use Rattle.rdp_draw.specs.declared.walk.Reached.{Reached}
 use Rattle.rdp_draw.specs.declared.Area.{Area}
 use Rattle.rdp_draw.specs.Fill.{outside, painted}
 use Rattle.rdp_draw.specs.Runs.{areaOf, areaInside}
 use Rattle.rdp_draw.proofs.AreaLaws.{outside-runs}
-use Rattle.rdp_draw.specs.Draw.{Draw, drawOf, drawsOf, drawRefusal, answer, refusedAt, firstRefusal, drawAnswer, paintedAll, drawMemory}
+use Rattle.rdp_draw.specs.Draw.{Draw, drawOf, drawsOf, drawRefusals, drawGrounds, firstRefusal, drawAnswer, paintedAll, drawMemory}
 use Rattle.rdp_draw.specs.Seen.{seen, registersIn, drawWith, Next, ReachedIs, Reaches}
 use Rattle.rdp_draw.proofs.SeenLaws.{start-due}
 
@@ -34,17 +35,13 @@ pub record Accepted (list : List ℕ) : Type 0 where
   pub few : length list ≤ 32768
   pub whole : restOf list ≡ []
 
-empty : (xs : List ℕ) → ((xs ≡ [] → ⊥) → ⊥) → xs ≡ []
-empty [] h = refl
-empty (x ∷ xs) h = absurd (h (λ e. suc-ne-zero (length xs) (ap length e)))
-
 pub accepted : (list : List ℕ) → checkOf list .number ≡ 0 → Accepted list
 accepted list e =
     let a = check-first list .accepted e in
     record {
       words = a .0;
       few = by-test (ltb 32768 (length list)) (λ t. absurd (a .1 _ _ (tooLong (ltb-true _ _ t)))) (λ f. ltb-false _ _ f);
-      whole = empty (restOf list) (λ h. a .1 _ _ (pastEnd h));
+      whole = no-bytes (restOf list) (λ h. a .1 _ _ (pastEnd h));
     }
 
 -- ---- the answer and the memory
@@ -74,16 +71,19 @@ module _ (list : List ℕ) (start : ℕ) (memory : List ℕ) where
 -- a draw by its place, its number and its fields
 module _ (start len place n : ℕ) {f fill : FillFields} (is : f ≡ fill) where
   abbrev refusal : ℕ
-  refusal = drawRefusal start len (drawOf place n fill)
+  refusal = firstOf (drawRefusals start len (drawOf place n fill)) 0
 
   pub refusal-10 : not (drawOf place n f .fills) ≡ true → 10 ≡ refusal
-  unfolding drawRefusal
+  unfolding drawRefusals
   refusal-10 e = rw (← is, e)
 
   module _ (fills : not (drawOf place n f .fills) ≡ false) where
+    is-fill : drawOf place n f .fills ≡ true
+    is-fill = sym (Bool·not-not (drawOf place n f .fills)) ∙ ap not fills
+
     pub refusal-11 : (f .image .address % 64 ≡ 0 → ⊥) → 11 ≡ refusal
-    unfolding drawRefusal
-    refusal-11 h = rw (← is, fills, ne-eqb _ _ h)
+    unfolding drawRefusals
+    refusal-11 h = rw (← is, is-fill, ne-eqb _ _ h)
 
     -- the area of the fill, and whether it is inside memory
     module _ (aligned : f .image .address % 64 ≡ 0) (r : Area) (is-r : r ≡ areaOf f) (b : Bool) (is-b : b ≡ areaInside r start len) where
@@ -91,31 +91,34 @@ module _ (start len place n : ℕ) {f fill : FillFields} (is : f ≡ fill) where
       outside-is = outside-runs f start len ∙ ap (λ (x : Area). not (areaInside x start len)) (sym is-r) ∙ ap not (sym is-b)
 
       pub refusal-12 : b ≡ false → 12 ≡ refusal
-      unfolding drawRefusal
-      refusal-12 e = rw (← is, fills, eq-eqb _ _ aligned, outside-is, e)
+      unfolding drawRefusals
+      refusal-12 e = rw (← is, is-fill, eq-eqb _ _ aligned, outside-is, e)
 
       pub refusal-0 : b ≡ true → 0 ≡ refusal
-      unfolding drawRefusal
-      refusal-0 e = rw (← is, fills, eq-eqb _ _ aligned, outside-is, e)
+      unfolding drawRefusals
+      refusal-0 e = rw (← is, is-fill, eq-eqb _ _ aligned, outside-is, e)
+
+pub draw-numbered : (start len : ℕ) (d : Draw) → Among 0 (drawRefusals start len d) → ⊥
+unfolding drawRefusals
+draw-numbered start len d m = among-gives (λ n. not (eqb n 0)) 0 (drawRefusals start len d) tt m
 
 -- a draw that is not refused has all its bytes in memory
-refusal-none : (start len : ℕ) (d : Draw) → drawRefusal start len d ≡ 0 → outside (d .fill) start len ≡ false
-unfolding drawRefusal
-refusal-none start len d e = third (d .fills) (eqb (d .fill .image .address % 64) 0) (outside (d .fill) start len) e
+refusal-none : (start len : ℕ) (d : Draw) → firstOf (drawRefusals start len d) 0 ≡ 0 → outside (d .fill) start len ≡ false
+unfolding drawRefusals
+refusal-none start len d e =
+    let n = first-none (drawRefusals start len d) 0 (draw-numbered start len d) e in
+    filled (d .fills) (outside (d .fill) start len) (n .0) (n .1 .1 .0)
   where
-    third : (f a o : Bool) → _≡_ {A = ℕ} (cond (not f) 10 (cond (not a) 11 (cond o 12 0))) 0 → o ≡ false
-    third f a false z = refl
-    third true true true z = absurd (suc-ne-zero 11 z)
-    third true false true z = absurd (suc-ne-zero 10 z)
-    third false a true z = absurd (suc-ne-zero 9 z)
+    filled : (f o : Bool) → T (not (not f)) → T (not (f && o)) → o ≡ false
+    filled true o t u = false-of o u
+    filled false o t u = absurd t
 
-pub refused-first : (g place : ℕ) (next : Answer) → (g ≡ 0 → ⊥) → refusedAt g place next ≡ answer g place
-refused-first zero place next h = absurd (h refl)
-refused-first (suc g) place next h = refl
-
-pub refused-none : (g place : ℕ) (next : Answer) → refusedAt g place next .number ≡ 0 → (g ≡ 0) × (next .number ≡ 0)
-refused-none zero place next e = (refl, e)
-refused-none (suc g) place next e = absurd (suc-ne-zero g e)
+-- the draws after the first
+pub first-next :
+    (start len words : ℕ) (d : Draw) (ds : List Draw) →
+    firstRefusal start len words (d ∷ ds) ≡ refusedAt (firstOf (drawRefusals start len d) 0) (d .place) (firstRefusal start len words ds)
+unfolding firstRefusal drawGrounds
+first-next start len words d ds = placed-first (d .place) (drawGrounds start len ds) (answer 0 words) (drawRefusals start len d) (draw-numbered start len d)
 
 -- ---- the loop that tests
 
@@ -133,7 +136,7 @@ tests-first list start len words e w set is-set r h = record { count = e; ds = d
 
 module _ {list : List ℕ} {start len words : ℕ} {r : Reached} (t : Tests list start len words r) where
   pub tests-none : words ≤ r .place → answer 0 words ≡ firstRefusal start len words (drawsOf list)
-  unfolding firstRefusal
+  unfolding firstRefusal drawGrounds
   tests-none h = ap (firstRefusal start len words) (sym (t .reached .none (omega (arith, t .count)))) ∙ t .same
 
   module _ (more : r .place < words) where
@@ -143,14 +146,13 @@ module _ {list : List ℕ} {start len words : ℕ} {r : Reached} (t : Tests list
     abbrev d : Draw
     d = drawWith (r .set) list (r .place) (r .number)
 
-    unrolled : refusedAt (drawRefusal start len d) (r .place) (firstRefusal start len words (next .others)) ≡ firstRefusal start len words (drawsOf list)
-    unfolding firstRefusal
-    unrolled = ap (firstRefusal start len words) (sym (next .first)) ∙ t .same
+    unrolled : refusedAt (firstOf (drawRefusals start len d) 0) (r .place) (firstRefusal start len words (next .others)) ≡ firstRefusal start len words (drawsOf list)
+    unrolled = sym (first-next start len words d (next .others)) ∙ ap (firstRefusal start len words) (sym (next .first)) ∙ t .same
 
-    module _ (g : ℕ) (is : g ≡ drawRefusal start len d) where
+    module _ (g : ℕ) (is : g ≡ firstOf (drawRefusals start len d) 0) where
       pub tests-refused : (g ≡ 0 → ⊥) → answer g (r .place) ≡ firstRefusal start len words (drawsOf list)
       tests-refused h =
-          sym (refused-first g (r .place) (firstRefusal start len words (next .others)) h) ∙
+          sym (refused-some g (r .place) (firstRefusal start len words (next .others)) h) ∙
           ap (λ (k : ℕ). refusedAt k (r .place) (firstRefusal start len words (next .others))) is ∙ unrolled
 
       pub tests-again :
@@ -197,10 +199,12 @@ module _ {list : List ℕ} {start words : ℕ} {memory₀ memory : List ℕ} {r 
     abbrev drawn : Draw
     drawn = drawWith (r .set) list (r .place) (r .number)
 
-    clears : (drawRefusal start (length memory) drawn ≡ 0) × (firstRefusal start (length memory) words (next-painted .others) .number ≡ 0)
-    unfolding firstRefusal
+    clears : (firstOf (drawRefusals start (length memory) drawn) 0 ≡ 0) × (firstRefusal start (length memory) words (next-painted .others) .number ≡ 0)
     clears =
-        refused-none _ (r .place) _ (ap (λ (x : List Draw). firstRefusal start (length memory) words x .number) (sym (next-painted .first)) ∙ t .clear)
+        refused-none _ (r .place) _
+        (ap (λ (x : Answer). x .number)
+        (sym (first-next start (length memory) words drawn (next-painted .others)) ∙ ap (firstRefusal start (length memory) words) (sym (next-painted .first))) ∙
+        t .clear)
 
     pub paints-clear : outside (drawn .fill) start (length memory) ≡ false
     paints-clear = refusal-none start (length memory) drawn (clears .0)

@@ -1,13 +1,14 @@
 -- Document 01, refusals 10 to 12 and "Fill": what drawing a list answers, and what it leaves in memory.
-use Prim.Native.Nat.{ℕ, zero, suc, _+_, _%_}
+use Prim.Native.Nat.{ℕ, _+_, _%_}
 use mathlib.Core.Bool.{Bool, cond, not, _&&_}
-use mathlib.Core.List.{List, [], _∷_}
+use mathlib.Core.List.{List, [], _∷_, _++_}
 use lib.Dec.{eqb}
 use lib.ListN.{length}
 use Rattle.rdp_command.specs.Words.{wordAt}
 use Rattle.rdp_command.specs.Kinds.{wordsOf}
 use Rattle.rdp_command.specs.Decode.{firstNumber, rectangleIn, decodeOf}
 use Rattle.rdp_command.specs.declared.Answer.{Answer}
+use Rattle.rdp_check.specs.Order.{Ground, ground, firstOf, answer, placed}
 use Rattle.rdp_check.specs.Commands.{commandsOf}
 use Rattle.rdp_check.specs.Registers.{noRegisters, afterDecoded}
 use Rattle.rdp_check.specs.Check.{draws, outcomeOf}
@@ -46,23 +47,23 @@ drawsFrom r at (c ∷ cs) =
 abbrev pub drawsOf : List ℕ → List Draw
 drawsOf list = drawsFrom noRegisters 0 (commandsOf list)
 
--- the first refusal of a draw on memory of `len` bytes that starts at address `start`, or 0. 10: any draw but a Fill Rectangle drawn in FILL mode.
+-- the refusals of a draw on memory of `len` bytes that starts at address `start`, in their order. 10: any draw but a Fill Rectangle drawn in FILL mode.
 -- 11: the colour image's address is no multiple of 64. 12: a byte of a kept pixel is outside memory
-unfoldable pub drawRefusal : ℕ → ℕ → Draw → ℕ
-drawRefusal start len d =
-    cond (not (d .fills)) 10 (cond (not (eqb (d .fill .image .address % 64) 0)) 11 (cond (outside (d .fill) start len) 12 0))
+unfoldable pub drawRefusals : ℕ → ℕ → Draw → List (Ground ℕ)
+drawRefusals start len d =
+    ground 10 (not (d .fills))
+    ∷ ground 11 (not (eqb (d .fill .image .address % 64) 0))
+    ∷ ground 12 (d .fills && outside (d .fill) start len)
+    ∷ []
 
-abbrev pub answer : ℕ → ℕ → Answer
-answer number place = record { number = number; place = place }
+-- those of draws in order, each at its place
+unfoldable pub drawGrounds : ℕ → ℕ → List Draw → List (Ground Answer)
+drawGrounds start len [] = []
+drawGrounds start len (d ∷ ds) = placed (d .place) (drawRefusals start len d) ++ drawGrounds start len ds
 
-abbrev pub refusedAt : ℕ → ℕ → Answer → Answer
-refusedAt zero place next = next
-refusedAt (suc refusal) place next = answer (suc refusal) place
-
--- the first refusal of draws in order, at its place; 0 at the number of words where there is none
+-- the first of them that holds; 0 at the number of words where none does
 unfoldable pub firstRefusal : ℕ → ℕ → ℕ → List Draw → Answer
-firstRefusal start len words [] = answer 0 words
-firstRefusal start len words (d ∷ ds) = refusedAt (drawRefusal start len d) (d .place) (firstRefusal start len words ds)
+firstRefusal start len words ds = firstOf (drawGrounds start len ds) (answer 0 words)
 
 -- what drawing answers: the check's refusal, then the first of the draws
 unfoldable pub drawAnswer : List ℕ → ℕ → ℕ → Answer

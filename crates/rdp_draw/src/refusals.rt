@@ -4,7 +4,8 @@ ghost use mathlib.Core.Path.{_≡_};
 ghost use Prim.Native.Nat.{_/_, _≤_};
 ghost use lib.ListN.{length};
 ghost use Rattle.rdp_check.specs.Commands.{restOf};
-ghost use Rattle.rdp_draw.specs.Draw.{drawsOf, drawRefusal, firstRefusal};
+ghost use Rattle.rdp_check.specs.Order.{firstOf};
+ghost use Rattle.rdp_draw.specs.Draw.{drawsOf, drawRefusals, firstRefusal};
 ghost use Rattle.rdp_draw.specs.Seen.{drawWith};
 use crate::areas;
 use crate::walk;
@@ -13,7 +14,7 @@ use walk::Reached;
 
 // The first refusal of a draw, or 0.
 fn refusal_at(list: &[u8], at: Reached, start: u64, len: usize) -> u32
-    ensures { λ r. ⌜ r ≡ drawRefusal start len (drawWith (at .set) (now (list .entry)) (at .place) (at .number)) ⌝ }
+    ensures { λ r. ⌜ r ≡ firstOf (drawRefusals start len (drawWith (at .set) (now (list .entry)) (at .place) (at .number))) 0 ⌝ }
 {
     let fill = walk::fill_at(list, at.place, at.set);
     if !((at.number == 0x36) & (fill.cycle_type == 3)) {

@@ -1,5 +1,4 @@
 -- `rdp_check::registers_after` meets its contract: the commands before the check's place leave the registers of its outcome. Assumes nothing.
-use mathlib.Core.Bool.{true}
 use mathlib.Core.Path.{ap, _∙_}
 use Rattle.rdp_check.specs.View.{endOf}
 use Rattle.rdp_check.proofs.ReplayLaws.{final, registers-final, outcome-registers}
@@ -28,7 +27,7 @@ returns c =
     c .registers-of .ensures ∙
     registers-final list (f .before .end-of .result) (f .replay-from .result) (f .replay-from .ensures) ∙
     ap (final list) (f .before .end-of .ensures ∙ (λ i. endOf (e i .number) (e i .place))) ∙
-    outcome-registers 4096 true list in
+    outcome-registers 4096 list in
     λ i. record { number = e i .number; place = e i .place; hazards = e i .hazards; registers = registers i }
 
 pub registers-after-spec : {M : Type 1} → statement M

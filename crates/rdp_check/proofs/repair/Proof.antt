@@ -1,9 +1,9 @@
 -- `rdp_check::repair` meets its contract: the refusals of the list by the check's walk, those of the room and the repair by `RepairLaws`. Assumes nothing.
 use mathlib.Core.Path.{_≡_, refl, sym, _∙_}
-use mathlib.Core.Bool.{false}
 use native.Mathlib.Omega.{arith}
 use borrow.Author.Needs.{needs}
-use Rattle.rdp_check.specs.Check.{outcomeWithin}
+use Rattle.rdp_check.specs.Check.{repairRefusals, outcomeWithin}
+use Rattle.rdp_check.proofs.FirstLaws.{own-numbered}
 use Rattle.rdp_check.proofs.RepairedLaws.{sound, count-most}
 use Rattle.rdp_check.proofs.RepairLaws.{whole-list, commands-few, refused, refused-work}
 use Rattle.rdp_check.proofs.repair.Statement.{statement}
@@ -16,14 +16,14 @@ returns : tie.Need-returns
 returns c = refused _ _ _ _ (c .before .check-within .ensures) (c .if1 .taken)
 
 -- none of refusals 1 to 6 holds
-clean : (c : tie.After-check-within) → c .check-within .result .number ≡ 0 → outcomeWithin 2048 false (c .before .before .before .before .args .list .now) .number ≡ 0
+clean : (c : tie.After-check-within) → c .check-within .result .number ≡ 0 → outcomeWithin 2048 repairRefusals (c .before .before .before .before .args .list .now) .number ≡ 0
 clean c e = sym (λ i. c .check-within .ensures i .number) ∙ e
 
 repair-whole-requires : tie.Need-repair-whole-requires
 repair-whole-requires c κs =
     let at = c .before .before .before in
     let e = clean (at .before) (at .if1 .left) in
-    (e, refl, omega (arith, count-most _ (sound false _ e .none), c .before .before .if2 .taken))
+    (e, refl, omega (arith, count-most _ (sound repairRefusals own-numbered _ e .none), c .before .before .if2 .taken))
 
 same-length : tie.Need-same-length
 same-length c = search needs

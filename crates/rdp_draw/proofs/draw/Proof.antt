@@ -3,7 +3,7 @@ use mathlib.Core.Path.{_≡_, refl, sym, ap, _∙_}
 use native.Mathlib.Omega.{arith}
 use borrow.Author.Needs.{needs}
 use Rattle.rdp_check.specs.Check.{checkOf}
-use Rattle.rdp_draw.specs.Draw.{answer}
+use Rattle.rdp_check.specs.Order.{answer}
 use Rattle.rdp_draw.proofs.DrawLaws.{accepted, answer-checked, answer-draws, memory-kept, memory-painted}
 use Rattle.rdp_draw.proofs.draw.Statement.{statement}
 use Rattle.rdp_draw.proofs.draw.Tie as tie
