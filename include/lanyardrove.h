@@ -14,8 +14,8 @@
  *
  * Answers. Each function but the version answers one 64-bit number, whose parts lanyardrove_number, lanyardrove_place and
  * lanyardrove_third (or _cycles, _command) give. Number 0 says that all went well; any other is the first refusal that
- * holds: 1 and 2 of the list, then command by command 3 to 9, the smaller number first at one command, then those that the
- * function adds. A refusal leaves every byte as it was, but for the repair's work buffer at 14.
+ * holds: 1 and 2 of the list, then command by command 3, 4, 5, 6 and 7 to 9, then those that the function adds, in the order
+ * of its description. A refusal leaves every byte as it was, but for the repair's work buffer at 14.
  */
 #ifndef LANYARDROVE_H
 #define LANYARDROVE_H

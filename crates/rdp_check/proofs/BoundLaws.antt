@@ -2,9 +2,9 @@
 use Prim.Native.Nat.{ℕ, zero, suc, _+_, _*_, _/_, _%_, _≤_, _<_}
 use mathlib.Core.Bool.{Bool, true, _&&_}
 use mathlib.Core.List.{List, [], _∷_}
-use mathlib.Core.Path.{_≡_}
+use mathlib.Core.Path.{_≡_, sym, subst}
 use native.Mathlib.Omega.{arith}
-use borrow.Author.Tests.{eqb-true, ltb-true, ltb-false}
+use borrow.Author.Tests.{eqb-true, eqb-false, ltb-true, ltb-false}
 use lib.Dec.{T, eqb, ltb}
 use lib.ListN.{length, length-map}
 use Rattle.rdp_command.specs.Kinds.{among, wordsOf}
@@ -13,12 +13,13 @@ use Rattle.rdp_command.proofs.Tests.{both, true-of, by-test}
 use Rattle.rdp_check.specs.Commands.{commandsOf, restOf, wordsIn}
 use Rattle.rdp_check.specs.Check.{State, start, Refusals, ownRefusals, syncRefusals, checkRefusals, repairRefusals, Outcome, settle, afterCommand, refusalAt, judge, outcomeWithin, checkOf}
 use Rattle.rdp_check.specs.Plan.{best, numbersOf}
-use Rattle.rdp_check.specs.Repair.{repairedBytes, roomed, repairOf}
+use Rattle.rdp_check.specs.Repair.{repairedBytes, repairOf}
 use Rattle.rdp_check.specs.declared.Repaired.{Repaired}
 use Rattle.rdp_check.proofs.OrderLaws.{allGive}
 use Rattle.rdp_check.proofs.FirstLaws.{own-numbered, outcome-gives}
 use Rattle.rdp_check.proofs.JoinLaws.{words-inside}
 use Rattle.rdp_check.proofs.BackLaws.{best-most}
+use Rattle.rdp_check.proofs.RoomLaws.{roomed, repair-refused, repair-roomed}
 use Rattle.rdp_check.proofs.RepairedLaws.{sound, repaired-most}
 use Rattle.rdp_check.proofs.RepairLaws.{commands-few}
 
@@ -99,8 +100,13 @@ room-bounds list work out e =
     (λ g. rw (f, g) (record { number = tt; place = long; cycles = least })))
 
 pub repair-bounds : (list : List ℕ) (work out : ℕ) → Bounds (repairOf list work out)
-unfolding repairOf
 repair-bounds list work out =
     by-test (eqb (outcomeWithin 2048 repairRefusals list .number) 0)
-    (λ t. rw t (room-bounds list work out (eqb-true _ _ t)))
-    (λ f. rw f (record { number = outcome-gives (λ n. among n repairNumbers) repairRefusals own-known tt tt tt tt 2048 list; place = omega (arith, place-most 2048 repairRefusals list); cycles = omega arith }))
+    (λ t. let e = eqb-true _ _ t in subst Bounds (sym (repair-roomed list work out e)) (room-bounds list work out e))
+    (λ f.
+    subst Bounds (sym (repair-refused list work out (eqb-false _ _ f)))
+    (record {
+      number = outcome-gives (λ n. among n repairNumbers) repairRefusals own-known tt tt tt tt 2048 list;
+      place = omega (arith, place-most 2048 repairRefusals list);
+      cycles = omega arith;
+    }))

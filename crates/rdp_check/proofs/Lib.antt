@@ -9,10 +9,12 @@ pub mod RegisterLaws
 pub mod ReplayLaws
 pub mod OrderLaws
 pub mod FirstLaws
+pub mod MarkLaws
 pub mod SyncLaws
 pub mod ChoiceLaws
 pub mod LeastLaws
 pub mod JudgeLaws
+pub mod RoomLaws
 pub mod RepairedLaws
 pub mod TabulateLaws
 pub mod RankLaws

@@ -1,14 +1,13 @@
 -- Of refusals in an order the first that holds is answered, and none that holds comes before it. Assumes nothing.
 use mathlib.Core.Bool.{Bool, true, false, cond, not, _&&_}
-use mathlib.Core.List.{List, [], _∷_, _++_, append-assoc}
+use mathlib.Core.List.{List, [], _∷_, _++_}
 use mathlib.Core.Logic.{_⊎_, inl, inr, ⊎-elim}
 use mathlib.Core.Path.{_≡_, refl, sym, ap, subst, _∙_}
 use Prim.Native.Nat.{ℕ, zero, suc}
 use native.Mathlib.Nat.{suc-ne-zero}
-use borrow.Author.Tests.{eqb-true, eqb-false}
-use lib.Dec.{T, eqb}
+use lib.Dec.{T}
 use Rattle.rdp_command.specs.declared.Answer.{Answer}
-use Rattle.rdp_command.proofs.Tests.{both, false-of, by-test}
+use Rattle.rdp_command.proofs.Tests.{both, false-of}
 use Rattle.rdp_check.specs.Order.{Ground, ground, firstOf, answer, placed, Among, None, First, IsFirst}
 
 -- ---- the first that holds
@@ -150,6 +149,8 @@ pub answered :
     (a : Answer) → Found order (answer 0 words) a → IsFirst Holds order words (a .number) (a .place)
 answered Holds order words to from known a (none h e) =
     record {
+      listed = to;
+      only = from;
       accepted = λ z. (ap (λ (x : Answer). x .place) e, λ n p m. none-among (answer n p) order h (to n p m));
       refused = λ ne. absurd (ne (ap (λ (x : Answer). x .number) e));
       first = λ ne. absurd (ne (ap (λ (x : Answer). x .number) e));
@@ -157,6 +158,8 @@ answered Holds order words to from known a (none h e) =
 answered Holds order words to from known a (some f) =
     let holds : Holds (a .number) (a .place) = from (a .number) (a .place) (first-among f) in
     record {
+      listed = to;
+      only = from;
       accepted = λ z. absurd (known (a .place) (subst (λ (n : ℕ). Holds n (a .place)) z holds));
       refused = λ ne. holds;
       first = λ ne. f;
@@ -164,18 +167,16 @@ answered Holds order words to from known a (some f) =
 
 -- ---- an order after another
 
-first-left : {A : Type 0} {x : A} {gs : List (Ground A)} (hs : List (Ground A)) → First x gs → First x (gs ++ hs)
-first-left {A} {x} {gs} hs f =
-    record {
-      before = f .before;
-      after = f .after ++ hs;
-      split = ap (λ (l : List (Ground A)). l ++ hs) (f .split) ∙ append-assoc (f .before) (ground x true ∷ f .after) hs;
-      earlier = f .earlier;
-    }
+first-append : {A : Type 0} (gs hs : List (Ground A)) (other : A) → firstOf (gs ++ hs) other ≡ firstOf gs (firstOf hs other)
+first-append [] hs other = refl
+first-append (g ∷ gs) hs other = ap (cond (g .holds) (g .gives)) (first-append gs hs other)
 
-found-right : {A : Type 0} (gs hs : List (Ground A)) (other x : A) → None gs → Found hs other x → Found (gs ++ hs) other x
-found-right [] hs other x n f = f
-found-right (g ∷ gs) hs other x n f = found-next g (gs ++ hs) other x (n .0) (found-right gs hs other x (n .1) f)
+none-before : {A : Type 0} (x : A) (before after : List (Ground A)) (other : A) → None before → firstOf (before ++ ground x true ∷ after) other ≡ x
+none-before x [] after other n = refl
+none-before x (g ∷ before) after other n = rw (false-of (g .holds) (n .0)) (none-before x before after other (n .1))
+
+first-is : {A : Type 0} {x : A} {gs : List (Ground A)} → First x gs → (other : A) → firstOf gs other ≡ x
+first-is {A} {x} {gs} f other = ap (λ (l : List (Ground A)). firstOf l other) (f .split) ∙ none-before x (f .before) (f .after) other (f .earlier)
 
 not-held : (b : Bool) → (T b → ⊥) → T (not b)
 not-held true h = h tt
@@ -185,16 +186,13 @@ no-among : {A : Type 0} (gs : List (Ground A)) → ((x : A) → Among x gs → �
 no-among [] h = tt
 no-among (g ∷ gs) h = (not-held (g .holds) (λ t. h (g .gives) (inl (t, refl))), no-among gs (λ x m. h x (inr m)))
 
--- an answer that is the first of an order, and of those after it where it accepts, is the first of both
-pub then-first :
-    (Holds : ℕ → ℕ → Type 0) (gs hs : List (Ground Answer)) (words number place : ℕ) → IsFirst Holds gs words number place →
-    ((n p : ℕ) → Among (answer n p) gs → Holds n p) → (other a : Answer) →
-    (number ≡ 0 → Found hs other a) → ((number ≡ 0 → ⊥) → a ≡ answer number place) → Found (gs ++ hs) other a
-then-first Holds gs hs words number place is from other a accepts refuses =
-    by-test (eqb number 0)
-    (λ t.
-    let e : number ≡ 0 = eqb-true number 0 t in
-    found-right gs hs other a (no-among gs (λ x m. is .accepted e .1 (x .number) (x .place) (from (x .number) (x .place) m))) (accepts e))
-    (λ f.
-    let ne : number ≡ 0 → ⊥ = eqb-false number 0 f in
-    some (first-left hs (subst (λ (x : Answer). First x gs) (sym (refuses ne)) (is .first ne))))
+-- an order whose first is known, and what comes after it
+module _ {Holds : ℕ → ℕ → Type 0} {gs : List (Ground Answer)} {words number place : ℕ} (is : IsFirst Holds gs words number place)
+    (hs : List (Ground Answer)) (other : Answer) where
+  pub then-refused : (number ≡ 0 → ⊥) → firstOf (gs ++ hs) other ≡ answer number place
+  then-refused ne = first-append gs hs other ∙ first-is (is .first ne) (firstOf hs other)
+
+  pub then-accepted : number ≡ 0 → firstOf (gs ++ hs) other ≡ firstOf hs other
+  then-accepted e =
+      first-append gs hs other ∙
+      none-first gs (firstOf hs other) (no-among gs (λ x m. is .accepted e .1 (x .number) (x .place) (is .only (x .number) (x .place) m)))

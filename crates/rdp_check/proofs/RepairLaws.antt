@@ -7,14 +7,15 @@ use native.Mathlib.Omega.{arith}
 use lib.Dec.{T, eqb}
 use lib.ListN.{length, getD, take, drop, replicate, length-map, length-replicate}
 use lib.Seq.{take-at, drop-at}
-use borrow.Author.Tests.{eqb-false, lt-ltb, le-ltb, eq-eqb, ne-eqb}
+use borrow.Author.Tests.{eqb-false, lt-ltb, le-ltb, ne-eqb}
 use Rattle.rdp_command.specs.Words.{wordAt, overwrite}
 use Rattle.rdp_command.specs.Decode.{firstNumber}
 use Rattle.rdp_check.specs.Commands.{commandsOf, joined}
 use Rattle.rdp_check.specs.Check.{State, ownRefusals, repairRefusals, outcomeWithin, checked}
+use Rattle.rdp_check.specs.Refusals.{Holds}
 use Rattle.rdp_check.specs.Plan.{best, plan, applied, numbersOf, planned}
 use Rattle.rdp_check.specs.Work.{notedIn, workOf, optionsIn, insertsOf, Below, dueBytes, WholeList, NotedIs, BackwardIs}
-use Rattle.rdp_check.specs.Repair.{repairedBytes, repairAnswer, roomed, repairOf, outAfter, workAfter, RepairIs}
+use Rattle.rdp_check.specs.Repair.{LeastRepair, repairedBytes, repairAnswer, repairOf, outAfter, workAfter, RepairIs}
 use Rattle.rdp_check.specs.declared.Checked.{Checked}
 use Rattle.rdp_check.specs.declared.Repaired.{Repaired}
 use Rattle.rdp_command.proofs.Tests.{false-of}
@@ -24,6 +25,7 @@ use Rattle.rdp_check.proofs.ForwardLaws.{options-plan, work-below}
 use Rattle.rdp_check.proofs.OrderLaws.{allGive}
 use Rattle.rdp_check.proofs.FirstLaws.{own-numbered, outcome-gives}
 use Rattle.rdp_check.proofs.RepairedLaws.{sound, count-most, length-repaired, repaired-most, least-repair}
+use Rattle.rdp_check.proofs.RoomLaws.{roomed, repair-refused, repair-roomed, none-judged}
 
 -- ---- the work buffer from pass to pass
 
@@ -116,6 +118,17 @@ words-needed list e words w =
 
 -- ---- the answers
 
+-- a list that none of 1 to 6 holds for is repaired where there is room
+succeeding :
+    (list work out : List ℕ) (r : Repaired) → r ≡ repairOf list (length work) (length out) →
+    ((n p : ℕ) → Holds 2048 repairRefusals list n p → ⊥) → 16 * length (commandsOf list) ≤ length work →
+    ((t : List ℕ) (cycles : ℕ) → LeastRepair list t cycles → length t ≤ length out) → r .number ≡ 0
+unfolding roomed
+succeeding list work out r e free enough room =
+    let clean = none-judged list (length work) (length out) free in
+    ap (λ (x : Repaired). x .number) (e ∙ repair-roomed list (length work) (length out) clean) ∙
+    rw (le-ltb _ _ enough, le-ltb _ _ (room _ _ (least-repair list (sound repairRefusals own-numbered list clean))))
+
 -- a refusal but 14 leaves both buffers as they were
 untouched :
     (list work out : List ℕ) (r : Repaired) → r ≡ repairOf list (length work) (length out) → (r .number ≡ 0 → ⊥) → (r .number ≡ 14 → ⊥) →
@@ -126,6 +139,7 @@ untouched list work out r e z y =
       answer = e;
       output = rw (ne-eqb _ _ z);
       cleared = rw (ne-eqb _ _ z, ne-eqb _ _ y);
+      succeeds = succeeding list work out r e;
       repaired = λ n. absurd (z n);
       needed = λ n. absurd (y n);
     }
@@ -143,17 +157,16 @@ fourteen e = omega arith
 
 module _ (list work out : List ℕ) where
   pub refused : (r : Checked) → r ≡ checked (outcomeWithin 2048 repairRefusals list) → (r .number ≡ 0 → ⊥) → RepairIs list work out (repairAnswer (r .number) (r .place) 0) work out
-  unfolding repairOf
   refused r e z =
       let number : r .number ≡ outcomeWithin 2048 repairRefusals list .number = ap (λ (x : Checked). x .number) e in
       untouched list work out _
-      (ap₂ (λ (n p : ℕ). repairAnswer n p 0) number (ap (λ (x : Checked). x .place) e) ∙ rw (ne-eqb _ _ (λ y. z (number ∙ y)))) z
+      (ap₂ (λ (n p : ℕ). repairAnswer n p 0) number (ap (λ (x : Checked). x .place) e) ∙
+      sym (repair-refused list (length work) (length out) (λ y. z (number ∙ y)))) z
       (λ y. eqb-false _ _ (false-of _ (outcome-gives notOut repairRefusals own-not-out tt tt tt tt 2048 list)) (sym number ∙ y))
 
   module _ (clean : outcomeWithin 2048 repairRefusals list .number ≡ 0) where
     in-room : roomed list (length work) (length out) ≡ repairOf list (length work) (length out)
-    unfolding repairOf
-    in-room = rw (eq-eqb _ _ clean)
+    in-room = sym (repair-roomed list (length work) (length out) clean)
 
     pub refused-work : (count : ℕ) → count ≡ length (commandsOf list) → length work < 16 * count → RepairIs list work out (repairAnswer 13 count 0) work out
     unfolding roomed
@@ -171,10 +184,13 @@ module _ (list work out : List ℕ) where
       unfolding roomed outAfter workAfter
       refused-out h =
           let short : length out < length (repairedBytes list) = omega arith in
+          let e : repairAnswer 14 words 0 ≡ repairOf list (length work) (length out) =
+          ap (λ (k : ℕ). repairAnswer 14 k 0) is-words ∙ rw (le-ltb _ _ enough, lt-ltb _ _ short) refl ∙ in-room in
           record {
-            answer = ap (λ (k : ℕ). repairAnswer 14 k 0) is-words ∙ rw (le-ltb _ _ enough, lt-ltb _ _ short) refl ∙ in-room;
+            answer = e;
             output = refl;
             cleared = cleared;
+            succeeds = succeeding list work out _ e;
             repaired = λ n. absurd (fourteen n);
             needed = λ n. (repairedBytes list, best (numbersOf (commandsOf list)) 0, least-repair list (sound repairRefusals own-numbered list clean), long);
           }
@@ -191,6 +207,7 @@ module _ (list work out : List ℕ) where
             answer = ap₂ (repairAnswer 0) is-words are-cycles ∙ rw (le-ltb _ _ enough, le-ltb _ _ fits) refl ∙ in-room;
             output = written;
             cleared = cleared;
+            succeeds = λ free fits-work fits-out. refl;
             repaired = λ n. rw (start, are-cycles) (least-repair list (sound repairRefusals own-numbered list clean));
             needed = λ n. absurd (fourteen (sym n));
           }

@@ -13,14 +13,16 @@ use Rattle.rdp_command.specs.Decode.{firstNumber}
 use Rattle.rdp_command.proofs.Tests.{by-test}
 use Rattle.rdp_check.specs.Commands.{commandsOf, restOf, joined}
 use Rattle.rdp_check.specs.Check.{start, Refusals, checkRefusals, repairRefusals, judgeList, outcomeWithin, outcomeOf}
+use Rattle.rdp_check.specs.Refusals.{ofCommands, Free}
 use Rattle.rdp_check.specs.Inserted.{Inserted, end, keep, insertLoad, insertTile, insertPipe, MadeByInserting}
 use Rattle.rdp_check.specs.Plan.{syncOf, withOption, best, plan, applied, cyclesOf, numbersOf, planned}
 use Rattle.rdp_check.specs.Work.{insertsOf}
-use Rattle.rdp_check.specs.Repair.{Makes, LeastRepair, repairedBytes, repairAnswer, roomed, repairOf}
+use Rattle.rdp_check.specs.Repair.{Makes, LeastRepair, repairedBytes, repairAnswer, repairOf}
 use Rattle.rdp_check.proofs.SyncLaws.{wait-some}
 use Rattle.rdp_check.proofs.LeastLaws.{Passes, length-plan, cycles-plan, applied-inserted, planned-inserted, planned-passes, planned-least, plan-first, Single, least-single, first-unique}
 use Rattle.rdp_check.proofs.JoinLaws.{AllAlone, commands-joined, rest-joined, length-joined, count-joined, parsed, joined-whole}
-use Rattle.rdp_check.proofs.FirstLaws.{Numbered, check-numbered}
+use Rattle.rdp_check.proofs.FirstLaws.{Numbered, check-numbered, judge-free, check-first}
+use Rattle.rdp_check.proofs.RoomLaws.{roomed, repair-roomed}
 use Rattle.rdp_check.proofs.JudgeLaws.{Accepted, judge-accepted, accepted-judge, accepted-loose, accepted-passes, accepted-strict, applied-accepted}
 
 -- ---- a list with none of the refusals
@@ -107,10 +109,10 @@ module _ (s : List ℕ) (none : restOf s ≡ []) where
 
   -- where it has none of refusals 3 to 9, no sync is missing
   made-passes :
-      {ds : List (List ℕ)} {k : ℕ} (u : List ℕ) → Inserted (commandsOf s) ds k → joined ds ≡ u → judgeList checkRefusals u .number ≡ 0 → Passes 0 ds
+      {ds : List (List ℕ)} {k : ℕ} (u : List ℕ) → Inserted (commandsOf s) ds k → joined ds ≡ u → Free checkRefusals u → Passes 0 ds
   made-passes {ds} u i e h =
       accepted-passes start ds
-      (subst (Accepted checkRefusals start) (ap commandsOf (sym e) ∙ commands-made i) (judge-accepted checkRefusals check-numbered start 0 (commandsOf u) (restOf u) h .0))
+      (subst (Accepted checkRefusals start) (ap commandsOf (sym e) ∙ commands-made i) (judge-accepted checkRefusals check-numbered start 0 (commandsOf u) (restOf u) (judge-free checkRefusals u check-numbered h) .0))
 
 -- ---- the repaired list
 
@@ -144,7 +146,7 @@ module _ (s : List ℕ) (given : Sound repairRefusals s) where
   unfolding MadeByInserting Makes repairedBytes planned
   least-repair =
       record {
-        inserted = (planned cs, planned-inserted cs, refl);
+        inserted = (planned cs, planned-inserted cs, refl, none);
         passes = repaired-passes;
         least = λ u k i h. planned-least (i .1) (made-passes s none u (i .1) (i .2) h);
         planned =
@@ -161,17 +163,14 @@ module _ (s : List ℕ) (given : Sound repairRefusals s) where
 
 -- ---- there is one least repair: that list, with those cycles
 
-passes-judged : (t : List ℕ) → outcomeOf t .number ≡ 0 → judgeList checkRefusals t .number ≡ 0
-unfolding outcomeWithin
-passes-judged t e =
-    by-test (ltb 32768 (length t)) (λ a. absurd (omega (arith, rw a at e)))
-    (λ a. by-test (eqb (length t % 8) 0) (λ b. rw (a, b) at e) (λ b. absurd (omega (arith, rw (a, b) at e))))
+passes-free : (t : List ℕ) → outcomeOf t .number ≡ 0 → Free checkRefusals t
+passes-free t e n p h = check-first t .accepted e .1 n p (ofCommands n p h)
 
 pub least-unique : {s t u : List ℕ} {k j : ℕ} → LeastRepair s t k → LeastRepair s u j → (t ≡ u) × (k ≡ j)
 unfolding Makes
 least-unique {s} {t} {u} {k} {j} a b =
-    let t-passes = passes-judged t (a .passes) in
-    let u-passes = passes-judged u (b .passes) in
+    let t-passes = passes-free t (a .passes) in
+    let u-passes = passes-free u (b .passes) in
     let e : k ≡ j = le-antisymm (a .least u j (b .inserted) u-passes) (b .least t k (a .inserted) t-passes) in
     let p = a .first in
     let q = b .first in
@@ -200,7 +199,7 @@ pub record RepairedToItself (s : List ℕ) (work out : ℕ) : Type 0 where
 pub passes-kept :
     (s : List ℕ) (work out : ℕ) → outcomeWithin 2048 checkRefusals s .number ≡ 0 → 16 * length (commandsOf s) ≤ work → length s ≤ out →
     RepairedToItself s work out
-unfolding repairedBytes planned repairOf roomed outcomeWithin
+unfolding repairedBytes planned roomed outcomeWithin
 passes-kept s work out e enough room =
     let cs = commandsOf s in
     let t = sound checkRefusals check-numbered s e in
@@ -212,5 +211,6 @@ passes-kept s work out e enough room =
     record {
       bytes = itself;
       answer =
-          rw (le-ltb _ _ (t .short), eq-eqb _ _ (t .words), loose, itself, le-ltb _ _ enough, le-ltb _ _ room, zero-best);
+          repair-roomed s work out (rw (le-ltb _ _ (t .short), eq-eqb _ _ (t .words)) loose) ∙
+          rw (itself, le-ltb _ _ enough, le-ltb _ _ room, zero-best);
     }

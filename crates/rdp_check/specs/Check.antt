@@ -45,7 +45,7 @@ ready r = (r .modes .other .set && r .images .color .set) && r .modes .scissor .
 abbrev pub fourBitFill : Registers → Bool
 fourBitFill r = eqb (r .modes .other .modes .«cycle_type») 3 && eqb (r .images .color .image .size) 0
 
--- refusals of a command, in the state before it, by their number and in their order
+-- the refusals of a command, in the state before it: their numbers in their order, each with whether it holds
 abbrev pub Refusals : Type 0
 Refusals = State → List ℕ → List (Ground ℕ)
 

@@ -2,7 +2,7 @@
 use Prim.Native.Nat.{ℕ, _+_}
 use mathlib.Core.List.{List, [], _∷_}
 use mathlib.Core.Path.{_≡_}
-use Rattle.rdp_check.specs.Commands.{commandsOf, joined}
+use Rattle.rdp_check.specs.Commands.{commandsOf, restOf, joined}
 
 -- a sync: its number in bits 61:56, all other bits 0
 abbrev pub syncWord : ℕ → List ℕ
@@ -17,6 +17,6 @@ pub data Inserted : List (List ℕ) → List (List ℕ) → ℕ → Type 0 where
   insertTile : {cs ds : List (List ℕ)} {k : ℕ} → Inserted cs ds k → Inserted cs (syncWord 0x28 ∷ ds) (33 + k)
   insertPipe : {cs ds : List (List ℕ)} {k : ℕ} → Inserted cs ds k → Inserted cs (syncWord 0x27 ∷ ds) (50 + k)
 
--- list t is list s, whose commands are all whole, with syncs of k cycles inserted, none inside a command
+-- list s is whole commands, and list t is s with syncs of k cycles inserted, none inside a command
 unfoldable pub MadeByInserting : List ℕ → List ℕ → ℕ → Type 0
-MadeByInserting s t k = (ds : List (List ℕ)) × Inserted (commandsOf s) ds k × (joined ds ≡ t)
+MadeByInserting s t k = (ds : List (List ℕ)) × Inserted (commandsOf s) ds k × (joined ds ≡ t) × (restOf s ≡ [])

@@ -4,6 +4,7 @@ pub mod Registers
 pub mod Order
 pub mod Check
 pub mod Refusals
+pub mod Marks
 pub mod View
 pub mod RegisterWords
 pub mod Inserted

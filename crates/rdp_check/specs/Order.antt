@@ -48,9 +48,11 @@ pub record First {A : Type 0} (x : A) (gs : List (Ground A)) : Type 0 where
   pub split : gs ≡ before ++ ground x true ∷ after
   pub earlier : None before
 
--- a number and a place that answer refusals, by what it is for refusal n to hold at place p, and by their order: 0 and so many words exactly where none
--- holds, and else the first that holds
+-- a number and a place that answer refusals, by what it is for refusal n to hold at place p, and by an order that lists exactly those that hold: 0 and so
+-- many words exactly where none holds, and else the first that holds
 pub record IsFirst (Holds : ℕ → ℕ → Type 0) (order : List (Ground Answer)) (words number place : ℕ) : Type 0 where
+  pub listed : (n p : ℕ) → Holds n p → Among (answer n p) order
+  pub only : (n p : ℕ) → Among (answer n p) order → Holds n p
   pub accepted : number ≡ 0 → (place ≡ words) × ((n p : ℕ) → Holds n p → ⊥)
   pub refused : (number ≡ 0 → ⊥) → Holds number place
   pub first : (number ≡ 0 → ⊥) → First (answer number place) order

@@ -18,18 +18,27 @@ abbrev pub stateAfter : State → List (List ℕ) → State
 stateAfter s [] = s
 stateAfter s (c ∷ cs) = stateAfter (afterCommand s c) cs
 
+-- a refusal of a list's commands, and its place
+pub data CommandHolds (refusals : Refusals) (list : List ℕ) : ℕ → ℕ → Type 0 where
+  -- 3: a command runs past the end: bytes are left after the whole commands
+  pastEnd : (restOf list ≡ [] → ⊥) → CommandHolds refusals list 3 (wordsIn (commandsOf list))
+  -- the refusals of a command, at its first word
+  atCommand :
+      (before : List (List ℕ)) (c : List ℕ) (after : List (List ℕ)) (number : ℕ) →
+      commandsOf list ≡ before ++ c ∷ after → Among number (refusals (stateAfter start before) c) → CommandHolds refusals list number (wordsIn before)
+
 -- a refusal of a list, and its place
 pub data Holds (words : ℕ) (refusals : Refusals) (list : List ℕ) : ℕ → ℕ → Type 0 where
   -- 1: over the bytes of so many words
   tooLong : 8 * words < length list → Holds words refusals list 1 words
   -- 2: byte length no multiple of 8
   notWords : (length list % 8 ≡ 0 → ⊥) → Holds words refusals list 2 (length list / 8)
-  -- 3: a command runs past the end: bytes are left after the whole commands
-  pastEnd : (restOf list ≡ [] → ⊥) → Holds words refusals list 3 (wordsIn (commandsOf list))
-  -- the refusals of a command, at its first word
-  atCommand :
-      (before : List (List ℕ)) (c : List ℕ) (after : List (List ℕ)) (number : ℕ) →
-      commandsOf list ≡ before ++ c ∷ after → Among number (refusals (stateAfter start before) c) → Holds words refusals list number (wordsIn before)
+  -- 3 and those of a command
+  ofCommands : (n p : ℕ) → CommandHolds refusals list n p → Holds words refusals list n p
+
+-- no command runs past the end or is refused
+abbrev pub Free : Refusals → List ℕ → Type 0
+Free refusals list = (n p : ℕ) → CommandHolds refusals list n p → ⊥
 
 abbrev pub isSome : List ℕ → Bool
 isSome [] = false

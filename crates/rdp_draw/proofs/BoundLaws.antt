@@ -16,11 +16,12 @@ use Rattle.rdp_check.specs.Check.{State, draws, ownRefusals, syncRefusals, chec
 use Rattle.rdp_check.specs.Commands.{commandsOf, wordsIn}
 use Rattle.rdp_check.specs.Registers.{noRegisters, afterDecoded}
 use Rattle.rdp_check.specs.declared.Registers.{Registers}
-use Rattle.rdp_check.proofs.OrderLaws.{allGive, among-gives, refusedAt}
+use Rattle.rdp_check.proofs.OrderLaws.{allGive, among-gives, refusedAt, then-refused, then-accepted}
 use Rattle.rdp_check.proofs.FirstLaws.{holds-gives, check-first}
 use Rattle.rdp_check.proofs.JoinLaws.{words-inside}
 use Rattle.rdp_check.proofs.BoundLaws.{place-most}
-use Rattle.rdp_draw.specs.Draw.{Draw, drawAt, drawsFrom, drawsOf, drawRefusals, drawGrounds, firstRefusal, drawAnswer}
+use Rattle.rdp_draw.specs.Draw.{Draw, drawAt, drawsFrom, drawsOf, drawRefusals, drawGrounds, drawAnswer}
+use Rattle.rdp_draw.specs.Seen.{firstRefusal}
 use Rattle.rdp_draw.specs.Refusals.{Holds, atCheck, atDraw}
 use Rattle.rdp_draw.proofs.DrawLaws.{first-next}
 use Rattle.rdp_draw.proofs.DrawnLaws.{draw-first}
@@ -76,11 +77,16 @@ first-within start len words (d ∷ ds) w =
 
 -- the place is within the 4,096 words that the check allows
 pub draw-place : (list : List ℕ) (start len : ℕ) → drawAnswer list start len .place ≤ 4096
-unfolding drawAnswer
+unfolding drawAnswer firstRefusal
 draw-place list start len =
     by-test (eqb (checkOf list .number) 0)
     (λ t.
-    let words : checkOf list .place ≡ length list / 8 = check-first list .accepted (eqb-true _ _ t) .0 in
-    let inside : 0 + wordsIn (commandsOf list) ≤ checkOf list .place = omega (arith, words, words-inside list) in
-    rw t (omega (arith, first-within start len (checkOf list .place) (drawsOf list) (draws-within (checkOf list .place) noRegisters 0 (commandsOf list) inside), place-most 4096 checkRefusals list)))
-    (λ f. rw f (place-most 4096 checkRefusals list))
+    let e : checkOf list .number ≡ 0 = eqb-true _ _ t in
+    let words : checkOf list .place ≡ length list / 8 = check-first list .accepted e .0 in
+    let inside : 0 + wordsIn (commandsOf list) ≤ length list / 8 = omega (arith, words-inside list) in
+    let few : length list / 8 ≤ 4096 = omega (arith, words, place-most 4096 checkRefusals list) in
+    subst (λ (a : Answer). a .place ≤ 4096) (sym (then-accepted (check-first list) (drawGrounds start len (drawsOf list)) _ e))
+    (omega (arith, few, first-within start len (length list / 8) (drawsOf list) (draws-within (length list / 8) noRegisters 0 (commandsOf list) inside))))
+    (λ f.
+    subst (λ (a : Answer). a .place ≤ 4096) (sym (then-refused (check-first list) (drawGrounds start len (drawsOf list)) _ (eqb-false _ _ f)))
+    (place-most 4096 checkRefusals list))

@@ -16,16 +16,16 @@ use Rattle.rdp_check.specs.Commands.{restOf}
 use Rattle.rdp_check.specs.Registers.{noRegisters}
 use Rattle.rdp_check.specs.Check.{checkOf}
 use Rattle.rdp_check.specs.Order.{firstOf, answer, Among}
-use Rattle.rdp_check.specs.Refusals.{tooLong, pastEnd}
-use Rattle.rdp_check.proofs.OrderLaws.{first-none, among-gives, refusedAt, refused-some, refused-none, placed-first}
+use Rattle.rdp_check.specs.Refusals.{pastEnd, tooLong, ofCommands}
+use Rattle.rdp_check.proofs.OrderLaws.{first-none, among-gives, refusedAt, refused-some, refused-none, placed-first, then-refused, then-accepted}
 use Rattle.rdp_check.proofs.FirstLaws.{no-bytes, check-first}
 use Rattle.rdp_draw.specs.declared.walk.Reached.{Reached}
 use Rattle.rdp_draw.specs.declared.Area.{Area}
 use Rattle.rdp_draw.specs.Fill.{outside, painted}
 use Rattle.rdp_draw.specs.Runs.{areaOf, areaInside}
 use Rattle.rdp_draw.proofs.AreaLaws.{outside-runs}
-use Rattle.rdp_draw.specs.Draw.{Draw, drawOf, drawsOf, drawRefusals, drawGrounds, firstRefusal, drawAnswer, paintedAll, drawMemory}
-use Rattle.rdp_draw.specs.Seen.{seen, registersIn, drawWith, Next, ReachedIs, Reaches}
+use Rattle.rdp_draw.specs.Draw.{Draw, drawOf, drawsOf, drawRefusals, drawGrounds, drawAnswer, paintedAll, drawMemory}
+use Rattle.rdp_draw.specs.Seen.{firstRefusal, seen, registersIn, drawWith, Next, ReachedIs, Reaches}
 use Rattle.rdp_draw.proofs.SeenLaws.{start-due}
 
 -- ---- a list that the check accepts
@@ -41,7 +41,7 @@ accepted list e =
     record {
       words = a .0;
       few = by-test (ltb 32768 (length list)) (λ t. absurd (a .1 _ _ (tooLong (ltb-true _ _ t)))) (λ f. ltb-false _ _ f);
-      whole = no-bytes (restOf list) (λ h. a .1 _ _ (pastEnd h));
+      whole = no-bytes (restOf list) (λ h. a .1 _ _ (ofCommands _ _ (pastEnd h)));
     }
 
 -- ---- the answer and the memory
@@ -52,11 +52,11 @@ module _ (list : List ℕ) (start : ℕ) (memory : List ℕ) where
 
   pub answer-checked : (checkOf list .number ≡ 0 → ⊥) → answer (checkOf list .number) (checkOf list .place) ≡ reply
   unfolding drawAnswer
-  answer-checked h = rw (ne-eqb _ _ h)
+  answer-checked h = sym (then-refused (check-first list) (drawGrounds start (length memory) (drawsOf list)) _ h)
 
   pub answer-draws : checkOf list .number ≡ 0 → firstRefusal start (length memory) (length list / 8) (drawsOf list) ≡ reply
-  unfolding drawAnswer
-  answer-draws e = rw (eq-eqb _ _ e, accepted list e .words)
+  unfolding drawAnswer firstRefusal
+  answer-draws e = sym (then-accepted (check-first list) (drawGrounds start (length memory) (drawsOf list)) _ e)
 
   pub memory-kept : (r : Answer) → r ≡ reply → (r .number ≡ 0 → ⊥) → memory ≡ drawMemory list start memory
   unfolding drawMemory

@@ -3,17 +3,16 @@ use mathlib.Core.List.{List, [], _∷_, _++_}
 use mathlib.Core.Logic.{⊎-elim}
 use mathlib.Core.Path.{_≡_, refl, sym, ap, subst}
 use Prim.Native.Nat.{ℕ, _/_}
-use borrow.Author.Tests.{eq-eqb, ne-eqb}
 use lib.ListN.{length}
 use Rattle.rdp_command.specs.declared.Answer.{Answer}
 use Rattle.rdp_check.specs.Order.{Ground, answer, placed, Among}
-use Rattle.rdp_check.specs.Check.{checkRefusals, checkOf}
+use Rattle.rdp_check.specs.Check.{checkRefusals}
 use Rattle.rdp_check.specs.Refusals as check
-use Rattle.rdp_check.proofs.OrderLaws.{Found, found, among-left, among-right, among-parts, among-placed, placed-among, answered, then-first}
-use Rattle.rdp_check.proofs.FirstLaws.{check-numbered, to-order, from-order, no-zero, check-first}
-use Rattle.rdp_draw.specs.Draw.{Draw, drawsOf, drawRefusals, drawGrounds, firstRefusal, drawAnswer}
-use Rattle.rdp_draw.specs.Refusals.{Holds, atCheck, atDraw, groundsOf, FirstRefusal}
-use Rattle.rdp_draw.proofs.DrawLaws.{accepted, draw-numbered}
+use Rattle.rdp_check.proofs.OrderLaws.{found, among-left, among-right, among-parts, among-placed, placed-among, answered}
+use Rattle.rdp_check.proofs.FirstLaws.{check-numbered, to-order, from-order, no-zero}
+use Rattle.rdp_draw.specs.Draw.{Draw, drawsOf, drawRefusals, drawGrounds, groundsOf, drawAnswer}
+use Rattle.rdp_draw.specs.Refusals.{Holds, atCheck, atDraw, FirstRefusal}
+use Rattle.rdp_draw.proofs.DrawLaws.{draw-numbered}
 
 -- ---- the order has exactly the refusals that may hold
 
@@ -64,13 +63,13 @@ module _ (list : List ℕ) (start len : ℕ) where
   ofDraws = drawGrounds start len (drawsOf list)
 
   to-both : (n p : ℕ) → Holds list start len n p → Among (answer n p) (groundsOf list start len)
-  to-both n p (atCheck m q h) = among-left (answer m q) ofCheck ofDraws (to-order checkRefusals 4096 list m q h)
+  to-both n p (atCheck m q h) = among-left (answer m q) ofCheck ofDraws (to-order checkRefusals list 4096 m q h)
   to-both n p (atDraw before d after m split r) =
       among-right (answer m (d .place)) ofCheck ofDraws
       (subst (λ (x : List Draw). Among (answer m (d .place)) (drawGrounds start len x)) (sym split) (to-draws start len before d after m r))
 
   from-check : (n p : ℕ) → Among (answer n p) ofCheck → Holds list start len n p
-  from-check n p m = atCheck n p (from-order checkRefusals 4096 list n p m)
+  from-check n p m = atCheck n p (from-order checkRefusals list 4096 n p m)
 
   from-both : (n p : ℕ) → Among (answer n p) (groundsOf list start len) → Holds list start len n p
   from-both n p m =
@@ -81,23 +80,12 @@ module _ (list : List ℕ) (start len : ℕ) where
       (among-parts (answer n p) ofCheck ofDraws m)
 
   not-zero : (n p : ℕ) → Holds list start len n p → n ≡ 0 → ⊥
-  not-zero n p (atCheck m q h) z = no-zero checkRefusals 4096 list check-numbered m q h z
+  not-zero n p (atCheck m q h) z = no-zero checkRefusals list 4096 check-numbered m q h z
   not-zero n p (atDraw before d after m split r) z = draw-numbered start len d (subst (λ (k : ℕ). Among k (drawRefusals start len d)) z r)
-
-  of-draws : Found ofDraws (answer 0 (length list / 8)) (firstRefusal start len (length list / 8) (drawsOf list))
-  unfolding firstRefusal
-  of-draws = found ofDraws (answer 0 (length list / 8))
-
-  drawn-found : Found (groundsOf list start len) (answer 0 (length list / 8)) (drawAnswer list start len)
-  unfolding drawAnswer
-  drawn-found =
-      then-first (check.Holds 4096 checkRefusals list) ofCheck ofDraws (length list / 8) (checkOf list .number) (checkOf list .place) (check-first list)
-      (from-order checkRefusals 4096 list) (answer 0 (length list / 8)) _
-      (λ e. rw (eq-eqb _ _ e, accepted list e .words) of-draws)
-      (λ ne. rw (ne-eqb _ _ ne))
 
   -- drawing's answer accepts exactly where none of 1 to 12 holds, and is else the first in their order, at its place
   pub draw-first : FirstRefusal list start len (drawAnswer list start len)
+  unfolding drawAnswer
   draw-first =
-      answered (Holds list start len) (groundsOf list start len) (length list / 8) to-both from-both (λ p h. not-zero 0 p h refl)
-      (drawAnswer list start len) drawn-found
+      answered (Holds list start len) (groundsOf list start len) (length list / 8) to-both from-both (λ p h. not-zero 0 p h refl) _
+      (found (groundsOf list start len) _)

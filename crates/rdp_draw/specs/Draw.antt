@@ -1,5 +1,5 @@
 -- Document 01, refusals 10 to 12 and "Fill": what drawing a list answers, and what it leaves in memory.
-use Prim.Native.Nat.{ℕ, _+_, _%_}
+use Prim.Native.Nat.{ℕ, _+_, _/_, _%_}
 use mathlib.Core.Bool.{Bool, cond, not, _&&_}
 use mathlib.Core.List.{List, [], _∷_, _++_}
 use lib.Dec.{eqb}
@@ -11,7 +11,8 @@ use Rattle.rdp_command.specs.declared.Answer.{Answer}
 use Rattle.rdp_check.specs.Order.{Ground, ground, firstOf, answer, placed}
 use Rattle.rdp_check.specs.Commands.{commandsOf}
 use Rattle.rdp_check.specs.Registers.{noRegisters, afterDecoded}
-use Rattle.rdp_check.specs.Check.{draws, outcomeOf}
+use Rattle.rdp_check.specs.Check.{draws, checkRefusals}
+use Rattle.rdp_check.specs.Refusals as check
 use Rattle.rdp_check.specs.declared.Registers.{Registers}
 use Rattle.rdp_command.specs.declared.FillFields.{FillFields}
 use Rattle.rdp_draw.specs.Fill.{outside, painted}
@@ -61,15 +62,13 @@ unfoldable pub drawGrounds : ℕ → ℕ → List Draw → List (Ground Answer)
 drawGrounds start len [] = []
 drawGrounds start len (d ∷ ds) = placed (d .place) (drawRefusals start len d) ++ drawGrounds start len ds
 
--- the first of them that holds; 0 at the number of words where none does
-unfoldable pub firstRefusal : ℕ → ℕ → ℕ → List Draw → Answer
-firstRefusal start len words ds = firstOf (drawGrounds start len ds) (answer 0 words)
+-- the refusals of drawing in their order: "drawing runs the whole check, then walks again: at each draw 10, 11, 12"
+abbrev pub groundsOf : List ℕ → ℕ → ℕ → List (Ground Answer)
+groundsOf list start len = check.groundsOf 4096 checkRefusals list ++ drawGrounds start len (drawsOf list)
 
--- what drawing answers: the check's refusal, then the first of the draws
+-- what drawing answers: the first that holds; 0 at the number of words where none does
 unfoldable pub drawAnswer : List ℕ → ℕ → ℕ → Answer
-drawAnswer list start len =
-    let o = outcomeOf list in
-    cond (eqb (o .number) 0) (firstRefusal start len (o .place) (drawsOf list)) (answer (o .number) (o .place))
+drawAnswer list start len = firstOf (groundsOf list start len) (answer 0 (length list / 8))
 
 -- memory after the draws, each painted over what the earlier ones left
 unfoldable pub paintedAll : ℕ → List Draw → List ℕ → List ℕ

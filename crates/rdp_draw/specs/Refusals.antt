@@ -6,11 +6,11 @@ use mathlib.Core.Path.{_≡_}
 use lib.Dec.{T}
 use lib.ListN.{length}
 use Rattle.rdp_command.specs.declared.Answer.{Answer}
-use Rattle.rdp_check.specs.Order.{Ground, Among, IsFirst}
+use Rattle.rdp_check.specs.Order.{Among, IsFirst}
 use Rattle.rdp_check.specs.Check.{checkRefusals}
 use Rattle.rdp_check.specs.Refusals as check
 use Rattle.rdp_draw.specs.Fill.{covers}
-use Rattle.rdp_draw.specs.Draw.{Draw, drawsOf, drawRefusals, drawGrounds}
+use Rattle.rdp_draw.specs.Draw.{Draw, drawsOf, drawRefusals, groundsOf}
 
 -- a refusal of a list, and its place
 pub data Holds (list : List ℕ) (start len : ℕ) : ℕ → ℕ → Type 0 where
@@ -20,10 +20,6 @@ pub data Holds (list : List ℕ) (start len : ℕ) : ℕ → ℕ → Type 0 wher
   atDraw :
       (before : List Draw) (d : Draw) (after : List Draw) (n : ℕ) →
       drawsOf list ≡ before ++ d ∷ after → Among n (drawRefusals start len d) → Holds list start len n (d .place)
-
--- their order: "drawing runs the whole check, then walks again: at each draw 10, 11, 12"
-abbrev pub groundsOf : List ℕ → ℕ → ℕ → List (Ground Answer)
-groundsOf list start len = check.groundsOf 4096 checkRefusals list ++ drawGrounds start len (drawsOf list)
 
 -- an answer that accepts exactly where no refusal holds, and is else the first that holds, at its place
 abbrev pub FirstRefusal : List ℕ → ℕ → ℕ → Answer → Type 0

@@ -11,10 +11,12 @@ use Rattle.rdp_command.specs.Decode.{cycleTypeIn, scissorIn, fillColorIn, color
 use Rattle.rdp_command.specs.declared.Image.{Image}
 use Rattle.rdp_command.specs.declared.Scissor.{Scissor}
 use Rattle.rdp_command.specs.declared.FillWords.{FillWords}
+use Rattle.rdp_command.specs.declared.Answer.{Answer}
+use Rattle.rdp_check.specs.Order.{firstOf, answer}
 use Rattle.rdp_check.specs.Commands.{commandsOf, restOf}
 use Rattle.rdp_check.specs.declared.Registers.{Registers}
 use Rattle.rdp_draw.specs.declared.walk.Reached.{Reached}
-use Rattle.rdp_draw.specs.Draw.{Draw, drawOf, drawsFrom}
+use Rattle.rdp_draw.specs.Draw.{Draw, drawOf, drawsFrom, drawGrounds}
 
 -- the registers that a fill is drawn under
 pub record FillRegisters : Type 0 where
@@ -93,3 +95,7 @@ pub record ReachedIs (list : List ℕ) (r : Reached) (ds : List Draw) : Type 0 w
 -- what the search for the next draw gives, whatever is due
 abbrev pub Reaches : List ℕ → ℕ → FillWords → Reached → Type 0
 Reaches list from set r = (from ≤ r .place) × ((ds : List Draw) → Due list from set ds → ReachedIs list r ds)
+
+-- the first refusal of draws, at its place; 0 at the number of words where there is none
+unfoldable pub firstRefusal : ℕ → ℕ → ℕ → List Draw → Answer
+firstRefusal start len words ds = firstOf (drawGrounds start len ds) (answer 0 words)

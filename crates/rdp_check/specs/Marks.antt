@@ -1,0 +1,55 @@
+-- Document 01, "Four marks", in its own words: what has come since the last sync of some kind. `proofs/MarkLaws` shows that the hazards are this.
+use Prim.Native.Nat.{ℕ}
+use mathlib.Core.Bool.{Bool, not, _&&_, _||_}
+use mathlib.Core.List.{List, [], _∷_, _++_}
+use mathlib.Core.Path.{_≡_}
+use lib.Dec.{T}
+use Rattle.rdp_command.specs.Kinds.{among, between, hasBit}
+use Rattle.rdp_command.specs.Decode.{firstNumber}
+use Rattle.rdp_check.specs.Hazards.{Hazards}
+use Rattle.rdp_check.specs.Check.{draws}
+
+-- none of some commands has one of these numbers
+abbrev pub NoneOf : (ℕ → Bool) → List (List ℕ) → Type 0
+NoneOf these [] = Unit {0}
+NoneOf these (c ∷ cs) = T (not (these (firstNumber c))) × NoneOf these cs
+
+-- a command of these numbers has come since the last of those: none of those stands after it
+pub record Since (these those : ℕ → Bool) (cs : List (List ℕ)) : Type 0 where
+  pub before : List (List ℕ)
+  pub command : List ℕ
+  pub after : List (List ℕ)
+  pub split : cs ≡ before ++ command ∷ after
+  pub comes : T (these (firstNumber command))
+  pub stays : NoneOf those after
+
+-- a textured draw: a triangle with bit 57, which is bit 1 of its number, or a texture rectangle
+abbrev pub textured : ℕ → Bool
+textured n = (between 0x08 0x0F n && hasBit 2 n) || among n (0x24 ∷ 0x25 ∷ [])
+
+abbrev pub loads : ℕ → Bool
+loads n = among n (0x30 ∷ 0x33 ∷ 0x34 ∷ [])
+
+-- the syncs that clear a mark: those that its definition names, Load 0x26, Tile 0x28, Pipe 0x27; and Sync Full, 0x29
+abbrev pub pipeOrFull : ℕ → Bool
+pipeOrFull n = among n (0x27 ∷ 0x29 ∷ [])
+
+abbrev pub tilePipeOrFull : ℕ → Bool
+tilePipeOrFull n = among n (0x28 ∷ 0x27 ∷ 0x29 ∷ [])
+
+abbrev pub anySync : ℕ → Bool
+anySync n = among n (0x26 ∷ 0x28 ∷ 0x27 ∷ 0x29 ∷ [])
+
+abbrev pub Exactly : Bool → Type 0 → Type 0
+Exactly b P = (T b → P) × (P → T b)
+
+-- the hazards after some commands from the start
+pub record MarksAre (cs : List (List ℕ)) (h : Hazards) : Type 0 where
+  -- P: a draw since the last Sync Pipe
+  pub pipe : Exactly (h .pipe) (Since draws pipeOrFull cs)
+  -- T: a textured draw since the last Sync Tile or Pipe
+  pub tile : Exactly (h .tile) (Since textured tilePipeOrFull cs)
+  -- D: a draw since the last sync of any kind
+  pub drawn : Exactly (h .drawn) (Since draws anySync cs)
+  -- G: a load since the last sync of any kind
+  pub loaded : Exactly (h .loaded) (Since loads anySync cs)
