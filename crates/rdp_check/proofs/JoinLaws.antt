@@ -1,18 +1,18 @@
 -- Lists put together from whole commands: their commands are those, and every list is its commands and what is left. Assumes nothing.
 use mathlib.Core.Path.{_≡_, refl, sym, _∙_, ap, ap₂}
 use mathlib.Core.List.{List, [], _∷_, _++_, append-assoc, append-nil}
-use Prim.Native.Nat.{ℕ, zero, suc, _*_, _/_, _≤_, _<_}
+use Prim.Native.Nat.{ℕ, zero, suc, _+_, _*_, _-_, _/_, _≤_, _<_}
 use native.Mathlib.Nat.{le-refl}
 use native.Mathlib.Omega.{arith}
-use lib.Dec.{eqb}
-use lib.ListN.{length, length-append, length-drop, take-append-drop}
-use lib.Seq.{take-at, drop-at, length-take-le}
-use borrow.Author.Tests.{eqb-true, eqb-false}
+use lib.Dec.{eqb, ltb}
+use lib.ListN.{length, take, drop, length-append, length-drop, take-append-drop}
+use lib.Seq.{take-at, drop-at, length-take-le, take-append-add}
+use borrow.Author.Tests.{eqb-true, eqb-false, ltb-true, ltb-false}
 use Rattle.rdp_command.specs.Words.{wordAt, numberIn}
 use Rattle.rdp_command.specs.Kinds.{wordsOf}
 use Rattle.rdp_command.specs.Decode.{firstNumber, wholeWords}
 use Rattle.rdp_command.proofs.Tests.{by-test}
-use Rattle.rdp_command.proofs.KindLaws.{words-pos}
+use Rattle.rdp_command.proofs.KindLaws.{words-pos, words-most}
 use Rattle.rdp_command.proofs.WordLaws.{word-front}
 use Rattle.rdp_check.specs.Commands.{commandsFrom, restFrom, commandsOf, restOf, wordsIn, joined}
 use Rattle.rdp_command.proofs.PlaceLaws.{number-small, words-there, is-whole}
@@ -77,10 +77,11 @@ count-joined (c ∷ cs) h = omega (arith, command-some c, count-joined cs (h .1)
 
 pub record Parsed (bs : List ℕ) : Type 0 where
   pub alone : AllAlone (commandsOf bs)
+  pub cut : wholeWords (restOf bs) ≡ 0
   pub joins : joined (commandsOf bs) ++ restOf bs ≡ bs
 
 module _ (bs : List ℕ) (there : wholeWords bs ≡ 0 → ⊥) where
-  head-long : length (head bs) ≡ 8 * wholeWords bs
+  pub head-long : length (head bs) ≡ 8 * wholeWords bs
   head-long = length-take-le (8 * wholeWords bs) bs (is-whole bs there .inside)
 
   head-number : firstNumber (head bs) ≡ firstNumber bs
@@ -88,18 +89,19 @@ module _ (bs : List ℕ) (there : wholeWords bs ≡ 0 → ⊥) where
       let some : 0 < length (head bs) / 8 = omega (arith, head-long, is-whole bs there .some) in
       ap numberIn (sym (word-front (head bs) (tail bs) 0 some)) ∙ ap firstNumber (take-append-drop (8 * wholeWords bs) bs)
 
-  head-alone : Alone (head bs)
+  pub head-alone : Alone (head bs)
   head-alone = head-long ∙ ap (λ (n : ℕ). 8 * n) (is-whole bs there .words ∙ ap wordsOf (sym head-number))
 
   parsed-head : Parsed (tail bs) → Parsed bs
   parsed-head p =
       record {
         alone = rw (commands-head bs there) (head-alone, p .alone);
+        cut = rw (rest-head bs there) (p .cut);
         joins = rw (commands-head bs there, rest-head bs there, append-assoc, p .joins) (take-append-drop (8 * wholeWords bs) bs);
       }
 
 parsed-cut : (bs : List ℕ) → wholeWords bs ≡ 0 → Parsed bs
-parsed-cut bs cut = record { alone = rw (commands-cut bs cut) tt; joins = rw (commands-cut bs cut, rest-cut bs cut) }
+parsed-cut bs cut = record { alone = rw (commands-cut bs cut) tt; cut = rw (rest-cut bs cut) cut; joins = rw (commands-cut bs cut, rest-cut bs cut) }
 
 -- by the number of bytes that are left
 parsed-within : (k : ℕ) (bs : List ℕ) → length bs ≤ k → Parsed bs
@@ -128,3 +130,71 @@ pub words-inside : (bs : List ℕ) → 8 * wordsIn (commandsOf bs) ≤ length bs
 words-inside bs =
     let p = parsed bs in
     omega (arith, ap length (p .joins), length-append (joined (commandsOf bs)) (restOf bs), length-joined (commandsOf bs) (p .alone))
+
+-- ---- commands in front of a list, and the front of a list
+
+pub commands-append : (cs : List (List ℕ)) (bs : List ℕ) → AllAlone cs → commandsOf (joined cs ++ bs) ≡ cs ++ commandsOf bs
+commands-append [] bs h = refl
+commands-append (c ∷ cs) bs h =
+    ap commandsOf (append-assoc c (joined cs) bs) ∙
+    commands-front c (joined cs ++ bs) (h .0) ∙
+    ap (λ (x : List (List ℕ)). c ∷ x) (commands-append cs bs (h .1))
+
+pub rest-append : (cs : List (List ℕ)) (bs : List ℕ) → AllAlone cs → restOf (joined cs ++ bs) ≡ restOf bs
+rest-append [] bs h = refl
+rest-append (c ∷ cs) bs h =
+    ap restOf (append-assoc c (joined cs) bs) ∙ rest-front c (joined cs ++ bs) (h .0) ∙ rest-append cs bs (h .1)
+
+-- a whole command is whole with bytes after it, so the front of a cut command is cut
+pub front-cut : (xs ys : List ℕ) → wholeWords (xs ++ ys) ≡ 0 → wholeWords xs ≡ 0
+front-cut xs ys cut =
+    by-test (eqb (wholeWords xs) 0) (eqb-true _ _)
+    (λ f.
+    let w = is-whole xs (eqb-false _ _ f) in
+    let same : firstNumber (xs ++ ys) ≡ firstNumber xs = ap numberIn (word-front xs ys 0 (omega (arith, w .some, w .inside))) in
+    let long : wordsOf (firstNumber (xs ++ ys)) ≤ length (xs ++ ys) / 8 =
+    rw same (omega (arith, length-append xs ys, w .words, w .inside)) in
+    absurd (omega (arith, words-there (xs ++ ys) long, command-some (xs ++ ys))))
+
+-- the whole words of a list have its commands
+pub commands-words : (bs : List ℕ) → commandsOf (take (8 * (length bs / 8)) bs) ≡ commandsOf bs
+commands-words bs =
+    let p = parsed bs in
+    let cs = commandsOf bs in
+    let rest = restOf bs in
+    let n = 8 * (length bs / 8) in
+    let long : length (joined cs) ≡ 8 * wordsIn cs = length-joined cs (p .alone) in
+    let total : length bs ≡ length (joined cs) + length rest = sym (ap length (p .joins)) ∙ length-append (joined cs) rest in
+    let m = n - length (joined cs) in
+    let split : n ≡ length (joined cs) + m = omega arith in
+    let front : take n bs ≡ joined cs ++ take m rest =
+    (λ i. take (split i) (sym (p .joins) i)) ∙ take-append-add (joined cs) rest m in
+    let cut : wholeWords (take m rest) ≡ 0 = front-cut (take m rest) (drop m rest) (rw (take-append-drop m rest) (p .cut)) in
+    ap commandsOf front ∙
+    commands-append cs (take m rest) (p .alone) ∙
+    ap (λ (x : List (List ℕ)). cs ++ x) (commands-cut (take m rest) cut) ∙
+    append-nil cs
+
+-- ---- a list put together from two parts, cut anywhere
+
+-- what is left of the first part begins the second
+left-first : (xs ys : List ℕ) → joined (commandsOf xs) ++ (restOf xs ++ ys) ≡ xs ++ ys
+left-first xs ys = sym (append-assoc (joined (commandsOf xs)) (restOf xs) ys) ∙ ap (λ (x : List ℕ). x ++ ys) (parsed xs .joins)
+
+pub commands-both : (xs ys : List ℕ) → commandsOf (xs ++ ys) ≡ commandsOf xs ++ commandsOf (restOf xs ++ ys)
+commands-both xs ys = ap commandsOf (sym (left-first xs ys)) ∙ commands-append (commandsOf xs) (restOf xs ++ ys) (parsed xs .alone)
+
+pub rest-both : (xs ys : List ℕ) → restOf (xs ++ ys) ≡ restOf (restOf xs ++ ys)
+rest-both xs ys = ap restOf (sym (left-first xs ys)) ∙ rest-append (commandsOf xs) (restOf xs ++ ys) (parsed xs .alone)
+
+-- the longest command has 22 words: of one that is cut at most 175 bytes are there
+pub rest-most : (bs : List ℕ) → length (restOf bs) ≤ 175
+rest-most bs = cut-most (restOf bs) (parsed bs .cut)
+  where
+    cut-most : (c : List ℕ) → wholeWords c ≡ 0 → length c ≤ 175
+    cut-most c cut =
+        by-test (ltb (length c / 8) (wordsOf (firstNumber c)))
+        (λ t.
+        let short : length c / 8 < wordsOf (firstNumber c) = ltb-true _ _ t in
+        omega (arith, short, words-most (firstNumber c) (number-small (wordAt c 0))))
+        (λ f. absurd (omega (arith, words-there c (ltb-false _ _ f), command-some c)))

@@ -4,6 +4,8 @@ pub mod ListLaws
 pub mod JoinLaws
 pub mod KeptLaws
 pub mod ViewLaws
+pub mod JudgedLaws
+pub mod StopLaws
 pub mod WalkLaws
 pub mod RegisterLaws
 pub mod ReplayLaws

@@ -4,17 +4,19 @@ use mathlib.Core.Bool.{Bool, true, false, cond, not, _&&_, _||_}
 use mathlib.Core.List.{List, [], _∷_}
 use mathlib.Core.Path.{_≡_}
 use lib.Dec.{eqb, ltb}
+use Rattle.rdp_command.specs.Words.{wordAt}
 use Rattle.rdp_command.specs.Kinds.{among, hasBit, wordsOf}
 use Rattle.rdp_command.specs.declared.Head.{Head}
-use Rattle.rdp_command.specs.Decode.{firstNumber, decodeOf}
+use Rattle.rdp_command.specs.Decode.{firstNumber, headOf, decodeOf}
 use Rattle.rdp_check.specs.Hazards.{nextOf, requiredOf}
-use Rattle.rdp_check.specs.Check.{State, draws, Refusals, checkRefusals, repairRefusals}
+use Rattle.rdp_check.specs.Commands.{commandsOf, restOf}
+use Rattle.rdp_check.specs.Check.{State, draws, Refusals, checkRefusals, repairRefusals, Outcome}
 use Rattle.rdp_check.specs.Registers.{afterDecoded}
 use Rattle.rdp_check.specs.declared.Registers.{Registers}
-use Rattle.rdp_check.specs.declared.Checked.{Checked}
 use Rattle.rdp_check.specs.declared.walk.Rest.{Rest}
 use Rattle.rdp_check.specs.declared.walk.View.{View}
 use Rattle.rdp_check.specs.declared.walk.Advanced.{Advanced}
+use Rattle.rdp_check.specs.declared.walk.Stop.{Stop}
 
 -- a register that a draw needs: 0 not set, 2 set to what the other must not meet, 1 set to anything else
 abbrev pub code : Bool → Bool → ℕ
@@ -99,8 +101,31 @@ pub record AdvancedIs (strict : Bool) (v : View) (h : Head) (r : Advanced) : Typ
   pub words : r .words ≡ wordsOf (h .number)
   pub after : r .view ≡ viewAfter v h
 
-abbrev pub answerAt : ℕ → ℕ → ℕ → Checked
-answerAt number place hazards = record { number = number; place = place; hazards = hazards }
+-- where a walk ends
+abbrev pub stopAt : ℕ → ℕ → View → Stop
+stopAt number place v = record { number = number; place = place; view = v }
+
+-- what an outcome shows of its state
+abbrev pub stopOf : Outcome → Stop
+stopOf o = stopAt (o .number) (o .place) (viewOf (o .state))
+
+-- the judgement of commands by the view alone
+abbrev pub endView : View → ℕ → List ℕ → Stop
+endView v at [] = stopAt 0 at v
+endView v at (b ∷ bs) = stopAt 3 at v
+
+abbrev pub settleView : ℕ → ℕ → View → Stop → Stop
+settleView zero at v next = next
+settleView (suc refusal) at v next = stopAt (suc refusal) at v
+
+unfoldable pub judgeView : Bool → View → ℕ → List (List ℕ) → List ℕ → Stop
+judgeView strict v at [] rest = endView v at rest
+judgeView strict v at (c ∷ cs) rest =
+    let h = headOf (wordAt c 0) in
+    settleView (viewRefusal strict v (h .number)) at v (judgeView strict (viewAfter v h) (at + wordsOf (h .number)) cs rest)
+
+abbrev pub judgedView : Bool → View → ℕ → List ℕ → Stop
+judgedView strict v at bs = judgeView strict v at (commandsOf bs) (restOf bs)
 
 -- the registers after the commands, from a place on, that begin before a place
 unfoldable pub registersUpTo : ℕ → ℕ → Registers → List (List ℕ) → Registers

@@ -6,8 +6,8 @@ ghost use lib.ListN.{length};
 ghost use Rattle.rdp_command.specs.Words.{wordAt, numberIn};
 ghost use Rattle.rdp_command.specs.Kinds.{hasBit, wordsOf};
 ghost use Rattle.rdp_check.specs.Hazards.{Agrees, entryOf};
-ghost use Rattle.rdp_check.specs.Check.{start, draws, judgeList, outcomeWithin, checked};
-ghost use Rattle.rdp_check.specs.View.{refusalsBy, code, viewOf, restAfter, restRefusal, refusalWith, Watches, AdvancedIs, answerAt};
+ghost use Rattle.rdp_check.specs.Check.{start, draws, outcomeWithin, checked};
+ghost use Rattle.rdp_check.specs.View.{refusalsBy, code, viewOf, restAfter, restRefusal, refusalWith, Watches, AdvancedIs, stopAt, judgedView};
 use crate::Checked;
 use crate::hazards;
 use crate::table;
@@ -44,6 +44,13 @@ pub struct View {
 pub struct Advanced {
     pub refusal: u32,
     pub words: usize,
+    pub view: View,
+}
+
+// Where a walk ends: the refusal, or 0; its place; and what is carried there.
+pub struct Stop {
+    pub number: u32,
+    pub place: u32,
     pub view: View,
 }
 
@@ -208,26 +215,27 @@ fn advance(e: u8, v: View, strict: bool, h: Head) -> Advanced
     }
 }
 
-// The answer of the walk: a refusal, or 0, at a place.
-fn answer(number: u32, place: usize, hazards: u8) -> Checked
+// The end of the walk: a refusal, or 0, at a place, with what is carried there.
+fn answer(number: u32, place: usize, hazards: u8, rest: Rest) -> Stop
     requires { ⌜ place ≤ 4096 ⌝ }
-    ensures { λ r. ⌜ r ≡ answerAt number place hazards ⌝ }
+    ensures { λ r. ⌜ r ≡ stopAt number place (record { hazards = hazards; rest = rest }) ⌝ }
 {
-    Checked {
+    Stop {
         number,
         place: place as u32,
-        hazards,
+        view: View { hazards, rest },
     }
 }
 
-// The commands of a list of whole words, in order: the first refusal, or 0 at the number of words. Most commands need not be looked into and miss no
-// sync: the way that they take touches nothing but the hazards, and not even these where they stay, so that the next command need not wait for them.
-fn walk(table: &[u8; 1024], list: &[u8], words: usize, strict: bool) -> Checked
-    requires { ⌜ Agrees (now table) × ((length (now list) ≡ 8 * words) × (words ≤ 4096)) ⌝ }
-    ensures { λ r. ⌜ r ≡ checked (judgeList (refusalsBy strict) (now (list .entry))) ⌝ }
+// The commands of a list of whole words, in order, from a view on: the first refusal, or 0 at the number of words. Most commands need not be looked into
+// and miss no sync: the way that they take touches nothing but the hazards, and not even these where they stay, so that the next command need not wait
+// for them.
+pub fn walk(table: &[u8; 1024], list: &[u8], words: usize, view: View, strict: bool) -> Stop
+    requires { ⌜ Agrees (now table) × ((length (now list) ≡ 8 * words) × ((words ≤ 4096) × (view .hazards < 16))) ⌝ }
+    ensures { λ r. ⌜ r ≡ judgedView strict view 0 (now (list .entry)) ⌝ }
 {
-    let mut hazards: u8 = 0;
-    let mut rest = no_rest();
+    let mut hazards = view.hazards;
+    let mut rest = view.rest;
     let mut watched = watched_of(rest);
     let mut at: usize = 0;
     while at < words {
@@ -245,7 +253,7 @@ fn walk(table: &[u8; 1024], list: &[u8], words: usize, strict: bool) -> Checked
             }
             let count = rdp_command::words_of(number);
             if words - at < count {
-                return answer(3, at, hazards);
+                return answer(3, at, hazards, rest);
             }
             hazards = hazards::next(table, hazards, number);
             at += count;
@@ -254,19 +262,19 @@ fn walk(table: &[u8; 1024], list: &[u8], words: usize, strict: bool) -> Checked
         let advanced = advance(e, View { hazards, rest }, strict, head);
         let count = advanced.words;
         if words - at < count {
-            return answer(3, at, hazards);
+            return answer(3, at, hazards, rest);
         }
         let refusal = advanced.refusal;
         if refusal != 0 {
-            return answer(refusal, at, hazards);
+            return answer(refusal, at, hazards, rest);
         }
-        let view = advanced.view;
-        hazards = view.hazards;
-        rest = view.rest;
+        let next = advanced.view;
+        hazards = next.hazards;
+        rest = next.rest;
         watched = watched_of(rest);
         at += count;
     }
-    answer(0, words, hazards)
+    answer(0, words, hazards, rest)
 }
 
 // The first refusal of a list that may have so many words: 1 and 2 of the list, then those of its commands.
@@ -291,5 +299,12 @@ pub fn check_within(list: &[u8], most: usize, strict: bool) -> Checked
         };
     }
     let table = table::step_table();
-    walk(&table, list, words, strict)
+    let rest = no_rest();
+    let stop = walk(&table, list, words, View { hazards: 0, rest }, strict);
+    let view = stop.view;
+    Checked {
+        number: stop.number,
+        place: stop.place,
+        hazards: view.hazards,
+    }
 }

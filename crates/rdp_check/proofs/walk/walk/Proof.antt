@@ -1,36 +1,33 @@
--- `rdp_check::walk::walk` meets its contract. The loop's invariant: the judgement of what is left is that of the whole list, and the numbers that are
+-- `rdp_check::walk::walk` meets its contract. The loop's invariant: the judgement of what is left is that of the whole list from the first view, and the numbers that are
 -- watched are those of the commands that must be. The measure is what is left of the words. Assumes nothing.
 use mathlib.Core.Path.{ap, _∙_}
 use Prim.Native.Nat.{_-_}
 use native.Mathlib.Omega.{arith}
 use borrow.Author.Needs.{needs}
-use Rattle.rdp_check.specs.View.{viewAfter, Watches}
+use Rattle.rdp_check.specs.View.{viewAfter, Watches, judgedView}
 use Rattle.rdp_command.proofs.PlaceLaws.{number-small}
-use Rattle.rdp_check.proofs.WalkLaws.{Walked, first, hazards-low, ended, past, refused, falls, again, turn, stays, quick, quick-one}
+use Rattle.rdp_check.proofs.WalkLaws.{Walked, first, ended, past, refused, falls, again, turn, stays, quick, quick-one}
 use Rattle.rdp_check.proofs.walk.walk.Statement.{statement}
 use Rattle.rdp_check.proofs.walk.walk.Tie as tie
 
 abbrev Inv-loop : tie.InvT-loop
 Inv-loop table list words strict hazards₀ rest₀ watched₀ at₀ hazards rest watched at =
-    Walked strict list words (record { hazards = hazards; rest = rest }) at × Watches watched rest
+    Walked strict list words (judgedView strict (record { hazards = hazards₀; rest = rest₀ }) 0 list) (record { hazards = hazards; rest = rest }) at × Watches watched rest
 
 abbrev μ-loop : tie.MeasureT-loop
 μ-loop table list words strict hazards₀ rest₀ watched₀ at₀ hazards rest watched at = words - at
-
-no-rest-requires : tie.Need-no-rest-requires Inv-loop μ-loop
-no-rest-requires c κs = search needs
 
 watched-of-requires : tie.Need-watched-of-requires Inv-loop μ-loop
 watched-of-requires c κs = search needs
 
 loop-holds : tie.Need-loop-holds Inv-loop μ-loop
-loop-holds c = let p = c .before .before .before .pre in (first _ _ _ _ (c .before .no-rest .ensures) (p .1 .0) (p .1 .1), c .watched-of .ensures)
+loop-holds c = let p = c .before .before .before .pre in (first _ _ _ _ (p .1 .1 .1) (p .1 .0) (p .1 .1 .0), c .watched-of .ensures)
 
 head-at-requires : tie.Need-head-at-requires Inv-loop μ-loop
 head-at-requires c κs = search needs
 
 entry-requires : tie.Need-entry-requires Inv-loop μ-loop
-entry-requires c κs = let t = c in (t .before .before .before .before .before .before .pre .0, (hazards-low (t .before .before .loop .inv .0), rw (t .head-at .ensures) (number-small _)))
+entry-requires c κs = let t = c in (t .before .before .before .before .before .before .pre .0, (t .before .before .loop .inv .0 .low, rw (t .head-at .ensures) (number-small _)))
 
 has-bit-requires : tie.Need-has-bit-requires Inv-loop μ-loop
 has-bit-requires c κs = rw (c .before .head-at .ensures) (number-small _)
@@ -52,7 +49,7 @@ loop-again c =
     (quick-one q (stays q (c .if3 .taken)) _ (c .before .before .has-bit2 .ensures) (c .before .if2 .taken), l .inv .1)
 
 next-requires : tie.Need-next-requires Inv-loop μ-loop
-next-requires c κs = let t = c .before .before .before .before .before .before in (t .before .before .before .before .before .before .pre .0, (hazards-low (t .before .before .loop .inv .0), rw (t .head-at .ensures) (number-small _)))
+next-requires c κs = let t = c .before .before .before .before .before .before in (t .before .before .before .before .before .before .pre .0, (t .before .before .loop .inv .0 .low, rw (t .head-at .ensures) (number-small _)))
 
 loop-less-2 : tie.Need-loop-less-2 Inv-loop μ-loop
 loop-less-2 c = omega (arith, c .before .before .before .before .before .before .before .before .loop-test .taken)
@@ -80,7 +77,7 @@ returns c =
     past (t .before .before .loop .inv .0) (t .before .loop-test .taken) _ (ap (λ x. x .number) (t .head-at .ensures)) _ (c .before .before .words-of .ensures) (c .before .if4 .taken)
 
 next-requires-2 : tie.Need-next-requires-2 Inv-loop μ-loop
-next-requires-2 c κs = let t = c .before .before .before .before .before .before .before in (t .before .before .before .before .before .before .pre .0, (hazards-low (t .before .before .loop .inv .0), rw (t .head-at .ensures) (number-small _)))
+next-requires-2 c κs = let t = c .before .before .before .before .before .before .before in (t .before .before .before .before .before .before .pre .0, (t .before .before .loop .inv .0 .low, rw (t .head-at .ensures) (number-small _)))
 
 add-at-2 : tie.Need-add-at-2 Inv-loop μ-loop
 add-at-2 c = let w = c .before .before .before .before .before .before .before .before .before .before .loop .inv .0 in omega (arith, c .before .if4 .left, w .within, w .few)
@@ -154,7 +151,6 @@ walk-spec =
     (tie.spec
     Inv-loop
     μ-loop
-    no-rest-requires
     watched-of-requires
     loop-holds
     head-at-requires

@@ -1,0 +1,58 @@
+-- The judgement by the view is what the judgement of the commands shows. Assumes nothing.
+use mathlib.Core.Path.{_≡_, refl, sym, _∙_, ap}
+use mathlib.Core.Bool.{Bool}
+use mathlib.Core.List.{List, [], _∷_}
+use Prim.Native.Nat.{ℕ, zero, suc, _+_}
+use native.Mathlib.Omega.{arith}
+use Rattle.rdp_command.specs.Kinds.{wordsOf}
+use Rattle.rdp_command.specs.Decode.{firstNumber, wholeWords}
+use Rattle.rdp_command.proofs.PlaceLaws.{words-there}
+use Rattle.rdp_check.specs.Commands.{commandsOf, restOf}
+use Rattle.rdp_check.specs.Check.{State, start, afterCommand, refusalAt, Outcome, settle, judge, judgeList, checked}
+use Rattle.rdp_check.specs.View.{refusalsBy, viewOf, stopOf, settleView, judgeView, judgedView}
+use Rattle.rdp_check.specs.declared.Checked.{Checked}
+use Rattle.rdp_check.specs.declared.walk.Rest.{Rest}
+use Rattle.rdp_check.specs.declared.walk.Stop.{Stop}
+use Rattle.rdp_check.proofs.JoinLaws.{Alone, AllAlone, command-some, parsed}
+use Rattle.rdp_check.proofs.ViewLaws.{refusal-seen, view-after}
+
+pub alone-there : (c : List ℕ) → Alone c → wholeWords c ≡ 0 → ⊥
+alone-there c alone z = omega (arith, words-there c (omega (arith, alone)), command-some c)
+
+settle-seen : (g at : ℕ) (s : State) (o : Outcome) → stopOf (settle g at s o) ≡ settleView g at (viewOf s) (stopOf o)
+settle-seen zero at s o = refl
+settle-seen (suc g) at s o = refl
+
+pub judge-seen :
+    (strict : Bool) (s : State) (at : ℕ) (cs : List (List ℕ)) (rest : List ℕ) → AllAlone cs →
+    stopOf (judge (refusalsBy strict) s at cs rest) ≡ judgeView strict (viewOf s) at cs rest
+unfolding judge judgeView
+judge-seen strict s at [] [] h = refl
+judge-seen strict s at [] (b ∷ bs) h = refl
+judge-seen strict s at (c ∷ cs) rest h =
+    let w = wordsOf (firstNumber c) in
+    settle-seen (refusalAt (refusalsBy strict) s c) at s (judge (refusalsBy strict) (afterCommand s c) (at + w) cs rest) ∙
+    ap (settleView (refusalAt (refusalsBy strict) s c) at (viewOf s)) (judge-seen strict (afterCommand s c) (at + w) cs rest (h .1)) ∙
+    (λ i.
+    settleView (sym (refusal-seen s c strict) i) at (viewOf s)
+    (judgeView strict (view-after s c (alone-there c (h .0)) i) (at + w) cs rest))
+
+pub judged-seen : (strict : Bool) (s : State) (at : ℕ) (bs : List ℕ) → stopOf (judge (refusalsBy strict) s at (commandsOf bs) (restOf bs)) ≡ judgedView strict (viewOf s) at bs
+judged-seen strict s at bs = judge-seen strict s at (commandsOf bs) (restOf bs) (parsed bs .alone)
+
+-- of the view the check shows the hazards
+abbrev pub shownOf : Stop → Checked
+shownOf q = record { number = q .number; place = q .place; hazards = q .view .hazards }
+
+pub shown : (o : Outcome) → shownOf (stopOf o) ≡ checked o
+unfolding viewOf
+shown o = refl
+
+-- from the first view on
+pub list-shown :
+    (strict : Bool) (list : List ℕ) (r : Rest) → r ≡ viewOf start .rest → (q : Stop) → q ≡ judgedView strict (record { hazards = 0; rest = r }) 0 list →
+    shownOf q ≡ checked (judgeList (refusalsBy strict) list)
+unfolding viewOf
+list-shown strict list r e q is =
+    ap shownOf (is ∙ (λ i. judgedView strict (record { hazards = 0; rest = e i }) 0 list) ∙ sym (judged-seen strict start 0 list)) ∙
+    shown (judgeList (refusalsBy strict) list)
