@@ -14,9 +14,9 @@ use Rattle.rdp_command.specs.declared.Decoded.the-variants.{Whole, Refused}
 use Rattle.rdp_command.proofs.PlaceLaws.{number-small}
 use Rattle.rdp_command.proofs.BoundLaws.{decode-refused, fields-decoded, lines-most, fields-most, fields-place, from-refused, encode-most, encode-words}
 use Rattle.rdp_check.specs.Check.{checkRefusals, checkOf}
-use Rattle.rdp_check.specs.Repair.{repairOf}
+use Rattle.rdp_check.specs.declared.Repaired.{Repaired}
 use Rattle.rdp_draw.specs.Draw.{drawAnswer}
-use Rattle.rdp_check.proofs.BoundLaws.{checkNumbers, repairNumbers, check-numbers, among-below, place-most, repair-bounds}
+use Rattle.rdp_check.proofs.BoundLaws.{checkNumbers, repairNumbers, check-numbers, among-below, place-most, Bounds, repair-bounds}
 use Rattle.rdp_draw.proofs.BoundLaws.{drawNumbers, draw-numbers, draw-place}
 use Rattle.lanyardrove.specs.Replies.{Reply, packed, unpacked, plain, checkReply, repairReply, drawReply, decodedReply, decodeReply, madeReply, encodeReply, Occurs, ofCheck, ofRepair, ofDraw, ofDecode, ofEncode}
 use Rattle.lanyardrove.proofs.PackLaws.{Small, unpacked-packed, packed-fits}
@@ -24,10 +24,8 @@ use Rattle.lanyardrove.proofs.PackLaws.{Small, unpacked-packed, packed-
 check-small : (list : List ℕ) → Small (checkReply list)
 check-small list = record { number = among-below 256 (checkOf list .number) checkNumbers tt (check-numbers list); third = omega arith; place = omega (arith, place-most 4096 checkRefusals list) }
 
-repair-small : (list : List ℕ) (work out : ℕ) → Small (repairReply list work out)
-repair-small list work out =
-    let b = repair-bounds list work out in
-    record { number = among-below 256 (repairOf list work out .number) repairNumbers tt (b .number); third = omega (arith, b .cycles); place = omega (arith, b .place) }
+repair-small : (r : Repaired) → Bounds r → Small (repairReply r)
+repair-small r b = record { number = among-below 256 (r .number) repairNumbers tt (b .number); third = omega (arith, b .cycles); place = omega (arith, b .place) }
 
 draw-small : (list : List ℕ) (start len : ℕ) → Small (drawReply list start len)
 draw-small list start len =
@@ -66,7 +64,7 @@ encode-small number fields suffix out = made-small number fields suffix out (fro
 -- every answer that occurs fits its bits
 pub small : {r : Reply} → Occurs r → Small r
 small (ofCheck list) = check-small list
-small (ofRepair list work out) = repair-small list work out
+small (ofRepair is) = repair-small _ (repair-bounds is)
 small (ofDraw list start len) = draw-small list start len
 small (ofDecode list fields) = decode-small list fields
 small (ofEncode number fields suffix out) = encode-small number fields suffix out

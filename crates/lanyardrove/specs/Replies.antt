@@ -2,8 +2,8 @@
 use Prim.Native.Nat.{ℕ, _+_, _*_, _/_, _%_, _^_}
 use mathlib.Core.Bool.{cond}
 use mathlib.Core.List.{List}
+use mathlib.Core.Path.{_≡_}
 use lib.Dec.{eqb}
-use lib.ListN.{length}
 use Rattle.rdp_command.specs.Decode.{firstNumber, decodeOf}
 use Rattle.rdp_command.specs.Encode.{encodeAnswer, encodeOut}
 use Rattle.rdp_command.specs.Numbers.{fieldsAnswer, fieldsOut, fromNumbers}
@@ -11,7 +11,8 @@ use Rattle.rdp_command.specs.declared.Answer.{Answer}
 use Rattle.rdp_command.specs.declared.Decoded.{Decoded}
 use Rattle.rdp_command.specs.declared.Decoded.the-variants.{Whole, Refused}
 use Rattle.rdp_check.specs.Check.{checkOf}
-use Rattle.rdp_check.specs.Repair.{repairOf, RepairIs}
+use Rattle.rdp_check.specs.Repair.{RepairIs}
+use Rattle.rdp_check.specs.declared.Repaired.{Repaired}
 use Rattle.rdp_draw.specs.Draw.{drawAnswer}
 
 -- the number of the refusal, 0 for acceptance; a third number; and the place
@@ -38,13 +39,13 @@ plain a = reply (a .number) 0 (a .place)
 abbrev pub checkReply : List ℕ → Reply
 checkReply list = reply (checkOf list .number) 0 (checkOf list .place)
 
--- the repair, by the lengths of its buffers: the third number is the cycles
-abbrev pub repairReply : List ℕ → ℕ → ℕ → Reply
-repairReply list work out = let r = repairOf list work out in reply (r .number) (r .cycles) (r .place)
+-- the repair: the third number is the cycles
+abbrev pub repairReply : Repaired → Reply
+repairReply r = reply (r .number) (r .cycles) (r .place)
 
--- what the repair leaves in its buffers
-abbrev pub RepairLeaves : List ℕ → List ℕ → List ℕ → List ℕ → List ℕ → Type 0
-RepairLeaves list work out work′ out′ = RepairIs list work out (repairOf list (length work) (length out)) work′ out′
+-- a number that is the repair's answer, where it leaves its buffers so
+abbrev pub RepairReplies : List ℕ → List ℕ → List ℕ → ℕ → List ℕ → List ℕ → Type 0
+RepairReplies list work out w work′ out′ = (r : Repaired) × (w ≡ packed (repairReply r)) × RepairIs list work out r work′ out′
 
 -- drawing on memory of `len` bytes that starts at address `start`
 abbrev pub drawReply : List ℕ → ℕ → ℕ → Reply
@@ -85,7 +86,7 @@ encodeBytes number fields suffix out = madeBytes suffix out (fromNumbers number 
 -- the answers that there are
 pub data Occurs : Reply → Type 0 where
   ofCheck : (list : List ℕ) → Occurs (checkReply list)
-  ofRepair : (list : List ℕ) (work out : ℕ) → Occurs (repairReply list work out)
+  ofRepair : {list work out work′ out′ : List ℕ} {r : Repaired} → RepairIs list work out r work′ out′ → Occurs (repairReply r)
   ofDraw : (list : List ℕ) (start len : ℕ) → Occurs (drawReply list start len)
   ofDecode : (list fields : List ℕ) → Occurs (decodeReply list fields)
   ofEncode : (number : ℕ) (fields suffix out : List ℕ) → Occurs (encodeReply number fields suffix out)

@@ -3,7 +3,7 @@ ghost use mathlib.Core.Path.{_≡_};
 ghost use Prim.Native.Nat.{_<_, _^_};
 ghost use lib.ListN.{length};
 ghost use Rattle.rdp_draw.specs.Draw.{drawMemory};
-ghost use Rattle.lanyardrove.specs.Replies.{reply, packed, checkReply, repairReply, RepairLeaves, drawReply, decodeReply, decodeFields, encodeReply, encodeBytes};
+ghost use Rattle.lanyardrove.specs.Replies.{reply, packed, checkReply, RepairReplies, drawReply, decodeReply, decodeFields, encodeReply, encodeBytes};
 use rdp_command::Decoded;
 
 // An answer as one number: the number of the refusal in bits 63:56, a third number in bits 55:32, the place in bits 31:0.
@@ -34,8 +34,7 @@ pub extern "C" fn lanyardrove_check(list: &[u8]) -> u64
 // The repair of a list: the first of refusals 1 to 6, 13 and 14, or 0, the cycles and the words written.
 #[no_mangle]
 pub extern "C" fn lanyardrove_repair(list: &[u8], work: &mut [u8], out: &mut [u8]) -> u64
-    ensures reply { λ r. ⌜ r ≡ packed (repairReply (now (list .entry)) (length (now (work .entry))) (length (now (out .entry)))) ⌝ }
-    ensures buffers { λ _. ⌜ RepairLeaves (now (list .entry)) (now (work .entry)) (now (out .entry)) (now (work .exit)) (now (out .exit)) ⌝ }
+    ensures { λ r. ⌜ RepairReplies (now (list .entry)) (now (work .entry)) (now (out .entry)) r (now (work .exit)) (now (out .exit)) ⌝ }
 {
     let repaired = rdp_check::repair(list, work, out);
     pack(repaired.number, repaired.cycles, repaired.place)

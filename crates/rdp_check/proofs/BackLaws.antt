@@ -7,7 +7,8 @@ use lib.ListN.{length, getD, take, drop, length-append, length-take, length-drop
 use lib.Seq.{drop-cons, take-append-le, take-take, drop-at, drop-drop, drop-length, getD-take}
 use Rattle.rdp_command.specs.Words.{overwrite, pasted}
 use Rattle.rdp_check.specs.Hazards.{nextOf}
-use Rattle.rdp_check.specs.Plan.{Choice, waitOf, clearedBy, totalWith, choiceOf, prefer, chosen, best}
+use Rattle.rdp_check.specs.Plan.{syncAt, waitOf}
+use Rattle.rdp_check.specs.Best.{Choice, clearedBy, totalWith, choiceOf, prefer, chosen, best}
 use Rattle.rdp_check.specs.Work.{tabulate, packed, totalsOf, choicesOf, Bounded, Below, notedIn, workOf}
 use Rattle.rdp_check.proofs.HazardLaws.{next-small}
 use Rattle.rdp_check.proofs.SyncLaws.{pipe-serves}
@@ -49,7 +50,7 @@ module _ (n : ℕ) (f : ℕ → ℕ) where
 -- ---- totals fit
 
 pub best-most : (ns : List ℕ) (m : ℕ) → best ns m ≤ 50 * length ns
-unfolding best totalWith waitOf
+unfolding best totalWith waitOf syncAt
 best-most [] m = omega arith
 best-most (n ∷ ns) m =
     omega (arith, right-chosen n (best ns) m .least 3 (omega arith) (pipe-serves 0 m n), best-most ns (nextOf (clearedBy 3 m) n))

@@ -12,16 +12,16 @@ use Rattle.rdp_command.specs.Decode.{firstNumber}
 use Rattle.rdp_command.proofs.Tests.{both, true-of, by-test}
 use Rattle.rdp_check.specs.Commands.{commandsOf, restOf, wordsIn}
 use Rattle.rdp_check.specs.Check.{State, start, Refusals, ownRefusals, syncRefusals, checkRefusals, repairRefusals, Outcome, settle, afterCommand, refusalAt, judge, outcomeWithin, checkOf}
-use Rattle.rdp_check.specs.Plan.{best, numbersOf}
-use Rattle.rdp_check.specs.Repair.{repairedBytes, repairOf}
+use Rattle.rdp_check.specs.Best.{numbersOf, repairedBytes, leastCycles}
+use Rattle.rdp_check.specs.Repair.{RepairIs}
 use Rattle.rdp_check.specs.declared.Repaired.{Repaired}
 use Rattle.rdp_check.proofs.OrderLaws.{allGive}
 use Rattle.rdp_check.proofs.FirstLaws.{own-numbered, outcome-gives}
 use Rattle.rdp_check.proofs.JoinLaws.{words-inside}
 use Rattle.rdp_check.proofs.BackLaws.{best-most}
-use Rattle.rdp_check.proofs.RoomLaws.{roomed, repair-refused, repair-roomed}
+use Rattle.rdp_check.proofs.RoomLaws.{judged, roomed, repair-refused, repair-roomed}
 use Rattle.rdp_check.proofs.RepairedLaws.{sound, repaired-most}
-use Rattle.rdp_check.proofs.RepairLaws.{commands-few}
+use Rattle.rdp_check.proofs.RepairLaws.{commands-few, answered, repair-computes}
 
 -- ---- the numbers that there are
 
@@ -86,27 +86,33 @@ pub record Bounds (r : Repaired) : Type 0 where
   pub place : r .place ≤ 4096
   pub cycles : r .cycles ≤ 102400
 
-room-bounds : (list : List ℕ) (work out : ℕ) → outcomeWithin 2048 repairRefusals list .number ≡ 0 → Bounds (roomed list work out)
+room-bounds :
+    (list : List ℕ) (work out : ℕ) → judged list .number ≡ 0 → Bounds (roomed list (length (repairedBytes list)) (leastCycles list) work out)
 unfolding roomed
 room-bounds list work out e =
     let s = sound repairRefusals own-numbered list e in
     let few : length (commandsOf list) ≤ 2048 = commands-few list e in
     let long : length (repairedBytes list) / 8 ≤ 4096 = omega (arith, repaired-most list (s .none), s .short) in
-    let least : best (numbersOf (commandsOf list)) 0 ≤ 102400 = omega (arith, best-most (numbersOf (commandsOf list)) 0, length-map (commandsOf list) firstNumber) in
+    let least : leastCycles list ≤ 102400 = omega (arith, best-most (numbersOf (commandsOf list)) 0, length-map (commandsOf list) firstNumber) in
     by-test (ltb work (16 * length (commandsOf list))) (λ t. rw t (record { number = tt; place = omega arith; cycles = omega arith }))
     (λ f.
     by-test (ltb out (length (repairedBytes list)))
     (λ t. rw (f, t) (record { number = tt; place = long; cycles = omega arith }))
     (λ g. rw (f, g) (record { number = tt; place = long; cycles = least })))
 
-pub repair-bounds : (list : List ℕ) (work out : ℕ) → Bounds (repairOf list work out)
-repair-bounds list work out =
-    by-test (eqb (outcomeWithin 2048 repairRefusals list .number) 0)
-    (λ t. let e = eqb-true _ _ t in subst Bounds (sym (repair-roomed list work out e)) (room-bounds list work out e))
+answer-bounds : (list work out : List ℕ) → Bounds (answered list work out)
+answer-bounds list work out =
+    by-test (eqb (judged list .number) 0)
+    (λ t.
+    let e = eqb-true _ _ t in
+    subst Bounds (sym (repair-roomed list _ _ (length work) (length out) e)) (room-bounds list (length work) (length out) e))
     (λ f.
-    subst Bounds (sym (repair-refused list work out (eqb-false _ _ f)))
+    subst Bounds (sym (repair-refused list _ _ (length work) (length out) (eqb-false _ _ f)))
     (record {
       number = outcome-gives (λ n. among n repairNumbers) repairRefusals own-known tt tt tt tt 2048 list;
       place = omega (arith, place-most 2048 repairRefusals list);
       cycles = omega arith;
     }))
+
+pub repair-bounds : {list work out work′ out′ : List ℕ} {r : Repaired} → RepairIs list work out r work′ out′ → Bounds r
+repair-bounds {list} {work} {out} is = subst Bounds (sym (repair-computes is .answer)) (answer-bounds list work out)

@@ -9,7 +9,8 @@ use native.Mathlib.Omega.{arith}
 use lib.Dec.{eqb, leb}
 use borrow.Author.Tests.{eqb-true, eqb-false, leb-true, leb-false}
 use Rattle.rdp_check.specs.Hazards.{requiredOf}
-use Rattle.rdp_check.specs.Plan.{Choice, waitOf, syncOf, clearedBy, totalWith, choiceOf, prefer, chosen}
+use Rattle.rdp_check.specs.Plan.{waitOf, syncAt}
+use Rattle.rdp_check.specs.Best.{Choice, clearedBy, totalWith, choiceOf, prefer, chosen}
 use Rattle.rdp_check.proofs.SyncLaws.{pipe-serves}
 use Rattle.rdp_check.proofs.HazardLaws.{next-small}
 
@@ -27,7 +28,7 @@ from-here P a here more b h = elim (decLe (suc a) b) [ yes g ↦ more b g | no g
 
 module _ (n : ℕ) (f : ℕ → ℕ) (m : ℕ) where
   right-pipe : Right n f m 3 (choiceOf n f m 3)
-  unfolding clearedBy syncOf totalWith waitOf choiceOf
+  unfolding clearedBy syncAt totalWith waitOf choiceOf
   right-pipe = record {
     serves = pipe-serves 0 m n;
     made = refl;

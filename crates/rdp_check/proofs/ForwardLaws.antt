@@ -7,7 +7,7 @@ use native.Mathlib.Decide.{decLe}
 use native.Mathlib.Omega.{arith}
 use lib.ListN.{length, getD, drop, List·getD-append}
 use lib.Seq.{drop-drop, drop-at, getD-drop}
-use Rattle.rdp_check.specs.Plan.{Choice, chosen, best, plan}
+use Rattle.rdp_check.specs.Best.{Choice, chosen, best, plan}
 use Rattle.rdp_check.specs.Work.{packed, choicesOf, workOf, optionsIn, insertsOf, Below}
 use Rattle.rdp_check.proofs.ChoiceLaws.{option-small, next-hazards-small}
 use Rattle.rdp_check.proofs.TabulateLaws.{getD-tabulate}

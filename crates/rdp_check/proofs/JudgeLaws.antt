@@ -15,8 +15,8 @@ use Rattle.rdp_check.specs.Hazards.{nextOf, requiredOf}
 use Rattle.rdp_check.specs.Registers.{registersAfter}
 use Rattle.rdp_check.specs.Check.{State, afterCommand, draws, Refusals, ownRefusals, syncRefusals, checkRefusals, repairRefusals, refusalAt, Outcome, settle, judge}
 use Rattle.rdp_check.specs.Order.{None}
-use Rattle.rdp_check.specs.Inserted.{syncWord}
-use Rattle.rdp_check.specs.Plan.{syncOf, withOption, applied}
+use Rattle.rdp_check.specs.Syncs.{Sync, loadSync, tileSync, pipeSync, syncNumber, syncWord}
+use Rattle.rdp_check.specs.Plan.{syncAt, withOption, applied}
 use Rattle.rdp_command.proofs.PlaceLaws.{number-small}
 use Rattle.rdp_check.proofs.HazardLaws.{required-most}
 use Rattle.rdp_check.proofs.OrderLaws.{none-parts, none-both, none-first, first-none}
@@ -89,17 +89,17 @@ abbrev withHazards : ℕ → State → State
 withHazards m s = record { hazards = m; ended = s .ended; registers = s .registers }
 
 -- a sync changes nothing but the hazards
-after-sync : (a : ℕ) (s : State) → afterCommand s (syncWord (syncOf (suc a))) ≡ withHazards (nextOf (s .hazards) (syncOf (suc a))) s
-unfolding syncOf afterCommand decodeOf wholeWords wordAt halfOf wordsOf kindOf layout commandOf registersAfter
-after-sync zero s = refl
-after-sync (suc zero) s = refl
-after-sync (suc (suc a)) s = refl
+after-sync : (y : Sync) (s : State) → afterCommand s (syncWord y) ≡ withHazards (nextOf (s .hazards) (syncNumber y)) s
+unfolding afterCommand decodeOf wholeWords wordAt halfOf wordsOf kindOf layout commandOf registersAfter
+after-sync loadSync s = refl
+after-sync tileSync s = refl
+after-sync pipeSync s = refl
 
-sync-draws : (a : ℕ) → draws (firstNumber (syncWord (syncOf (suc a)))) ≡ false
-unfolding syncOf draws wordAt halfOf kindOf
-sync-draws zero = refl
-sync-draws (suc zero) = refl
-sync-draws (suc (suc a)) = refl
+sync-draws : (y : Sync) → draws (firstNumber (syncWord y)) ≡ false
+unfolding draws wordAt halfOf kindOf
+sync-draws loadSync = refl
+sync-draws tileSync = refl
+sync-draws pipeSync = refl
 
 -- 7 to 9 passed over, the hazards do not count
 any-hazards : (m : ℕ) (s : State) (cs : List (List ℕ)) → Accepted repairRefusals s cs → Accepted repairRefusals (withHazards m s) cs
@@ -108,16 +108,16 @@ any-hazards m s [] h = tt
 any-hazards m s (c ∷ cs) h = (h .0, any-hazards (nextOf m (firstNumber c)) (afterCommand s c) cs (h .1))
 
 -- where a command is not refused, a sync is not refused either
-sync-fits : (a : ℕ) (s : State) (c : List ℕ) → None (ownRefusals s c) → None (ownRefusals s (syncWord (syncOf (suc a))))
+sync-fits : (y : Sync) (s : State) (c : List ℕ) → None (ownRefusals s c) → None (ownRefusals s (syncWord y))
 unfolding ownRefusals
-sync-fits a s c h = rw (sync-draws a) (h .0, (tt, (tt, tt)))
+sync-fits y s c h = rw (sync-draws y) (h .0, (tt, (tt, tt)))
 
 with-accepted : (a : ℕ) (s : State) (c : List ℕ) (cs : List (List ℕ)) → Accepted repairRefusals s (c ∷ cs) → Accepted repairRefusals s (withOption a c cs)
 unfolding withOption
 with-accepted zero s c cs h = h
 with-accepted (suc a) s c cs h = (
-  sync-fits a s c (h .0),
-  subst (λ (x : State). Accepted repairRefusals x (c ∷ cs)) (sym (after-sync a s)) (any-hazards (nextOf (s .hazards) (syncOf (suc a))) s (c ∷ cs) h),
+  sync-fits (syncAt a) s c (h .0),
+  subst (λ (x : State). Accepted repairRefusals x (c ∷ cs)) (sym (after-sync (syncAt a) s)) (any-hazards (nextOf (s .hazards) (syncNumber (syncAt a))) s (c ∷ cs) h),
 )
 
 pub applied-accepted : (p : List ℕ) (s : State) (cs : List (List ℕ)) → Accepted repairRefusals s cs → Accepted repairRefusals s (applied p cs)

@@ -9,9 +9,11 @@ use native.Mathlib.Omega.{arith}
 use lib.ListN.{length, length-map}
 use Rattle.rdp_command.specs.Decode.{firstNumber}
 use Rattle.rdp_check.specs.Hazards.{nextOf, requiredOf}
-use Rattle.rdp_check.specs.Inserted.{syncWord, Inserted, end, keep, insertLoad, insertTile, insertPipe}
-use Rattle.rdp_check.specs.Plan.{syncOf, Choice, waitOf, clearedBy, withOption, totalWith, choiceOf, chosen, best, applied, cyclesOf, plan, planned, FirstOf, same, next, less}
-use Rattle.rdp_check.proofs.SyncLaws.{sync-number, sync-requires, two-as-one, wait-some}
+use Rattle.rdp_check.specs.Inserted.{Inserted, end, keep, insert}
+use Rattle.rdp_check.specs.Syncs.{Sync, syncNumber, syncWait, syncWord}
+use Rattle.rdp_check.specs.Plan.{syncAt, waitOf, withOption, applied, cyclesOf, FirstOf, same, next, less}
+use Rattle.rdp_check.specs.Best.{Choice, clearedBy, totalWith, choiceOf, chosen, best, plan, planned}
+use Rattle.rdp_check.proofs.SyncLaws.{sync-number, sync-requires, by-option, two-as-one, wait-some}
 use Rattle.rdp_check.proofs.ChoiceLaws.{Right, right-chosen}
 
 -- no sync is missing along the commands from hazards m on
@@ -22,11 +24,9 @@ Passes m (c ∷ cs) = (requiredOf m (firstNumber c) ≡ 0) × Passes (nextOf m (
 -- ---- one command with an option before it
 
 with-inserted : (a : ℕ) {c : List ℕ} {cs ds : List (List ℕ)} {k : ℕ} → Inserted cs ds k → Inserted (c ∷ cs) (withOption a c ds) (waitOf a + k)
-unfolding withOption syncOf waitOf
+unfolding withOption waitOf
 with-inserted zero {c} {cs} {ds} {k} h = subst (λ (j : ℕ). Inserted (c ∷ cs) (c ∷ ds) j) (omega arith) (keep h)
-with-inserted (suc zero) h = insertLoad (keep h)
-with-inserted (suc (suc zero)) h = insertTile (keep h)
-with-inserted (suc (suc (suc a))) h = insertPipe (keep h)
+with-inserted (suc a) h = insert (syncAt a) (keep h)
 
 pub passes-at : (ds : List (List ℕ)) {j k : ℕ} → j ≡ k → Passes j ds → Passes k ds
 passes-at ds e = subst (λ (k : ℕ). Passes k ds) e
@@ -35,15 +35,16 @@ passes-at ds e = subst (λ (k : ℕ). Passes k ds) e
 abbrev PassesAfter : ℕ → ℕ → List ℕ → List (List ℕ) → Type 0
 PassesAfter m a c ds = Passes (clearedBy a m) (c ∷ ds)
 
-passes-sync : (a m : ℕ) (ds : List (List ℕ)) → Passes m (syncWord (syncOf (suc a)) ∷ ds) → Passes (clearedBy (suc a) m) ds
+passes-sync : (a m : ℕ) (ds : List (List ℕ)) → Passes m (syncWord (syncAt a) ∷ ds) → Passes (clearedBy (suc a) m) ds
 unfolding clearedBy
-passes-sync a m ds h = passes-at ds (ap (nextOf m) (sync-number a)) (h .1)
+passes-sync a m ds h = passes-at ds (ap (nextOf m) (sync-number (syncAt a))) (h .1)
 
 with-passes : (a m : ℕ) (c : List ℕ) (ds : List (List ℕ)) → PassesAfter m a c ds → Passes m (withOption a c ds)
 unfolding withOption clearedBy
 with-passes zero m c ds h = h
 with-passes (suc a) m c ds h =
-    (ap (requiredOf m) (sync-number a) ∙ sync-requires a m, passes-at (c ∷ ds) (ap (nextOf m) (sym (sync-number a))) h)
+    let s = syncAt a in
+    (ap (requiredOf m) (sync-number s) ∙ sync-requires s m, passes-at (c ∷ ds) (ap (nextOf m) (sym (sync-number s))) h)
 
 passes-with : (a m : ℕ) (c : List ℕ) (ds : List (List ℕ)) → Passes m (withOption a c ds) → PassesAfter m a c ds
 unfolding withOption clearedBy
@@ -123,16 +124,14 @@ save (n ∷ ns) m a =
 
 -- any list made by inserting that passes waits at least as long
 pub least-from : {cs ds : List (List ℕ)} {k : ℕ} (m : ℕ) → Inserted cs ds k → Passes m ds → best (map firstNumber cs) m ≤ k
-unfolding best totalWith clearedBy waitOf syncOf
+unfolding best totalWith clearedBy waitOf
 least-from m end h = omega arith
 least-from m (keep {c = c} {cs = cs} s) h =
     omega (arith, right (firstNumber c) (map firstNumber cs) m .least 0 (omega arith) (h .0), least-from (nextOf m (firstNumber c)) s (h .1))
-least-from m (insertLoad {cs = cs} {ds = ds} s) h =
-    omega (arith, save (map firstNumber cs) m 1, least-from (clearedBy 1 m) s (passes-sync 0 m ds h))
-least-from m (insertTile {cs = cs} {ds = ds} s) h =
-    omega (arith, save (map firstNumber cs) m 2, least-from (clearedBy 2 m) s (passes-sync 1 m ds h))
-least-from m (insertPipe {cs = cs} {ds = ds} s) h =
-    omega (arith, save (map firstNumber cs) m 3, least-from (clearedBy 3 m) s (passes-sync 2 m ds h))
+least-from {k = k} m (insert y {cs = cs} {ds = ds} {k = j} s) h =
+    by-option (λ (x : Sync). Passes m (syncWord x ∷ ds) → best (map firstNumber cs) m ≤ syncWait x + j)
+    (λ a g. omega (arith, save (map firstNumber cs) m (suc a), least-from (clearedBy (suc a) m) s (passes-sync a m ds g)))
+    y h
 
 pub planned-least : {cs ds : List (List ℕ)} {k : ℕ} → Inserted cs ds k → Passes 0 ds → best (map firstNumber cs) 0 ≤ k
 planned-least = least-from 0
@@ -171,28 +170,6 @@ plan-first cs = first-from cs 0
 
 -- ---- a list that costs least has at most one sync before each command, and none at the end
 
--- `Inserted`, with one constructor for the three syncs
-data InsertedBy : List (List ℕ) → List (List ℕ) → ℕ → Type 0 where
-  end′ : InsertedBy [] [] 0
-  keep′ : {c : List ℕ} {cs ds : List (List ℕ)} {k : ℕ} → InsertedBy cs ds k → InsertedBy (c ∷ cs) (c ∷ ds) k
-  insert′ : (a : ℕ) {cs ds : List (List ℕ)} {k : ℕ} → InsertedBy cs ds k → InsertedBy cs (syncWord (syncOf (suc a)) ∷ ds) (waitOf (suc a) + k)
-
-inserted-by : {cs ds : List (List ℕ)} {k : ℕ} → Inserted cs ds k → InsertedBy cs ds k
-unfolding syncOf waitOf
-inserted-by end = end′
-inserted-by (keep s) = keep′ (inserted-by s)
-inserted-by (insertLoad s) = insert′ 0 (inserted-by s)
-inserted-by (insertTile s) = insert′ 1 (inserted-by s)
-inserted-by (insertPipe s) = insert′ 2 (inserted-by s)
-
-by-inserted : {cs ds : List (List ℕ)} {k : ℕ} → InsertedBy cs ds k → Inserted cs ds k
-unfolding syncOf waitOf
-by-inserted end′ = end
-by-inserted (keep′ s) = keep (by-inserted s)
-by-inserted (insert′ zero s) = insertLoad (by-inserted s)
-by-inserted (insert′ (suc zero) s) = insertTile (by-inserted s)
-by-inserted (insert′ (suc (suc a)) s) = insertPipe (by-inserted s)
-
 -- an option for each command makes the list
 pub record Single (cs ds : List (List ℕ)) (k : ℕ) : Type 0 where
   pub options : List ℕ
@@ -201,7 +178,7 @@ pub record Single (cs ds : List (List ℕ)) (k : ℕ) : Type 0 where
   pub waits : cyclesOf options ≡ k
 
 single-keep : {c : List ℕ} {cs ds : List (List ℕ)} {k : ℕ} → Single cs ds k → Single (c ∷ cs) (c ∷ ds) k
-unfolding applied cyclesOf withOption syncOf waitOf
+unfolding applied cyclesOf withOption waitOf
 single-keep {c} r = record {
   options = 0 ∷ r .options;
   one-each = ap suc (r .one-each);
@@ -209,39 +186,49 @@ single-keep {c} r = record {
   waits = omega (arith, r .waits);
 }
 
-single-insert : (a : ℕ) {c : List ℕ} {cs ds : List (List ℕ)} {k : ℕ} → Single cs ds k → Single (c ∷ cs) (syncWord (syncOf (suc a)) ∷ c ∷ ds) (waitOf (suc a) + k)
-unfolding applied cyclesOf withOption
+single-insert : (a : ℕ) {c : List ℕ} {cs ds : List (List ℕ)} {k : ℕ} → Single cs ds k → Single (c ∷ cs) (syncWord (syncAt a) ∷ c ∷ ds) (syncWait (syncAt a) + k)
+unfolding applied cyclesOf withOption waitOf
 single-insert a {c} {ds} r = record {
   options = suc a ∷ r .options;
   one-each = ap suc (r .one-each);
-  makes = ap (λ (x : List (List ℕ)). syncWord (syncOf (suc a)) ∷ c ∷ x) (r .makes);
+  makes = ap (λ (x : List (List ℕ)). syncWord (syncAt a) ∷ c ∷ x) (r .makes);
   waits = omega (arith, r .waits);
 }
 
-single-from : {cs ds : List (List ℕ)} {k : ℕ} (m : ℕ) → InsertedBy cs ds k → Passes m ds → k ≡ best (map firstNumber cs) m → Single cs ds k
+single-from : {cs ds : List (List ℕ)} {k : ℕ} (m : ℕ) → Inserted cs ds k → Passes m ds → k ≡ best (map firstNumber cs) m → Single cs ds k
 unfolding best totalWith clearedBy waitOf applied cyclesOf
-single-from m end′ h e = record { options = []; one-each = refl; makes = refl; waits = refl }
-single-from m (keep′ {c = c} {cs = cs} s) h e =
+single-from m end h e = record { options = []; one-each = refl; makes = refl; waits = refl }
+single-from m (keep {c = c} {cs = cs} s) h e =
     let ns : List ℕ = map firstNumber cs in
     let n : ℕ = firstNumber c in
     single-keep (single-from (nextOf m n) s (h .1)
-    (omega (arith, right n ns m .least 0 (omega arith) (h .0), least-from (nextOf m n) (by-inserted s) (h .1))))
-single-from m (insert′ a end′) h e = absurd (omega (arith, wait-some a))
-single-from m (insert′ a (keep′ {c = c} {cs = cs} {ds = ds} s)) h e =
+    (omega (arith, right n ns m .least 0 (omega arith) (h .0), least-from (nextOf m n) s (h .1))))
+single-from m (insert y end) h e = absurd (omega (arith, wait-some y))
+single-from m (insert y (keep {c = c} {cs = cs} {ds = ds} {k = k} s)) h e =
     let ns : List ℕ = map firstNumber cs in
     let n : ℕ = firstNumber c in
+    by-option (λ (x : Sync). Passes m (syncWord x ∷ c ∷ ds) → syncWait x + k ≡ best (n ∷ ns) m → Single (c ∷ cs) (syncWord x ∷ c ∷ ds) (syncWait x + k))
+    (λ a p q.
     let j : ℕ = nextOf (clearedBy (suc a) m) n in
-    let g : Passes (clearedBy (suc a) m) (c ∷ ds) = passes-sync a m (c ∷ ds) h in
-    single-insert a (single-from j s (g .1)
-    (omega (arith, right n ns m .least (suc a) (omega arith) (g .0), least-from j (by-inserted s) (g .1))))
-single-from m (insert′ a (insert′ b {cs = cs} {ds = ds} s)) h e =
+    let g : Passes (clearedBy (suc a) m) (c ∷ ds) = passes-sync a m (c ∷ ds) p in
+    single-insert a (single-from j s (g .1) (omega (arith, right n ns m .least (suc a) (omega arith) (g .0), least-from j s (g .1)))))
+    y h e
+single-from m (insert y (insert z {cs = cs} {ds = ds} {k = k} s)) h e =
     let ns : List ℕ = map firstNumber cs in
-    let g = passes-sync b (clearedBy (suc a) m) ds (passes-sync a m (syncWord (syncOf (suc b)) ∷ ds) h) in
+    absurd
+    (by-option (λ (x : Sync). Passes m (syncWord x ∷ syncWord z ∷ ds) → syncWait x + (syncWait z + k) ≡ best ns m → ⊥)
+    (λ a.
+    by-option (λ (x : Sync). Passes m (syncWord (syncAt a) ∷ syncWord x ∷ ds) → syncWait (syncAt a) + (syncWait x + k) ≡ best ns m → ⊥)
+    (λ b p q.
+    let g = passes-sync b (clearedBy (suc a) m) ds (passes-sync a m (syncWord (syncAt b) ∷ ds) p) in
     let d = two-as-one (suc a) (suc b) m in
-    absurd (omega (arith, save ns m (d .0), least-from (clearedBy (d .0) m) (by-inserted s) (passes-at ds (d .1) g), d .2, wait-some a, wait-some b))
+    omega
+    (arith, save ns m (d .0), least-from (clearedBy (d .0) m) s (passes-at ds (d .1) g), d .2, wait-some (syncAt a), wait-some (syncAt b)))
+    z)
+    y h e)
 
 pub least-single : {cs ds : List (List ℕ)} {k : ℕ} → Inserted cs ds k → Passes 0 ds → k ≡ best (map firstNumber cs) 0 → Single cs ds k
-least-single s = single-from 0 (inserted-by s)
+least-single = single-from 0
 
 -- only one plan is first: two that each stand before the other or are equal are equal
 pub first-unique : {p q : List ℕ} → FirstOf p q → FirstOf q p → p ≡ q

@@ -11,7 +11,8 @@ use Rattle.rdp_command.specs.Words.{wordAt, numberIn, overwrite, pasted}
 use Rattle.rdp_command.specs.Kinds.{wordsOf}
 use Rattle.rdp_command.proofs.Bytes.{length-overwrite, pasted-after}
 use Rattle.rdp_check.specs.Commands.{commandsFrom, commandsOf, restOf, joined}
-use Rattle.rdp_check.specs.Plan.{applied, numbersOf}
+use Rattle.rdp_check.specs.Plan.{applied}
+use Rattle.rdp_check.specs.Best.{numbersOf}
 use Rattle.rdp_check.specs.Work.{tabulate, notedIn, optionsIn, Below, optionBytes, dueBytes, WholeList, NotedIs, WrittenIs}
 use Rattle.rdp_command.proofs.PlaceLaws.{some-words}
 use Rattle.rdp_check.proofs.ListLaws.{commandAt, commands-at, rest-at, rest-past, command-number}

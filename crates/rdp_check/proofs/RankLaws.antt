@@ -9,8 +9,9 @@ use lib.ListN.{getD}
 use borrow.Author.Tests.{eq-eqb, eqb-true, leb-true, leb-false}
 use Rattle.rdp_command.proofs.Tests.{by-test}
 use Rattle.rdp_check.specs.Hazards.{nextOf, requiredOf, entryOf}
-use Rattle.rdp_check.specs.Plan.{Choice, waitOf, clearedBy, totalWith, choiceOf, prefer, chosen}
-use Rattle.rdp_check.specs.Work.{tabulate, packed, bareRank, syncedRank}
+use Rattle.rdp_check.specs.Plan.{waitOf}
+use Rattle.rdp_check.specs.Best.{Choice, clearedBy, totalWith, choiceOf, prefer, chosen}
+use Rattle.rdp_check.specs.Work.{tabulate, packed, bareRank, optionRank, syncedRank}
 use Rattle.rdp_check.proofs.HazardLaws.{next-small, entry-parts}
 use Rattle.rdp_check.proofs.SyncLaws.{required-idle, cleared-load, cleared-tile, cleared-pipe, wait-most}
 use Rattle.rdp_check.proofs.TabulateLaws.{getD-tabulate}
@@ -70,7 +71,7 @@ module _ (n : ℕ) (f : ℕ → ℕ) (most : (k : ℕ) → f k ≤ 102400) (m : 
         (λ g. rw g (ranked-later a other r))
 
     rank-prefer :
-        (x y : ℕ) → x ≡ bareRank n f (clearedBy a m) + (64 * waitOf a + 16 * a) → y ≡ rankOf other → min x y ≡ rankOf (prefer n f m a other)
+        (x y : ℕ) → x ≡ bareRank n f (clearedBy a m) + optionRank a → y ≡ rankOf other → min x y ≡ rankOf (prefer n f m a other)
     unfolding prefer bareRank rankOf packed choiceOf totalWith
     rank-prefer x y is-x is-y =
         by-test (eqb (requiredOf (clearedBy a m) n) 0)
@@ -84,8 +85,8 @@ module _ (n : ℕ) (f : ℕ → ℕ) (most : (k : ℕ) → f k ≤ 102400) (m : 
         (omega (arith, rw t at is-x, leb-false (totalWith n f m a) (other .total) g, r .within, r .next))))
         (λ g. rw g (omega (arith, rw g at is-x, r .within, r .next, r .total)))
 
-  rank-pipe : bareRank n f 0 + 3248 ≡ rankOf (choiceOf n f m 3)
-  unfolding bareRank rankOf packed choiceOf totalWith waitOf
+  rank-pipe : bareRank n f 0 + optionRank 3 ≡ rankOf (choiceOf n f m 3)
+  unfolding bareRank rankOf packed choiceOf totalWith
   rank-pipe = rw (cleared-pipe 0 m, eq-eqb _ _ (required-idle n)) (omega arith)
 
   least-is : min (bareRank n f m) (syncedRank (bareRank n f) (m % 4)) ≡ rankOf (chosen n f m)
@@ -98,7 +99,7 @@ module _ (n : ℕ) (f : ℕ → ℕ) (most : (k : ℕ) → f k ≤ 102400) (m : 
       let r1 = prefer-ranked 1 (prefer n f m 2 (choiceOf n f m 3)) r2 in
       rw low
       (rank-prefer 0 _ r1 (g m) _ (omega arith)
-      (rank-prefer 1 _ r2 (g (m % 4) + 1616) _ (ap (λ (k : ℕ). g k + 1616) (sym (cleared-load m))) (rank-prefer 2 _ r3 (g (m % 2) + 2144) _ (ap (λ (k : ℕ). g k + 2144) (sym (cleared-tile m))) rank-pipe)))
+      (rank-prefer 1 _ r2 (g (m % 4) + optionRank 1) _ (ap (λ (k : ℕ). g k + optionRank 1) (sym (cleared-load m))) (rank-prefer 2 _ r3 (g (m % 2) + optionRank 2) _ (ap (λ (k : ℕ). g k + optionRank 2) (sym (cleared-tile m))) rank-pipe)))
 
   chosen-ranked : Ranked 0 (chosen n f m)
   unfolding chosen

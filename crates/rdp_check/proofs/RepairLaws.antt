@@ -7,25 +7,25 @@ use native.Mathlib.Omega.{arith}
 use lib.Dec.{T, eqb}
 use lib.ListN.{length, getD, take, drop, replicate, length-map, length-replicate}
 use lib.Seq.{take-at, drop-at}
-use borrow.Author.Tests.{eqb-false, lt-ltb, le-ltb, ne-eqb}
+use borrow.Author.Tests.{eqb-true, eqb-false, lt-ltb, le-ltb, ne-eqb}
 use Rattle.rdp_command.specs.Words.{wordAt, overwrite}
 use Rattle.rdp_command.specs.Decode.{firstNumber}
 use Rattle.rdp_check.specs.Commands.{commandsOf, joined}
-use Rattle.rdp_check.specs.Check.{State, ownRefusals, repairRefusals, outcomeWithin, checked}
-use Rattle.rdp_check.specs.Refusals.{Holds}
-use Rattle.rdp_check.specs.Plan.{best, plan, applied, numbersOf, planned}
+use Rattle.rdp_check.specs.Check.{State, ownRefusals, repairRefusals, checked}
+use Rattle.rdp_check.specs.Plan.{applied}
+use Rattle.rdp_check.specs.Best.{best, plan, numbersOf, planned, repairedBytes, leastCycles}
 use Rattle.rdp_check.specs.Work.{notedIn, workOf, optionsIn, insertsOf, Below, dueBytes, WholeList, NotedIs, BackwardIs}
-use Rattle.rdp_check.specs.Repair.{LeastRepair, repairedBytes, repairAnswer, repairOf, outAfter, workAfter, RepairIs}
+use Rattle.rdp_check.specs.Repair.{LeastRepair, Repairable, repairAnswer, repairOf, outAfter, workAfter, RepairIs}
 use Rattle.rdp_check.specs.declared.Checked.{Checked}
 use Rattle.rdp_check.specs.declared.Repaired.{Repaired}
-use Rattle.rdp_command.proofs.Tests.{false-of}
+use Rattle.rdp_command.proofs.Tests.{by-test, false-of}
 use Rattle.rdp_command.proofs.PlaceLaws.{number-small}
 use Rattle.rdp_check.proofs.BackLaws.{length-work}
 use Rattle.rdp_check.proofs.ForwardLaws.{options-plan, work-below}
 use Rattle.rdp_check.proofs.OrderLaws.{allGive}
-use Rattle.rdp_check.proofs.FirstLaws.{own-numbered, outcome-gives}
-use Rattle.rdp_check.proofs.RepairedLaws.{sound, count-most, length-repaired, repaired-most, least-repair}
-use Rattle.rdp_check.proofs.RoomLaws.{roomed, repair-refused, repair-roomed, none-judged}
+use Rattle.rdp_check.proofs.FirstLaws.{own-numbered, judge-first, outcome-gives}
+use Rattle.rdp_check.proofs.RepairedLaws.{sound, count-most, length-repaired, repaired-most, least-repair, least-unique}
+use Rattle.rdp_check.proofs.RoomLaws.{judged, repairable-judged, roomed, repair-refused, repair-roomed}
 
 -- ---- the work buffer from pass to pass
 
@@ -101,16 +101,16 @@ module _ (list work work′ : List ℕ) (held : work′ ≡ overwrite (workOf (n
 
 -- ---- a list that none of refusals 1 to 6 holds for
 
-pub whole-list : (list : List ℕ) (words : ℕ) → outcomeWithin 2048 repairRefusals list .number ≡ 0 → words ≡ length list / 8 → WholeList list words
+pub whole-list : (list : List ℕ) (words : ℕ) → judged list .number ≡ 0 → words ≡ length list / 8 → WholeList list words
 whole-list list words e w =
     let s = sound repairRefusals own-numbered list e in
     record { long = omega (arith, s .words); few = omega (arith, s .short); none = s .none }
 
-pub commands-few : (list : List ℕ) → outcomeWithin 2048 repairRefusals list .number ≡ 0 → length (commandsOf list) ≤ 2048
+pub commands-few : (list : List ℕ) → judged list .number ≡ 0 → length (commandsOf list) ≤ 2048
 commands-few list e = let s = sound repairRefusals own-numbered list e in omega (arith, count-most list (s .none), s .short)
 
 pub words-needed :
-    (list : List ℕ) → outcomeWithin 2048 repairRefusals list .number ≡ 0 → (words : ℕ) → words ≡ length list / 8 + insertsOf (plan (numbersOf (commandsOf list)) 0) →
+    (list : List ℕ) → judged list .number ≡ 0 → (words : ℕ) → words ≡ length list / 8 + insertsOf (plan (numbersOf (commandsOf list)) 0) →
     (length (repairedBytes list) ≡ 8 * words) × (words ≤ 4096)
 words-needed list e words w =
     let s = sound repairRefusals own-numbered list e in
@@ -118,30 +118,36 @@ words-needed list e words w =
 
 -- ---- the answers
 
--- a list that none of 1 to 6 holds for is repaired where there is room
+-- the least repair of a list that none of 1 to 6 holds for
+least-of : (list : List ℕ) → Repairable list → LeastRepair list (repairedBytes list) (leastCycles list)
+least-of list free = least-repair list (sound repairRefusals own-numbered list (repairable-judged list free))
+
+abbrev pub answered : List ℕ → List ℕ → List ℕ → Repaired
+answered list work out = repairOf list (length (repairedBytes list)) (leastCycles list) (length work) (length out)
+
+-- such a list is repaired where there is room
 succeeding :
-    (list work out : List ℕ) (r : Repaired) → r ≡ repairOf list (length work) (length out) →
-    ((n p : ℕ) → Holds 2048 repairRefusals list n p → ⊥) → 16 * length (commandsOf list) ≤ length work →
-    ((t : List ℕ) (cycles : ℕ) → LeastRepair list t cycles → length t ≤ length out) → r .number ≡ 0
+    (list work out : List ℕ) (r : Repaired) → r ≡ answered list work out → Repairable list → 16 * length (commandsOf list) ≤ length work →
+    length (repairedBytes list) ≤ length out → r .number ≡ 0
 unfolding roomed
 succeeding list work out r e free enough room =
-    let clean = none-judged list (length work) (length out) free in
-    ap (λ (x : Repaired). x .number) (e ∙ repair-roomed list (length work) (length out) clean) ∙
-    rw (le-ltb _ _ enough, le-ltb _ _ (room _ _ (least-repair list (sound repairRefusals own-numbered list clean))))
+    ap (λ (x : Repaired). x .number) (e ∙ repair-roomed list _ _ (length work) (length out) (repairable-judged list free)) ∙
+    rw (le-ltb _ _ enough, le-ltb _ _ room)
 
 -- a refusal but 14 leaves both buffers as they were
 untouched :
-    (list work out : List ℕ) (r : Repaired) → r ≡ repairOf list (length work) (length out) → (r .number ≡ 0 → ⊥) → (r .number ≡ 14 → ⊥) →
-    RepairIs list work out r work out
+    (list work out : List ℕ) (r : Repaired) → r ≡ answered list work out → (r .number ≡ 0 → ⊥) → (r .number ≡ 14 → ⊥) → RepairIs list work out r work out
 unfolding outAfter workAfter
 untouched list work out r e z y =
     record {
+      least = repairedBytes list;
+      cycles = leastCycles list;
+      is-least = least-of list;
       answer = e;
       output = rw (ne-eqb _ _ z);
       cleared = rw (ne-eqb _ _ z, ne-eqb _ _ y);
       succeeds = succeeding list work out r e;
-      repaired = λ n. absurd (z n);
-      needed = λ n. absurd (y n);
+      written = λ n. absurd (z n);
     }
 
 -- 14 is no refusal of the list
@@ -156,17 +162,17 @@ fourteen : _≡_ {A = ℕ} 14 0 → ⊥
 fourteen e = omega arith
 
 module _ (list work out : List ℕ) where
-  pub refused : (r : Checked) → r ≡ checked (outcomeWithin 2048 repairRefusals list) → (r .number ≡ 0 → ⊥) → RepairIs list work out (repairAnswer (r .number) (r .place) 0) work out
+  pub refused : (r : Checked) → r ≡ checked (judged list) → (r .number ≡ 0 → ⊥) → RepairIs list work out (repairAnswer (r .number) (r .place) 0) work out
   refused r e z =
-      let number : r .number ≡ outcomeWithin 2048 repairRefusals list .number = ap (λ (x : Checked). x .number) e in
+      let number : r .number ≡ judged list .number = ap (λ (x : Checked). x .number) e in
       untouched list work out _
       (ap₂ (λ (n p : ℕ). repairAnswer n p 0) number (ap (λ (x : Checked). x .place) e) ∙
-      sym (repair-refused list (length work) (length out) (λ y. z (number ∙ y)))) z
+      sym (repair-refused list _ _ (length work) (length out) (λ y. z (number ∙ y)))) z
       (λ y. eqb-false _ _ (false-of _ (outcome-gives notOut repairRefusals own-not-out tt tt tt tt 2048 list)) (sym number ∙ y))
 
-  module _ (clean : outcomeWithin 2048 repairRefusals list .number ≡ 0) where
-    in-room : roomed list (length work) (length out) ≡ repairOf list (length work) (length out)
-    in-room = sym (repair-roomed list (length work) (length out) clean)
+  module _ (clean : judged list .number ≡ 0) where
+    in-room : roomed list (length (repairedBytes list)) (leastCycles list) (length work) (length out) ≡ answered list work out
+    in-room = sym (repair-roomed list _ _ (length work) (length out) clean)
 
     pub refused-work : (count : ℕ) → count ≡ length (commandsOf list) → length work < 16 * count → RepairIs list work out (repairAnswer 13 count 0) work out
     unfolding roomed
@@ -184,30 +190,64 @@ module _ (list work out : List ℕ) where
       unfolding roomed outAfter workAfter
       refused-out h =
           let short : length out < length (repairedBytes list) = omega arith in
-          let e : repairAnswer 14 words 0 ≡ repairOf list (length work) (length out) =
+          let e : repairAnswer 14 words 0 ≡ answered list work out =
           ap (λ (k : ℕ). repairAnswer 14 k 0) is-words ∙ rw (le-ltb _ _ enough, lt-ltb _ _ short) refl ∙ in-room in
           record {
+            least = repairedBytes list;
+            cycles = leastCycles list;
+            is-least = least-of list;
             answer = e;
             output = refl;
             cleared = cleared;
             succeeds = succeeding list work out _ e;
-            repaired = λ n. absurd (fourteen n);
-            needed = λ n. (repairedBytes list, best (numbersOf (commandsOf list)) 0, least-repair list (sound repairRefusals own-numbered list clean), long);
+            written = λ n. absurd (fourteen n);
           }
 
       pub repaired-is :
-          words ≤ length out / 8 → (cycles : ℕ) → cycles ≡ best (numbersOf (commandsOf list)) 0 → (out′ : List ℕ) → out′ ≡ overwrite (repairedBytes list) out →
+          words ≤ length out / 8 → (cycles : ℕ) → cycles ≡ leastCycles list → (out′ : List ℕ) → out′ ≡ overwrite (repairedBytes list) out →
           RepairIs list work out (repairAnswer 0 words cycles) work′ out′
       unfolding roomed outAfter workAfter overwrite
-      repaired-is h cycles are-cycles out′ written =
+      repaired-is h cycles are-cycles out′ are-bytes =
           let fits : length (repairedBytes list) ≤ length out = omega arith in
           let start : take (8 * words) out′ ≡ repairedBytes list =
-          ap (take (8 * words)) written ∙ take-at (repairedBytes list) (drop (length (repairedBytes list)) out) (8 * words) long in
+          ap (take (8 * words)) are-bytes ∙ take-at (repairedBytes list) (drop (length (repairedBytes list)) out) (8 * words) long in
           record {
+            least = repairedBytes list;
+            cycles = leastCycles list;
+            is-least = least-of list;
             answer = ap₂ (repairAnswer 0) is-words are-cycles ∙ rw (le-ltb _ _ enough, le-ltb _ _ fits) refl ∙ in-room;
-            output = written;
+            output = are-bytes;
             cleared = cleared;
             succeeds = λ free fits-work fits-out. refl;
-            repaired = λ n. rw (start, are-cycles) (least-repair list (sound repairRefusals own-numbered list clean));
-            needed = λ n. absurd (fourteen (sym n));
+            written = λ n. rw (start, are-cycles) (least-repair list (sound repairRefusals own-numbered list clean));
           }
+
+-- ---- the answer and the output, computed
+
+-- where it is refused, the output does not depend on a repair
+left-alone : (r : Repaired) (a b out : List ℕ) → (r .number ≡ 0 → ⊥) → outAfter r a out ≡ outAfter r b out
+unfolding outAfter
+left-alone r a b out z = rw (ne-eqb _ _ z)
+
+-- what the repair ensures leaves nothing open: the answer is that of the plan that `Best` computes, and so is the output
+pub record RepairComputes (list work out : List ℕ) (r : Repaired) (out′ : List ℕ) : Type 0 where
+  pub answer : r ≡ answered list work out
+  pub output : out′ ≡ outAfter r (repairedBytes list) out
+
+pub repair-computes : {list work out work′ out′ : List ℕ} {r : Repaired} → RepairIs list work out r work′ out′ → RepairComputes list work out r out′
+repair-computes {list} {work} {out} {work′} {out′} {r} is =
+    by-test (eqb (judged list .number) 0)
+    (λ t.
+    let free : Repairable list = judge-first repairRefusals list 2048 own-numbered .accepted (eqb-true _ _ t) .1 in
+    let same = least-unique (is .is-least free) (least-of list free) in
+    record {
+      answer = is .answer ∙ (λ i. repairOf list (length (same .0 i)) (same .1 i) (length work) (length out));
+      output = is .output ∙ ap (λ (x : List ℕ). outAfter r x out) (same .0);
+    })
+    (λ f.
+    let ne = eqb-false _ _ f in
+    let refused-by = is .answer ∙ repair-refused list _ _ (length work) (length out) ne in
+    record {
+      answer = refused-by ∙ sym (repair-refused list _ _ (length work) (length out) ne);
+      output = is .output ∙ left-alone r (is .least) (repairedBytes list) out (λ z. ne (sym (ap (λ (x : Repaired). x .number) refused-by) ∙ z));
+    })

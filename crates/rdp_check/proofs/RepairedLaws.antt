@@ -14,15 +14,16 @@ use Rattle.rdp_command.proofs.Tests.{by-test}
 use Rattle.rdp_check.specs.Commands.{commandsOf, restOf, joined}
 use Rattle.rdp_check.specs.Check.{start, Refusals, checkRefusals, repairRefusals, judgeList, outcomeWithin, outcomeOf}
 use Rattle.rdp_check.specs.Refusals.{ofCommands, Free}
-use Rattle.rdp_check.specs.Inserted.{Inserted, end, keep, insertLoad, insertTile, insertPipe, MadeByInserting}
-use Rattle.rdp_check.specs.Plan.{syncOf, withOption, best, plan, applied, cyclesOf, numbersOf, planned}
+use Rattle.rdp_check.specs.Inserted.{Inserted, end, keep, insert, MadeByInserting}
+use Rattle.rdp_check.specs.Syncs.{Sync, loadSync, tileSync, pipeSync, syncWord}
+use Rattle.rdp_check.specs.Plan.{syncAt, withOption, applied, waitOf, cyclesOf}
+use Rattle.rdp_check.specs.Best.{best, plan, numbersOf, planned, repairedBytes, leastCycles}
 use Rattle.rdp_check.specs.Work.{insertsOf}
-use Rattle.rdp_check.specs.Repair.{Makes, LeastRepair, repairedBytes, repairAnswer, repairOf}
+use Rattle.rdp_check.specs.Repair.{Makes, LeastRepair, repairAnswer, repairOf}
 use Rattle.rdp_check.proofs.SyncLaws.{wait-some}
 use Rattle.rdp_check.proofs.LeastLaws.{Passes, length-plan, cycles-plan, applied-inserted, planned-inserted, planned-passes, planned-least, plan-first, Single, least-single, first-unique}
-use Rattle.rdp_check.proofs.JoinLaws.{AllAlone, commands-joined, rest-joined, length-joined, count-joined, parsed, joined-whole}
+use Rattle.rdp_check.proofs.JoinLaws.{Alone, AllAlone, commands-joined, rest-joined, length-joined, count-joined, parsed, joined-whole}
 use Rattle.rdp_check.proofs.FirstLaws.{Numbered, check-numbered, judge-free, check-first}
-use Rattle.rdp_check.proofs.RoomLaws.{roomed, repair-roomed}
 use Rattle.rdp_check.proofs.JudgeLaws.{Accepted, judge-accepted, accepted-judge, accepted-loose, accepted-passes, accepted-strict, applied-accepted}
 
 -- ---- a list with none of the refusals
@@ -46,22 +47,23 @@ sound refusals known s e =
 
 -- ---- inserting keeps commands whole
 
-pub alone-inserted : {cs ds : List (List ℕ)} {k : ℕ} → Inserted cs ds k → AllAlone cs → AllAlone ds
+sync-alone : (y : Sync) → Alone (syncWord y)
 unfolding wordAt halfOf wordsOf kindOf
+sync-alone loadSync = refl
+sync-alone tileSync = refl
+sync-alone pipeSync = refl
+
+pub alone-inserted : {cs ds : List (List ℕ)} {k : ℕ} → Inserted cs ds k → AllAlone cs → AllAlone ds
 alone-inserted end h = tt
 alone-inserted (keep s) h = (h .0, alone-inserted s (h .1))
-alone-inserted (insertLoad s) h = (refl, alone-inserted s h)
-alone-inserted (insertTile s) h = (refl, alone-inserted s h)
-alone-inserted (insertPipe s) h = (refl, alone-inserted s h)
+alone-inserted (insert y s) h = (sync-alone y, alone-inserted s h)
 
 -- ---- the length of the repaired list
 
 length-with : (a : ℕ) (c : List ℕ) (cs : List (List ℕ)) → length (joined (withOption a c cs)) ≡ 8 * min a 1 + (length c + length (joined cs))
-unfolding withOption syncOf
+unfolding withOption
 length-with zero c cs = omega (arith, length-append c (joined cs))
-length-with (suc zero) c cs = omega (arith, length-append c (joined cs))
-length-with (suc (suc zero)) c cs = omega (arith, length-append c (joined cs))
-length-with (suc (suc (suc a))) c cs = omega (arith, length-append c (joined cs))
+length-with (suc a) c cs = omega (arith, length-append c (joined cs))
 
 -- a plan inserts a word for each option that is not nothing
 length-applied : (p : List ℕ) (cs : List (List ℕ)) → length p ≡ length cs → length (joined (applied p cs)) ≡ 8 * insertsOf p + length (joined cs)
@@ -142,7 +144,7 @@ module _ (s : List ℕ) (given : Sound repairRefusals s) where
       let whole : length (repairedBytes s) % 8 ≡ 0 = omega (arith, length-repaired s none, given .words) in
       rw (le-ltb _ _ short, eq-eqb _ _ whole) repaired-judged
 
-  pub least-repair : LeastRepair s (repairedBytes s) (best (numbersOf cs) 0)
+  pub least-repair : LeastRepair s (repairedBytes s) (leastCycles s)
   unfolding MadeByInserting Makes repairedBytes planned
   least-repair =
       record {
@@ -185,32 +187,20 @@ kept [] = end
 kept (c ∷ cs) = keep (kept cs)
 
 none-applied : (p : List ℕ) (cs : List (List ℕ)) → cyclesOf p ≡ 0 → applied p cs ≡ cs
-unfolding applied cyclesOf withOption syncOf
+unfolding applied cyclesOf withOption waitOf
 none-applied p [] e = refl
 none-applied [] (c ∷ cs) e = refl
 none-applied (zero ∷ p) (c ∷ cs) e = ap (λ (x : List (List ℕ)). c ∷ x) (none-applied p cs (omega arith))
-none-applied (suc a ∷ p) (c ∷ cs) e = absurd (omega (arith, wait-some a))
+none-applied (suc a ∷ p) (c ∷ cs) e = absurd (omega (arith, wait-some (syncAt a)))
 
-pub record RepairedToItself (s : List ℕ) (work out : ℕ) : Type 0 where
-  pub bytes : repairedBytes s ≡ s
-  pub answer : repairOf s work out ≡ repairAnswer 0 (length s / 8) 0
-
--- a list of at most 2,048 words that the check accepts is repaired into itself, with 0 cycles
-pub passes-kept :
-    (s : List ℕ) (work out : ℕ) → outcomeWithin 2048 checkRefusals s .number ≡ 0 → 16 * length (commandsOf s) ≤ work → length s ≤ out →
-    RepairedToItself s work out
-unfolding repairedBytes planned roomed outcomeWithin
-passes-kept s work out e enough room =
+-- a list of at most 2,048 words that the check accepts is its own least repair, of 0 cycles
+pub passes-kept : (s : List ℕ) → outcomeWithin 2048 checkRefusals s .number ≡ 0 → LeastRepair s s 0
+unfolding repairedBytes planned
+passes-kept s e =
     let cs = commandsOf s in
     let t = sound checkRefusals check-numbered s e in
     let zero-best : best (numbersOf cs) 0 ≡ 0 = omega (arith, planned-least (kept cs) (accepted-passes start cs (t .accepted))) in
-    let itself : joined (applied (plan (numbersOf cs) 0) cs) ≡ s =
+    let itself : repairedBytes s ≡ s =
     ap joined (none-applied (plan (numbersOf cs) 0) cs (cycles-plan (numbersOf cs) 0 ∙ zero-best)) ∙ joined-whole s (t .none) in
-    let loose : judgeList repairRefusals s .number ≡ 0 =
-    rw (t .none) (accepted-judge repairRefusals start 0 cs (accepted-loose start cs (t .accepted))) in
-    record {
-      bytes = itself;
-      answer =
-          repair-roomed s work out (rw (le-ltb _ _ (t .short), eq-eqb _ _ (t .words)) loose) ∙
-          rw (itself, le-ltb _ _ enough, le-ltb _ _ room, zero-best);
-    }
+    let loose : Sound repairRefusals s = record { short = t .short; words = t .words; none = t .none; accepted = accepted-loose start cs (t .accepted) } in
+    subst (λ (k : ℕ). LeastRepair s s k) zero-best (subst (λ (u : List ℕ). LeastRepair s u (leastCycles s)) itself (least-repair s loose))

@@ -10,8 +10,9 @@ use Rattle.rdp_command.specs.Words.{halfOf, wordAt}
 use Rattle.rdp_command.specs.Decode.{firstNumber}
 use Rattle.rdp_command.proofs.Tests.{below}
 use Rattle.rdp_check.specs.Hazards.{hazardsOf, requiredBy, nextOf, requiredOf}
-use Rattle.rdp_check.specs.Inserted.{syncWord}
-use Rattle.rdp_check.specs.Plan.{waitOf, syncOf, clearedBy}
+use Rattle.rdp_check.specs.Syncs.{Sync, loadSync, tileSync, pipeSync, syncNumber, syncWait, syncWord}
+use Rattle.rdp_check.specs.Plan.{waitOf, syncAt}
+use Rattle.rdp_check.specs.Best.{clearedBy}
 use Rattle.rdp_check.proofs.HazardLaws.{next-low}
 
 idle-requires-none : (k : Kind) → requiredBy k (hazardsOf 0) ≡ 0
@@ -32,44 +33,50 @@ pub required-idle : (n : ℕ) → requiredOf 0 n ≡ 0
 unfolding requiredOf
 required-idle n = idle-requires-none (kindOf n)
 
--- a sync by its option: its number, and that it requires nothing
-pub sync-number : (a : ℕ) → firstNumber (syncWord (syncOf (suc a))) ≡ syncOf (suc a)
-unfolding syncOf wordAt halfOf
-sync-number zero = refl
-sync-number (suc zero) = refl
-sync-number (suc (suc a)) = refl
+-- a sync has its number and requires nothing
+pub sync-number : (s : Sync) → firstNumber (syncWord s) ≡ syncNumber s
+unfolding wordAt halfOf
+sync-number loadSync = refl
+sync-number tileSync = refl
+sync-number pipeSync = refl
 
-pub sync-requires : (a m : ℕ) → requiredOf m (syncOf (suc a)) ≡ 0
-unfolding syncOf requiredOf kindOf
-sync-requires zero m = refl
-sync-requires (suc zero) m = refl
-sync-requires (suc (suc a)) m = refl
+pub sync-requires : (s : Sync) (m : ℕ) → requiredOf m (syncNumber s) ≡ 0
+unfolding requiredOf kindOf
+sync-requires loadSync m = refl
+sync-requires tileSync m = refl
+sync-requires pipeSync m = refl
+
+-- what holds of the sync of every option holds of every sync
+pub by-option : (P : Sync → Type 0) → ((a : ℕ) → P (syncAt a)) → (s : Sync) → P s
+unfolding syncAt
+by-option P at loadSync = at 0
+by-option P at tileSync = at 1
+by-option P at pipeSync = at 2
 
 -- what a sync leaves of the hazards: a Load P and T, a Tile P, a Pipe none
 pub cleared-load : (m : ℕ) → clearedBy 1 m ≡ m % 4
-unfolding nextOf kindOf clearedBy syncOf
+unfolding nextOf kindOf clearedBy syncAt
 cleared-load m =
     let e : m % 16 % 4 ≡ m % 4 = omega arith in
     sym (next-low m 0x26) ∙ eqb→eq _ _ (below 16 (λ k. eqb (nextOf k 0x26) (k % 4)) tt (m % 16) (mod-lt m (lit< tt))) ∙ e
 
 pub cleared-tile : (m : ℕ) → clearedBy 2 m ≡ m % 2
-unfolding nextOf kindOf clearedBy syncOf
+unfolding nextOf kindOf clearedBy syncAt
 cleared-tile m =
     let e : m % 16 % 2 ≡ m % 2 = omega arith in
     sym (next-low m 0x28) ∙ eqb→eq _ _ (below 16 (λ k. eqb (nextOf k 0x28) (k % 2)) tt (m % 16) (mod-lt m (lit< tt))) ∙ e
 
 pub cleared-pipe : (a m : ℕ) → clearedBy (suc (suc (suc a))) m ≡ 0
-unfolding nextOf kindOf clearedBy syncOf
+unfolding nextOf kindOf clearedBy syncAt
 cleared-pipe a m = refl
 
 pub pipe-serves : (a m n : ℕ) → requiredOf (clearedBy (suc (suc (suc a))) m) n ≡ 0
 pipe-serves a m n = ap (λ (k : ℕ). requiredOf k n) (cleared-pipe a m) ∙ required-idle n
 
-pub wait-some : (a : ℕ) → 25 ≤ waitOf (suc a)
-unfolding waitOf
-wait-some zero = omega arith
-wait-some (suc zero) = omega arith
-wait-some (suc (suc a)) = omega arith
+pub wait-some : (s : Sync) → 25 ≤ syncWait s
+wait-some loadSync = omega arith
+wait-some tileSync = omega arith
+wait-some pipeSync = omega arith
 
 left : ℕ → ℕ → ℕ
 left zero m = m
@@ -85,7 +92,7 @@ cleared-left (suc (suc zero)) m = cleared-tile m
 cleared-left (suc (suc (suc a))) m = cleared-pipe a m
 
 two-left : (a b m : ℕ) → (d : ℕ) × (left b (left a m) ≡ left d m) × (waitOf d ≤ max (waitOf a) (waitOf b))
-unfolding left waitOf
+unfolding left waitOf syncAt
 two-left zero b m = (b, refl, omega arith)
 two-left (suc zero) zero m = (1, refl, omega arith)
 two-left (suc zero) (suc zero) m = (1, omega arith, omega arith)
@@ -107,7 +114,7 @@ two-as-one a b m =
     (t .0, cleared-left b (clearedBy a m) ∙ ap (left b) (cleared-left a m) ∙ t .1 ∙ sym (cleared-left (t .0) m), t .2)
 
 pub wait-most : (a : ℕ) → waitOf a ≤ 50
-unfolding waitOf
+unfolding waitOf syncAt
 wait-most zero = omega arith
 wait-most (suc zero) = omega arith
 wait-most (suc (suc zero)) = omega arith

@@ -1,21 +1,21 @@
 -- An option's word, and what one command adds to the output. Assumes nothing.
 use mathlib.Core.Path.{_≡_, refl, sym, ap, _∙_}
 use mathlib.Core.List.{List, [], _∷_, _++_, append-assoc}
-use Prim.Native.Nat.{ℕ, zero, suc, _+_, _*_, _/_, _%_, _<_, _≤_}
+use Prim.Native.Nat.{ℕ, zero, suc, pred, _+_, _*_, _/_, _%_, _<_, _≤_}
 use native.Mathlib.Nat.{not-suc-le-zero}
 use native.Mathlib.Omega.{arith}
-use lib.ListN.{length, getD, take, drop, length-append, take-append-drop}
+use lib.ListN.{length, getD, take, drop, replicate, length-append, take-append-drop}
 use lib.Seq.{drop-drop, length-take-le}
 use Rattle.rdp_command.specs.Words.{overwrite, pasted}
 use Rattle.rdp_command.proofs.Bytes.{pasted-after}
 use Rattle.rdp_check.specs.Commands.{joined}
-use Rattle.rdp_check.specs.Inserted.{syncWord}
-use Rattle.rdp_check.specs.Plan.{syncOf, withOption, applied}
+use Rattle.rdp_check.specs.Syncs.{pipeSync, syncNumber}
+use Rattle.rdp_check.specs.Plan.{syncAt, withOption, applied}
 use Rattle.rdp_check.specs.Work.{optionsIn, optionBytes}
 use Rattle.rdp_check.proofs.ForwardLaws.{options-at}
 
-pub sync-other : (a : ℕ) → 0 < a → (a ≡ 1 → ⊥) → (a ≡ 2 → ⊥) → 0x27 ≡ syncOf a
-unfolding syncOf
+pub sync-other : (a : ℕ) → 0 < a → (a ≡ 1 → ⊥) → (a ≡ 2 → ⊥) → syncNumber pipeSync ≡ syncNumber (syncAt (pred a))
+unfolding syncAt
 sync-other zero h x y = absurd (not-suc-le-zero h)
 sync-other (suc zero) h x y = absurd (x refl)
 sync-other (suc (suc zero)) h x y = absurd (y refl)
@@ -25,10 +25,10 @@ pub option-none : (a : ℕ) → a ≡ 0 → optionBytes a ≡ []
 unfolding optionBytes
 option-none a e = ap optionBytes e
 
-pub option-word : (a n : ℕ) → (a ≡ 0 → ⊥) → n ≡ syncOf a → optionBytes a ≡ syncWord n
+pub option-word : (a n : ℕ) → (a ≡ 0 → ⊥) → n ≡ syncNumber (syncAt (pred a)) → optionBytes a ≡ n ∷ replicate 7 0
 unfolding optionBytes
 option-word zero n h e = absurd (h refl)
-option-word (suc a) n h e = ap syncWord (sym e)
+option-word (suc a) n h e = ap (λ (k : ℕ). k ∷ replicate 7 0) (sym e)
 
 -- ---- writing at an index
 
@@ -54,11 +54,9 @@ pasted-append to a b out h =
 -- ---- a command with its option
 
 joined-with : (a : ℕ) (c : List ℕ) (cs : List (List ℕ)) → joined (withOption a c cs) ≡ optionBytes a ++ (c ++ joined cs)
-unfolding withOption optionBytes syncOf
+unfolding withOption optionBytes
 joined-with zero c cs = refl
-joined-with (suc zero) c cs = refl
-joined-with (suc (suc zero)) c cs = refl
-joined-with (suc (suc (suc a))) c cs = refl
+joined-with (suc a) c cs = refl
 
 pub applied-next :
     (c : List ℕ) (cs : List (List ℕ)) (work : List ℕ) (i m : ℕ) →

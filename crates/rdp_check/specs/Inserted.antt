@@ -3,19 +3,13 @@ use Prim.Native.Nat.{ℕ, _+_}
 use mathlib.Core.List.{List, [], _∷_}
 use mathlib.Core.Path.{_≡_}
 use Rattle.rdp_check.specs.Commands.{commandsOf, restOf, joined}
+use Rattle.rdp_check.specs.Syncs.{Sync, syncWait, syncWord}
 
--- a sync: its number in bits 61:56, all other bits 0
-abbrev pub syncWord : ℕ → List ℕ
-syncWord n = n ∷ 0 ∷ 0 ∷ 0 ∷ 0 ∷ 0 ∷ 0 ∷ 0 ∷ []
-
--- the second list of commands is the first with syncs, any number or none, inserted before, between and after its commands. The number is their cycles:
--- 25 for each Load, 33 for each Tile and 50 for each Pipe
+-- the second list of commands is the first with syncs, any number or none, inserted before, between and after its commands. The number is their cycles
 pub data Inserted : List (List ℕ) → List (List ℕ) → ℕ → Type 0 where
   end : Inserted [] [] 0
   keep : {c : List ℕ} {cs ds : List (List ℕ)} {k : ℕ} → Inserted cs ds k → Inserted (c ∷ cs) (c ∷ ds) k
-  insertLoad : {cs ds : List (List ℕ)} {k : ℕ} → Inserted cs ds k → Inserted cs (syncWord 0x26 ∷ ds) (25 + k)
-  insertTile : {cs ds : List (List ℕ)} {k : ℕ} → Inserted cs ds k → Inserted cs (syncWord 0x28 ∷ ds) (33 + k)
-  insertPipe : {cs ds : List (List ℕ)} {k : ℕ} → Inserted cs ds k → Inserted cs (syncWord 0x27 ∷ ds) (50 + k)
+  insert : (s : Sync) {cs ds : List (List ℕ)} {k : ℕ} → Inserted cs ds k → Inserted cs (syncWord s ∷ ds) (syncWait s + k)
 
 -- list s is whole commands, and list t is s with syncs of k cycles inserted, none inside a command
 unfoldable pub MadeByInserting : List ℕ → List ℕ → ℕ → Type 0

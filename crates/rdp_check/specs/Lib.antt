@@ -4,10 +4,12 @@ pub mod Registers
 pub mod Order
 pub mod Check
 pub mod Refusals
+pub mod Syncs
 pub mod Marks
 pub mod View
 pub mod RegisterWords
 pub mod Inserted
 pub mod Plan
-pub mod Work
 pub mod Repair
+pub mod Best
+pub mod Work

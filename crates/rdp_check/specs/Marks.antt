@@ -7,6 +7,7 @@ use lib.Dec.{T}
 use Rattle.rdp_command.specs.Kinds.{among, between, hasBit}
 use Rattle.rdp_command.specs.Decode.{firstNumber}
 use Rattle.rdp_check.specs.Hazards.{Hazards}
+use Rattle.rdp_check.specs.Syncs.{loadSync, tileSync, pipeSync, syncNumber}
 use Rattle.rdp_check.specs.Check.{draws}
 
 -- none of some commands has one of these numbers
@@ -30,15 +31,18 @@ textured n = (between 0x08 0x0F n && hasBit 2 n) || among n (0x24 ∷ 0x25 ∷ [
 abbrev pub loads : ℕ → Bool
 loads n = among n (0x30 ∷ 0x33 ∷ 0x34 ∷ [])
 
--- the syncs that clear a mark: those that its definition names, Load 0x26, Tile 0x28, Pipe 0x27; and Sync Full, 0x29
+-- the syncs that clear a mark: those that its definition names, and Sync Full
+abbrev pub syncFull : ℕ
+syncFull = 0x29
+
 abbrev pub pipeOrFull : ℕ → Bool
-pipeOrFull n = among n (0x27 ∷ 0x29 ∷ [])
+pipeOrFull n = among n (syncNumber pipeSync ∷ syncFull ∷ [])
 
 abbrev pub tilePipeOrFull : ℕ → Bool
-tilePipeOrFull n = among n (0x28 ∷ 0x27 ∷ 0x29 ∷ [])
+tilePipeOrFull n = among n (syncNumber tileSync ∷ syncNumber pipeSync ∷ syncFull ∷ [])
 
 abbrev pub anySync : ℕ → Bool
-anySync n = among n (0x26 ∷ 0x28 ∷ 0x27 ∷ 0x29 ∷ [])
+anySync n = among n (syncNumber loadSync ∷ syncNumber tileSync ∷ syncNumber pipeSync ∷ syncFull ∷ [])
 
 abbrev pub Exactly : Bool → Type 0 → Type 0
 Exactly b P = (T b → P) × (P → T b)

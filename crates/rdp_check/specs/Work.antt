@@ -8,8 +8,9 @@ use lib.ListN.{length, getD, drop}
 use Rattle.rdp_command.specs.Words.{overwrite, pasted}
 use Rattle.rdp_check.specs.Hazards.{nextOf, requiredOf}
 use Rattle.rdp_check.specs.Commands.{commandsOf, restOf, joined}
-use Rattle.rdp_check.specs.Inserted.{syncWord}
-use Rattle.rdp_check.specs.Plan.{Choice, chosen, best, plan, applied, numbersOf, syncOf}
+use Rattle.rdp_check.specs.Syncs.{syncWord}
+use Rattle.rdp_check.specs.Plan.{syncAt, waitOf, applied}
+use Rattle.rdp_check.specs.Best.{Choice, chosen, best, plan, numbersOf}
 use Rattle.rdp_check.specs.declared.repairing.Planned.{Planned}
 
 -- f 0, f 1, .., f (n - 1)
@@ -28,9 +29,13 @@ packed ch = 16 * ch .option + ch .next
 unfoldable pub bareRank : ℕ → (ℕ → ℕ) → ℕ → ℕ
 bareRank n f m = 64 * f (nextOf m n) + nextOf m n + cond (eqb (requiredOf m n) 0) 0 0x1000000
 
--- the least rank of Load, Tile and Pipe at hazards of which P and T are m, by the ranks of nothing: 64 times the cycles and 16 times the option are added
+-- what an option adds to a rank: 64 times its cycles, and 16 times the option
+abbrev pub optionRank : ℕ → ℕ
+optionRank a = 64 * waitOf a + 16 * a
+
+-- the least rank of Load, Tile and Pipe at hazards of which P and T are m, by the ranks of nothing
 unfoldable pub syncedRank : (ℕ → ℕ) → ℕ → ℕ
-syncedRank g m = min (g m + 1616) (min (g (m % 2) + 2144) (g 0 + 3248))
+syncedRank g m = min (g m + optionRank 1) (min (g (m % 2) + optionRank 2) (g 0 + optionRank 3))
 
 -- the totals and the choices before command number n at each of the sixteen hazard states, where the rest costs f
 unfoldable pub totalsOf : ℕ → (ℕ → ℕ) → List ℕ
@@ -73,7 +78,7 @@ insertsOf (a ∷ p) = min a 1 + insertsOf p
 -- the bytes of an option's sync
 unfoldable pub optionBytes : ℕ → List ℕ
 optionBytes zero = []
-optionBytes (suc a) = syncWord (syncOf (suc a))
+optionBytes (suc a) = syncWord (syncAt a)
 
 -- the bytes of the commands of a list with the plan that the work buffer holds
 abbrev pub dueBytes : List ℕ → List ℕ → List ℕ

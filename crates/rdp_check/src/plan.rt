@@ -6,6 +6,13 @@ ghost use Rattle.rdp_check.specs.Hazards.{Agrees};
 ghost use Rattle.rdp_check.specs.Work.{tabulate, bareRank, syncedRank, Bounded, RowIs};
 use crate::hazards;
 
+// What each sync adds to a rank: 64 times the cycles that it waits, and 16 times its option.
+const LOAD: u32 = 64 * 25 + 16;
+
+const TILE: u32 = 64 * 33 + 32;
+
+const PIPE: u32 = 64 * 50 + 48;
+
 // The totals before a command at the sixteen hazard states, and the choices there: 16 times the option, and the next hazards.
 pub struct Row {
     pub totals: [u32; 16],
@@ -53,9 +60,9 @@ fn synced_rank(ranks: &[u32; 16], m: usize) -> u32
     requires { ⌜ (m < 4) × Bounded 0x2000000 (now ranks) ⌝ }
     ensures { λ r. ⌜ r ≡ syncedRank (λ k. getD (now (ranks .entry)) k 0) m ⌝ }
 {
-    let pipe = ranks[0] + 3248;
-    let tile = lesser(ranks[m % 2] + 2144, pipe);
-    lesser(ranks[m] + 1616, tile)
+    let pipe = ranks[0] + PIPE;
+    let tile = lesser(ranks[m % 2] + TILE, pipe);
+    lesser(ranks[m] + LOAD, tile)
 }
 
 // The least ranks with a sync, which leaves no hazards but P and T.

@@ -1,18 +1,26 @@
 // The passes of the repair over a list of whole commands: numbers, choices from the back, words to insert, output.
 ghost use mathlib.Core.List.{_++_};
 ghost use mathlib.Core.Path.{_≡_};
-ghost use Prim.Native.Nat.{_+_, _*_, _/_, _<_, _≤_, min};
+ghost use Prim.Native.Nat.{pred, _+_, _*_, _/_, _<_, _≤_, min};
 ghost use lib.ListN.{length, take, drop, replicate};
 ghost use Rattle.rdp_command.specs.Words.{wordAt, numberIn, overwrite, pasted};
 ghost use Rattle.rdp_check.specs.Commands.{commandsOf};
 ghost use Rattle.rdp_check.specs.Hazards.{Agrees};
 ghost use Rattle.rdp_check.specs.Check.{repairRefusals, outcomeWithin};
-ghost use Rattle.rdp_check.specs.Plan.{syncOf};
+ghost use Rattle.rdp_check.specs.Syncs.{syncNumber};
+ghost use Rattle.rdp_check.specs.Plan.{syncAt};
 ghost use Rattle.rdp_check.specs.Work.{notedIn, optionsIn, insertsOf, Below, optionBytes, dueBytes, WholeList, NotedIs, BackwardIs, PlannedIs, WrittenIs};
 ghost use Rattle.rdp_check.specs.Repair.{RepairIs};
 use crate::Repaired;
 use crate::plan;
 use crate::table;
+
+// The command numbers of the syncs.
+const SYNC_LOAD: u8 = 0x26;
+
+const SYNC_TILE: u8 = 0x28;
+
+const SYNC_PIPE: u8 = 0x27;
 
 // The number of the command at a place.
 fn number_at(list: &[u8], place: usize) -> u8
@@ -114,12 +122,12 @@ fn count_inserts(work: &[u8], commands: usize) -> usize
 // The command number of an option's sync.
 fn sync_of(option: u8) -> u8
     requires { ⌜ 0 < option ⌝ }
-    ensures { λ r. ⌜ r ≡ syncOf option ⌝ }
+    ensures { λ r. ⌜ r ≡ syncNumber (syncAt (pred option)) ⌝ }
 {
     match option {
-        1 => 0x26,
-        2 => 0x28,
-        _ => 0x27,
+        1 => SYNC_LOAD,
+        2 => SYNC_TILE,
+        _ => SYNC_PIPE,
     }
 }
 

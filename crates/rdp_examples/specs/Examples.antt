@@ -8,6 +8,7 @@ use Rattle.rdp_command.specs.Words.{bytesOf}
 use Rattle.rdp_check.specs.Commands.{commandsOf}
 use Rattle.rdp_check.specs.Check.{checkOf}
 use Rattle.rdp_check.specs.Repair.{repairOf, outAfter, workAfter}
+use Rattle.rdp_check.specs.Best.{repairedBytes, leastCycles}
 use Rattle.rdp_draw.specs.Draw.{drawAnswer, drawMemory}
 
 -- ---- the paper's words
@@ -123,7 +124,8 @@ checksRight list number place hazards =
     let r = checkOf list in
     (eqb (r .number) number && eqb (r .place) place) && eqb (r .hazards) hazards
 
--- the work buffer and the output have a word more than is needed, which stays
+-- the repair is computed by the plan that it finds, which its contract determines (`repair-computes` of rdp_check). The work buffer and the output have
+-- a word more than is needed, which stays
 abbrev pub repairsRight : List ℕ → List ℕ → ℕ → Bool
 repairsRight given repaired cycles =
     let list : List ℕ = bytesIn given in
@@ -131,9 +133,10 @@ repairsRight given repaired cycles =
     let cleared : ℕ = 16 * length (commandsOf list) in
     let work : List ℕ = replicate (cleared + 8) 0xFF in
     let out : List ℕ = replicate (length written + 8) 0xFF in
-    let r = repairOf list (length work) (length out) in
+    let least : List ℕ = repairedBytes list in
+    let r = repairOf list (length least) (leastCycles list) (length work) (length out) in
     ((eqb (r .number) 0 && eqb (r .place) (length repaired)) && eqb (r .cycles) cycles) &&
-    (sameList (outAfter r list out) (written ++ left) && sameList (workAfter r list work) (zeros cleared ++ left))
+    (sameList (outAfter r least out) (written ++ left) && sameList (workAfter r list work) (zeros cleared ++ left))
 
 abbrev pub drawsRight : List ℕ → List ℕ → ℕ → ℕ → List ℕ → Bool
 drawsRight words memory number place after =

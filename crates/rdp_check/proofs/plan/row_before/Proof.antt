@@ -4,7 +4,7 @@ use Prim.Native.Nat.{ℕ, _-_, _/_, _%_, min, _<_, _≤_}
 use native.Mathlib.Omega.{arith}
 use borrow.Author.Needs.{needs}
 use lib.ListN.{length, getD, length-set}
-use Rattle.rdp_check.specs.Plan.{chosen}
+use Rattle.rdp_check.specs.Best.{chosen}
 use Rattle.rdp_check.specs.Work.{packed, totalsOf, choicesOf, Bounded}
 use Rattle.rdp_check.proofs.RankLaws.{rankOf, least-held, total-of, choice-of, bare-most}
 use Rattle.rdp_check.proofs.TabulateLaws.{Holds, holds-more, holds-all, tabulate-same, tabulate-most}

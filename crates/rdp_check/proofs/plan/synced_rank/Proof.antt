@@ -4,7 +4,8 @@ use Prim.Native.Nat.{_+_, _%_, min}
 use native.Mathlib.Omega.{arith}
 use borrow.Author.Needs.{needs}
 use lib.ListN.{getD}
-use Rattle.rdp_check.specs.Work.{syncedRank}
+use Rattle.rdp_check.specs.Plan.{syncAt, waitOf}
+use Rattle.rdp_check.specs.Work.{optionRank, syncedRank}
 use Rattle.rdp_check.proofs.plan.synced_rank.Statement.{statement}
 use Rattle.rdp_check.proofs.plan.synced_rank.Tie as tie
 
@@ -39,10 +40,10 @@ lesser-requires-2 : tie.Need-lesser-requires-2
 lesser-requires-2 c κs = search needs
 
 returns : tie.Need-returns
-unfolding syncedRank
+unfolding syncedRank waitOf syncAt
 returns c =
     let a = c .before .before .before .before .before .args in
-    c .lesser2 .ensures ∙ (λ i. min (getD (a .ranks .now) (a .m) 0 + 1616) (c .before .before .lesser .ensures i))
+    c .lesser2 .ensures ∙ (λ i. min (getD (a .ranks .now) (a .m) 0 + optionRank 1) (c .before .before .lesser .ensures i))
 
 pub synced-rank-spec : {M : Type 1} → statement M
 synced-rank-spec =

@@ -4,7 +4,7 @@ use mathlib.Core.List.{List}
 use Prim.Native.Nat.{ℕ, suc, _*_, _-_, _<_, _≤_}
 use native.Mathlib.Omega.{arith}
 use lib.ListN.{length, getD, drop}
-use Rattle.rdp_check.specs.Plan.{best}
+use Rattle.rdp_check.specs.Best.{best}
 use Rattle.rdp_check.specs.Work.{tabulate, notedIn}
 use Rattle.rdp_check.proofs.BackLaws.{backTo, back-start, back-end, no-numbers-left, length-back, length-choices, number-below, totals-bounded, turn-totals, turn-work}
 use Rattle.rdp_check.proofs.repairing.backward.Statement.{statement}

@@ -6,7 +6,7 @@ use native.Mathlib.Omega.{arith}
 use borrow.Author.Needs.{needs}
 use lib.ListN.{length}
 use Rattle.rdp_check.specs.Commands.{commandsOf}
-use Rattle.rdp_check.specs.Plan.{plan, numbersOf}
+use Rattle.rdp_check.specs.Best.{plan, numbersOf}
 use Rattle.rdp_check.specs.Work.{NotedIs, Below, workOf, optionsIn, insertsOf}
 use Rattle.rdp_command.specs.Words.{overwrite}
 use Rattle.rdp_check.proofs.RepairedLaws.{count-most, inserts-few}

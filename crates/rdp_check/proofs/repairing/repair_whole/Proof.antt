@@ -7,7 +7,7 @@ use borrow.Author.Needs.{needs}
 use lib.ListN.{length, replicate}
 use Rattle.rdp_command.specs.Words.{overwrite}
 use Rattle.rdp_check.specs.Commands.{commandsOf}
-use Rattle.rdp_check.specs.Repair.{repairedBytes}
+use Rattle.rdp_check.specs.Best.{repairedBytes}
 use Rattle.rdp_check.proofs.RepairLaws.{whole-list, commands-few, words-needed, choices-below, due-held, work-cleared, refused-out, repaired-is}
 use Rattle.rdp_check.proofs.repairing.repair_whole.Statement.{statement}
 use Rattle.rdp_check.proofs.repairing.repair_whole.Tie as tie

@@ -1,17 +1,19 @@
--- `rdp_check::repairing::sync_of` meets its contract: each arm is a clause of `syncOf`. Assumes nothing.
+-- `rdp_check::repairing::sync_of` meets its contract: each arm is a clause of `syncAt`. Assumes nothing.
 use mathlib.Core.Path.{sym, ap}
-use Rattle.rdp_check.specs.Plan.{syncOf}
+use Prim.Native.Nat.{ℕ, pred}
+use Rattle.rdp_check.specs.Syncs.{syncNumber}
+use Rattle.rdp_check.specs.Plan.{syncAt}
 use Rattle.rdp_check.proofs.WriteLaws.{sync-other}
 use Rattle.rdp_check.proofs.repairing.sync_of.Statement.{statement}
 use Rattle.rdp_check.proofs.repairing.sync_of.Tie as tie
 
 returns : tie.Need-returns
-unfolding syncOf
-returns c = ap syncOf (sym (c .match .keys1))
+unfolding syncAt
+returns c = ap (λ (a : ℕ). syncNumber (syncAt (pred a))) (sym (c .match .keys1))
 
 returns-2 : tie.Need-returns-2
-unfolding syncOf
-returns-2 c = ap syncOf (sym (c .match .keys2))
+unfolding syncAt
+returns-2 c = ap (λ (a : ℕ). syncNumber (syncAt (pred a))) (sym (c .match .keys2))
 
 returns-3 : tie.Need-returns-3
 returns-3 c = sync-other (c .before .args .option) (c .before .pre) (c .match .rest .0 .1) (c .match .rest .1)
