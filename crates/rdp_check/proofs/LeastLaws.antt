@@ -10,7 +10,7 @@ use lib.ListN.{length, length-map}
 use Rattle.rdp_command.specs.Decode.{firstNumber}
 use Rattle.rdp_check.specs.Hazards.{nextOf, requiredOf}
 use Rattle.rdp_check.specs.Inserted.{Inserted, end, keep, insert}
-use Rattle.rdp_check.specs.Syncs.{Sync, syncNumber, syncWait, syncWord}
+use Rattle.rdp_check.specs.Syncs.{Sync, syncWait, syncWord}
 use Rattle.rdp_check.specs.Plan.{syncAt, waitOf, withOption, applied, cyclesOf, FirstOf, same, next, less}
 use Rattle.rdp_check.specs.Best.{Choice, clearedBy, totalWith, choiceOf, chosen, best, plan, planned}
 use Rattle.rdp_check.proofs.SyncLaws.{sync-number, sync-requires, by-option, two-as-one, wait-some}

@@ -4,7 +4,7 @@ pub mod ListLaws
 pub mod JoinLaws
 pub mod KeptLaws
 pub mod ViewLaws
-pub mod JudgedLaws
+pub mod AppendLaws
 pub mod StopLaws
 pub mod WalkLaws
 pub mod RegisterLaws

@@ -1,7 +1,7 @@
 -- The repaired list is a least repair of the given one, and a list that passes is repaired into itself. Assumes nothing.
 use mathlib.Core.Path.{_≡_, refl, sym, ap, _∙_, subst}
 use mathlib.Core.List.{List, [], _∷_}
-use Prim.Native.Nat.{ℕ, zero, suc, _+_, _*_, _/_, _%_, min, _≤_}
+use Prim.Native.Nat.{ℕ, zero, suc, _+_, _*_, _%_, min, _≤_}
 use native.Mathlib.Nat.{le-antisymm}
 use native.Mathlib.Omega.{arith}
 use lib.Dec.{eqb, ltb}
@@ -19,7 +19,7 @@ use Rattle.rdp_check.specs.Syncs.{Sync, loadSync, tileSync, pipeSync, sy
 use Rattle.rdp_check.specs.Plan.{syncAt, withOption, applied, waitOf, cyclesOf}
 use Rattle.rdp_check.specs.Best.{best, plan, numbersOf, planned, repairedBytes, leastCycles}
 use Rattle.rdp_check.specs.Work.{insertsOf}
-use Rattle.rdp_check.specs.Repair.{Makes, LeastRepair, repairAnswer, repairOf}
+use Rattle.rdp_check.specs.Repair.{Makes, LeastRepair}
 use Rattle.rdp_check.proofs.SyncLaws.{wait-some}
 use Rattle.rdp_check.proofs.LeastLaws.{Passes, length-plan, cycles-plan, applied-inserted, planned-inserted, planned-passes, planned-least, plan-first, Single, least-single, first-unique}
 use Rattle.rdp_check.proofs.JoinLaws.{Alone, AllAlone, commands-joined, rest-joined, length-joined, count-joined, parsed, joined-whole}

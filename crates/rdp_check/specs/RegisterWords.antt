@@ -1,5 +1,5 @@
 -- The registers as the words that last set them: a slot for each, with 0 before the first such word. A word that sets a register has the number of its
--- command in it, so it is not 0.
+-- command in it, so it is not 0. No public contract cites this.
 use Prim.Native.Nat.{ℕ, _+_, _-_, _*_, _/_, _%_, _^_, _<_}
 use mathlib.Core.Bool.{Bool, cond, not, _&&_}
 use mathlib.Core.List.{List, [], _∷_}
