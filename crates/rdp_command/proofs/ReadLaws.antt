@@ -7,7 +7,8 @@ use Rattle.rdp_command.specs.Layout.{layout, otherModesLines}
 use Rattle.rdp_command.specs.Fields.{fieldsOf}
 use Rattle.rdp_command.specs.Groups.{otherModesOf}
 use Rattle.rdp_command.specs.Commands.{commandOf, numberOf}
-use Rattle.rdp_command.specs.Decode.{firstNumber, wholeWords, ownWords, commandIn, decodeOf, cycleTypeIn, scissorIn, rectangleIn, fillColorIn, colorImageIn}
+use Rattle.rdp_command.specs.Decode.{firstNumber, wholeWords, ownWords, commandIn, decodeOf}
+use Rattle.rdp_command.specs.Reads.{cycleTypeIn, scissorIn, rectangleIn, fillColorIn, colorImageIn}
 use Rattle.rdp_command.specs.declared.Command.{Command}
 use Rattle.rdp_command.specs.declared.Command.the-variants.{SetOtherModes, SetScissor, SetColorImage, SetFillColor, FillRectangle}
 use Rattle.rdp_command.specs.declared.Decoded.the-variants.{Whole}

@@ -6,17 +6,10 @@ use lib.Dec.{eqb, ltb}
 use lib.ListN.{length, take, drop}
 use Rattle.rdp_command.specs.Words.{wordAt, numberIn}
 use Rattle.rdp_command.specs.Kinds.{wordsOf}
-use Rattle.rdp_command.specs.Layout.{layout, scissorLines, otherModesLines, rectangleLines, fillColorLines, colorImageLines}
+use Rattle.rdp_command.specs.Layout.{layout}
 use Rattle.rdp_command.specs.Fields.{fieldsOf}
-use Rattle.rdp_command.specs.Groups.{natAt, scissorOf, otherModesOf, rectangleOf, imageOf}
 use Rattle.rdp_command.specs.Commands.{commandOf}
 use Rattle.rdp_command.specs.declared.Command.{Command}
-use Rattle.rdp_command.specs.declared.Scissor.{Scissor}
-use Rattle.rdp_command.specs.declared.Rectangle.{Rectangle}
-use Rattle.rdp_command.specs.declared.Image.{Image}
-use Rattle.rdp_command.specs.declared.Head.{Head}
-use Rattle.rdp_command.specs.declared.FillWords.{FillWords}
-use Rattle.rdp_command.specs.declared.FillFields.{FillFields}
 use Rattle.rdp_command.specs.declared.Decoded.{Decoded}
 use Rattle.rdp_command.specs.declared.Decoded.the-variants.{Whole, Refused}
 
@@ -39,43 +32,6 @@ ownWords bs n = wordAt bs 0 ∷ ownWord bs n 1 ∷ ownWord bs n 2 ∷ ownWord bs
 -- the command of a number out of its words
 abbrev pub commandIn : ℕ → List ℕ → Command
 commandIn n ws = commandOf n (fieldsOf (layout n) ws)
-
--- Each of the next five takes a word for the first word of a command.
-
--- the cycle type of a Set Other Modes
-abbrev pub cycleTypeIn : ℕ → ℕ
-cycleTypeIn w = otherModesOf (fieldsOf otherModesLines (w ∷ [])) .«cycle_type»
-
--- the scissor of a Set Scissor
-abbrev pub scissorIn : ℕ → Scissor
-scissorIn w = scissorOf (fieldsOf scissorLines (w ∷ []))
-
--- the rectangle of a Fill Rectangle
-abbrev pub rectangleIn : ℕ → Rectangle
-rectangleIn w = rectangleOf (fieldsOf rectangleLines (w ∷ []))
-
--- the colour of a Set Fill Color
-abbrev pub fillColorIn : ℕ → ℕ
-fillColorIn w = natAt (fieldsOf fillColorLines (w ∷ [])) 0
-
--- the image of a Set Color Image
-abbrev pub colorImageIn : ℕ → Image
-colorImageIn w = imageOf (fieldsOf colorImageLines (w ∷ []))
-
--- what the check reads of a word
-abbrev pub headOf : ℕ → Head
-headOf w = record { number = numberIn w; «cycle_type» = cycleTypeIn w; «image_size» = colorImageIn w .size }
-
--- a fill rectangle by its word, with the fields of the words that set what it is drawn under
-abbrev pub fillFields : FillWords → ℕ → FillFields
-fillFields set w =
-    record {
-      «cycle_type» = cycleTypeIn (set .modes);
-      rectangle = rectangleIn w;
-      scissor = scissorIn (set .scissor);
-      image = colorImageIn (set .image);
-      color = fillColorIn (set .color);
-    }
 
 -- what decoding answers: 3 at 0 where the words of the first command are not all there, else the command
 unfoldable pub decodeOf : List ℕ → Decoded

@@ -6,6 +6,7 @@ pub mod Fields
 pub mod Groups
 pub mod Commands
 pub mod Decode
+pub mod Reads
 pub mod Encode
 pub mod Numbers
 pub mod Steps

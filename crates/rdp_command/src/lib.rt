@@ -4,14 +4,16 @@ ghost use Prim.Native.Nat.{_+_};
 ghost use denote.Ref.{ptr};
 ghost use Rattle.rdp_command.specs.Words.{wordAt};
 ghost use Rattle.rdp_command.specs.Kinds.{wordsOf};
-ghost use Rattle.rdp_command.specs.Decode.{headOf, fillFields, decodeOf, suffixOf, suffixStart};
+ghost use Rattle.rdp_command.specs.Decode.{decodeOf, suffixOf, suffixStart};
+ghost use Rattle.rdp_command.specs.Reads.{headOf, fillFields, registerFields, tileFields};
 ghost use Rattle.rdp_command.specs.Encode.{encodeAnswer, encodeOut};
 ghost use Rattle.rdp_command.specs.Numbers.{fieldsAnswer, fieldsOut, fromNumbers};
 
 mod decoding;
 mod encoding;
 mod packing;
-pub mod read;
+mod read;
+mod registers;
 mod table;
 mod values;
 mod words;
@@ -284,6 +286,77 @@ pub struct FillFields {
     pub color: u32,
 }
 
+// The first words of the commands that set the registers but the tiles, in the order of their numbers. 0 stands where none has come.
+#[repr(C)]
+pub struct RegisterWords {
+    pub key_gb: u64,
+    pub key_r: u64,
+    pub convert: u64,
+    pub scissor: u64,
+    pub primitive_depth: u64,
+    pub other_modes: u64,
+    pub fill_color: u64,
+    pub fog_color: u64,
+    pub blend_color: u64,
+    pub primitive_color: u64,
+    pub environment_color: u64,
+    pub combine_mode: u64,
+    pub texture_image: u64,
+    pub depth_image: u64,
+    pub color_image: u64,
+}
+
+// The colours of the registers.
+#[repr(C)]
+pub struct ColorFields {
+    pub fill: u32,
+    pub fog: Color,
+    pub blend: Color,
+    pub primitive: PrimitiveColor,
+    pub environment: Color,
+}
+
+// The colour combiner, chroma key and conversion.
+#[repr(C)]
+pub struct CombinerFields {
+    pub combine: u64,
+    pub key_gb: KeyGb,
+    pub key_r: KeyR,
+    pub convert: Convert,
+}
+
+// The other modes, the primitive depth and the scissor.
+#[repr(C)]
+pub struct ModeFields {
+    pub other: OtherModes,
+    pub depth: PrimitiveDepth,
+    pub scissor: Scissor,
+}
+
+// The colour, texture and depth images.
+#[repr(C)]
+pub struct ImageFields {
+    pub color: Image,
+    pub texture: Image,
+    pub depth: u32,
+}
+
+// The fields of the registers but the tiles.
+#[repr(C)]
+pub struct RegisterFields {
+    pub colors: ColorFields,
+    pub combiner: CombinerFields,
+    pub modes: ModeFields,
+    pub images: ImageFields,
+}
+
+// The fields of a tile: its descriptor, and the area that sets its size.
+#[repr(C)]
+pub struct TileFields {
+    pub descriptor: TileDescriptor,
+    pub area: TileArea,
+}
+
 // A decoded command.
 pub enum Command {
     // A no operation keeps its number.
@@ -360,6 +433,28 @@ pub fn fill_fields(set: FillWords, rectangle: u64) -> FillFields
         scissor: read::scissor(set.scissor),
         image: read::color_image(set.image),
         color: read::fill_color(set.color),
+    }
+}
+
+// The fields of the registers but the tiles, from the words that set them.
+pub fn register_fields(words: RegisterWords) -> RegisterFields
+    ensures { λ r. ⌜ r ≡ registerFields words ⌝ }
+{
+    RegisterFields {
+        colors: registers::colors(words),
+        combiner: registers::combiner(words),
+        modes: registers::modes(words),
+        images: registers::images(words),
+    }
+}
+
+// The fields of a tile, from the words that set its descriptor and its size.
+pub fn tile_fields(descriptor: u64, size: u64) -> TileFields
+    ensures { λ r. ⌜ r ≡ tileFields descriptor size ⌝ }
+{
+    TileFields {
+        descriptor: read::tile_descriptor(descriptor),
+        area: read::tile_area(size),
     }
 }
 

@@ -5,7 +5,7 @@ ghost use Prim.Native.Nat.{_*_, _<_, _≤_};
 ghost use Rattle.rdp_command.specs.Layout.{edgeLines, triangleBaseLines, textureStepLines, texturedRectangleLines, keyGbLines, keyRLines, convertLines, scissorLines, primitiveDepthLines, textureModesLines, blenderInputsLines, pixelModesLines, otherModesLines, tileAreaLines, blockLines, tileDescriptorLines, rectangleLines, colorLines, primitiveColorLines, combineModeLines, imageLines, depthImageLines, colorImageLines};
 ghost use Rattle.rdp_command.specs.Fields.{twosComplement, fieldsOf};
 ghost use Rattle.rdp_command.specs.Groups.{natAt, edgeOf, triangleBaseOf, textureStepOf, texturedRectangleOf, keyGbOf, keyROf, convertOf, scissorOf, primitiveDepthOf, textureModesOf, blenderInputsOf, pixelModesOf, otherModesOf, tileAreaOf, blockOf, tileDescriptorOf, rectangleOf, colorOf, primitiveColorOf, imageOf};
-ghost use Rattle.rdp_command.specs.Decode.{cycleTypeIn, fillColorIn, headOf};
+ghost use Rattle.rdp_command.specs.Reads.{cycleTypeIn, fillColorIn, headOf};
 use crate::words::number_in;
 use crate::*;
 

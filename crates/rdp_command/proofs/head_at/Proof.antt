@@ -1,6 +1,6 @@
 use mathlib.Core.Path.{ap, _∙_}
 use borrow.Author.Needs.{needs}
-use Rattle.rdp_command.specs.Decode.{headOf}
+use Rattle.rdp_command.specs.Reads.{headOf}
 use Rattle.rdp_command.proofs.head_at.Statement.{statement}
 use Rattle.rdp_command.proofs.head_at.Tie as tie
 

@@ -1,5 +1,5 @@
 use borrow.Author.Needs.{needs}
-use Rattle.rdp_command.specs.Decode.{headOf}
+use Rattle.rdp_command.specs.Reads.{headOf}
 use Rattle.rdp_command.proofs.read.head.Statement.{statement}
 use Rattle.rdp_command.proofs.read.head.Tie as tie
 
