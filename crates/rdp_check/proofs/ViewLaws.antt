@@ -9,7 +9,8 @@ use lib.Dec.{eqb}
 use Rattle.rdp_command.specs.Words.{wordAt}
 use Rattle.rdp_command.specs.Kinds.{kindOf, hasBit, wordsOf}
 use Rattle.rdp_command.specs.Commands.{numberOf}
-use Rattle.rdp_command.specs.Decode.{firstNumber, wholeWords, decodeOf, headOf}
+use Rattle.rdp_command.specs.Decode.{firstNumber, wholeWords, decodeOf}
+use Rattle.rdp_command.specs.Reads.{headOf}
 use Rattle.rdp_command.specs.declared.Command.{Command}
 use Rattle.rdp_command.proofs.Tests.{by-test, neither}
 use Rattle.rdp_check.specs.Hazards.{nextOf, requiredOf, entryOf}

@@ -7,7 +7,8 @@ use lib.Dec.{eqb, ltb}
 use Rattle.rdp_command.specs.Words.{wordAt}
 use Rattle.rdp_command.specs.Kinds.{among, hasBit, wordsOf}
 use Rattle.rdp_command.specs.declared.Head.{Head}
-use Rattle.rdp_command.specs.Decode.{firstNumber, headOf, decodeOf}
+use Rattle.rdp_command.specs.Decode.{firstNumber, decodeOf}
+use Rattle.rdp_command.specs.Reads.{headOf}
 use Rattle.rdp_check.specs.Hazards.{nextOf, requiredOf}
 use Rattle.rdp_check.specs.Commands.{commandsOf, restOf}
 use Rattle.rdp_check.specs.Check.{State, draws, Refusals, checkRefusals, repairRefusals, Outcome}

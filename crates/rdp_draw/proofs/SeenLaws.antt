@@ -11,7 +11,8 @@ use lib.ListN.{length, drop, length-drop}
 use Rattle.rdp_command.specs.Words.{wordAt, numberIn}
 use Rattle.rdp_command.specs.Kinds.{kindOf, hasBit, wordsOf}
 use Rattle.rdp_command.specs.Commands.{numberOf}
-use Rattle.rdp_command.specs.Decode.{firstNumber, wholeWords, decodeOf, cycleTypeIn, scissorIn, rectangleIn, fillColorIn, colorImageIn}
+use Rattle.rdp_command.specs.Decode.{firstNumber, wholeWords, decodeOf}
+use Rattle.rdp_command.specs.Reads.{cycleTypeIn, scissorIn, rectangleIn, fillColorIn, colorImageIn}
 use Rattle.rdp_command.specs.declared.Command.{Command}
 use Rattle.rdp_command.specs.declared.FillWords.{FillWords}
 use Rattle.rdp_command.specs.declared.FillFields.{FillFields}

@@ -6,7 +6,8 @@ use lib.Dec.{eqb}
 use lib.ListN.{length}
 use Rattle.rdp_command.specs.Words.{wordAt}
 use Rattle.rdp_command.specs.Kinds.{wordsOf}
-use Rattle.rdp_command.specs.Decode.{firstNumber, rectangleIn, decodeOf}
+use Rattle.rdp_command.specs.Decode.{firstNumber, decodeOf}
+use Rattle.rdp_command.specs.Reads.{rectangleIn}
 use Rattle.rdp_command.specs.declared.Answer.{Answer}
 use Rattle.rdp_check.specs.Order.{Ground, ground, firstOf, answer, placed}
 use Rattle.rdp_check.specs.Commands.{commandsOf}

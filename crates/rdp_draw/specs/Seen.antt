@@ -7,7 +7,7 @@ use lib.Dec.{eqb}
 use lib.ListN.{length, drop}
 use Rattle.rdp_command.specs.Words.{wordAt, numberIn}
 use Rattle.rdp_command.specs.Kinds.{among, wordsOf}
-use Rattle.rdp_command.specs.Decode.{cycleTypeIn, scissorIn, fillColorIn, colorImageIn, fillFields}
+use Rattle.rdp_command.specs.Reads.{cycleTypeIn, scissorIn, fillColorIn, colorImageIn, fillFields}
 use Rattle.rdp_command.specs.declared.Image.{Image}
 use Rattle.rdp_command.specs.declared.Scissor.{Scissor}
 use Rattle.rdp_command.specs.declared.FillWords.{FillWords}

@@ -2,7 +2,7 @@
 ghost use mathlib.Core.Path.{_≡_};
 ghost use Prim.Native.Nat.{_<_};
 ghost use Rattle.rdp_command.specs.Words.{wordAt};
-ghost use Rattle.rdp_command.specs.Decode.{fillFields};
+ghost use Rattle.rdp_command.specs.Reads.{fillFields};
 ghost use Rattle.rdp_check.specs.Check.{draws};
 ghost use Rattle.rdp_check.specs.Registers.{noRegisters};
 ghost use Rattle.rdp_draw.specs.Seen.{seen, sets, registersIn, setAfter, Reaches};

@@ -1,7 +1,7 @@
 -- `rdp_draw::walk::fill_at` meets its contract. Assumes nothing.
 use mathlib.Core.Path.{ap, _∙_}
 use borrow.Author.Needs.{needs}
-use Rattle.rdp_command.specs.Decode.{fillFields}
+use Rattle.rdp_command.specs.Reads.{fillFields}
 use Rattle.rdp_draw.proofs.walk.fill_at.Statement.{statement}
 use Rattle.rdp_draw.proofs.walk.fill_at.Tie as tie
 
