@@ -12,6 +12,7 @@ use Rattle.rdp_command.specs.Layout.{Line, keyGbLines, keyRLines, convertLines,
 use Rattle.rdp_command.specs.Fields.{Value, fieldsOf}
 use Rattle.rdp_command.specs.Groups.{natAt, keyGbOf, keyROf, convertOf, scissorOf, primitiveDepthOf, otherModesOf, tileAreaOf, tileDescriptorOf, colorOf, primitiveColorOf, imageOf}
 use Rattle.rdp_command.specs.Decode.{firstNumber}
+use Rattle.rdp_command.specs.declared.RegisterWords.{RegisterWords}
 use Rattle.rdp_check.specs.Registers.{colorsOf, combinerOf, modesOf, imagesOf}
 use Rattle.rdp_check.specs.declared.ColorRegister.{ColorRegister}
 use Rattle.rdp_check.specs.declared.Tile.{Tile}
@@ -117,3 +118,24 @@ word words k = getD words k 0
 
 abbrev pub registersIn : List ℕ → Registers
 registersIn words = registersBy (isSet words) (word words)
+
+-- the words of the registers but the tiles, as layer 1 reads them
+abbrev pub registerWords : List ℕ → RegisterWords
+registerWords words =
+    record {
+      «key_gb» = word words 0;
+      «key_r» = word words 1;
+      convert = word words 2;
+      scissor = word words 3;
+      «primitive_depth» = word words 4;
+      «other_modes» = word words 5;
+      «fill_color» = word words 6;
+      «fog_color» = word words 7;
+      «blend_color» = word words 8;
+      «primitive_color» = word words 9;
+      «environment_color» = word words 10;
+      «combine_mode» = word words 11;
+      «texture_image» = word words 12;
+      «depth_image» = word words 13;
+      «color_image» = word words 14;
+    }

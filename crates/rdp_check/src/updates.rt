@@ -3,11 +3,16 @@ ghost use mathlib.Core.Bool.{not};
 ghost use mathlib.Core.Path.{_≡_};
 ghost use Prim.Native.Nat.{_<_};
 ghost use lib.Dec.{eqb};
+ghost use Rattle.rdp_command.specs.Reads.{colorFields, combinerFields, modeFields, imageFields};
 ghost use Rattle.rdp_check.specs.Commands.{commandsOf};
-ghost use Rattle.rdp_check.specs.RegisterWords.{HoldSlots, slotOf, tileIn, wordsUpTo, colorBy, tileWith, isSet, word, colorsBy, combinerBy, modesBy, imagesBy, tilesBy, registersIn};
+ghost use Rattle.rdp_check.specs.RegisterWords.{HoldSlots, slotOf, tileIn, wordsUpTo, registerWords, tileWith, isSet, word, colorsBy, combinerBy, modesBy, imagesBy, tilesBy, registersIn};
 use crate::walk;
 use crate::*;
-use rdp_command::read;
+use rdp_command::ColorFields;
+use rdp_command::CombinerFields;
+use rdp_command::ImageFields;
+use rdp_command::ModeFields;
+use rdp_command::RegisterWords;
 
 // Where the word of a command goes, by its number: a slot, and 32 more where the tile counts.
 fn slot_table() -> [u8; 64]
@@ -114,102 +119,131 @@ pub fn replay_from(file: [u64; 32], list: &[u8], end: usize) -> [u64; 32]
     q
 }
 
-fn color_of(w: u64) -> ColorRegister
-    ensures { λ r. ⌜ r ≡ colorBy (not (eqb w 0)) w ⌝ }
+// The words of the registers but the tiles.
+fn words_in(file: &[u64; 32]) -> RegisterWords
+    ensures { λ r. ⌜ r ≡ registerWords (now (file .entry)) ⌝ }
 {
-    ColorRegister {
-        set: w != 0,
-        color: read::color(w),
+    RegisterWords {
+        key_gb: file[0],
+        key_r: file[1],
+        convert: file[2],
+        scissor: file[3],
+        primitive_depth: file[4],
+        other_modes: file[5],
+        fill_color: file[6],
+        fog_color: file[7],
+        blend_color: file[8],
+        primitive_color: file[9],
+        environment_color: file[10],
+        combine_mode: file[11],
+        texture_image: file[12],
+        depth_image: file[13],
+        color_image: file[14],
     }
 }
 
-fn colors_of(file: &[u64; 32]) -> Colors
+// Each group of registers has the fields of its words, and is set where its word is not 0.
+
+fn colors_of(file: &[u64; 32], fields: ColorFields) -> Colors
+    requires { ⌜ fields ≡ colorFields (registerWords (now file)) ⌝ }
     ensures { λ r. ⌜ r ≡ colorsBy (isSet (now (file .entry))) (word (now (file .entry))) ⌝ }
 {
-    let fill = file[6];
-    let primitive = file[9];
+    let fog = fields.fog;
+    let blend = fields.blend;
+    let primitive = fields.primitive;
+    let environment = fields.environment;
     Colors {
         fill: FillColorRegister {
-            set: fill != 0,
-            color: read::fill_color(fill),
+            set: file[6] != 0,
+            color: fields.fill,
         },
-        fog: color_of(file[7]),
-        blend: color_of(file[8]),
+        fog: ColorRegister {
+            set: file[7] != 0,
+            color: fog,
+        },
+        blend: ColorRegister {
+            set: file[8] != 0,
+            color: blend,
+        },
         primitive: PrimitiveColorRegister {
-            set: primitive != 0,
-            color: read::primitive_color(primitive),
+            set: file[9] != 0,
+            color: primitive,
         },
-        environment: color_of(file[10]),
+        environment: ColorRegister {
+            set: file[10] != 0,
+            color: environment,
+        },
     }
 }
 
-fn combiner_of(file: &[u64; 32]) -> Combiner
+fn combiner_of(file: &[u64; 32], fields: CombinerFields) -> Combiner
+    requires { ⌜ fields ≡ combinerFields (registerWords (now file)) ⌝ }
     ensures { λ r. ⌜ r ≡ combinerBy (isSet (now (file .entry))) (word (now (file .entry))) ⌝ }
 {
-    let combine = file[11];
-    let key_gb = file[0];
-    let key_r = file[1];
-    let convert = file[2];
+    let key_gb = fields.key_gb;
+    let key_r = fields.key_r;
+    let convert = fields.convert;
     Combiner {
         combine: CombineRegister {
-            set: combine != 0,
-            mode: read::combine_mode(combine),
+            set: file[11] != 0,
+            mode: fields.combine,
         },
         key_gb: KeyGbRegister {
-            set: key_gb != 0,
-            key: read::key_gb(key_gb),
+            set: file[0] != 0,
+            key: key_gb,
         },
         key_r: KeyRRegister {
-            set: key_r != 0,
-            key: read::key_r(key_r),
+            set: file[1] != 0,
+            key: key_r,
         },
         convert: ConvertRegister {
-            set: convert != 0,
-            convert: read::convert(convert),
+            set: file[2] != 0,
+            convert,
         },
     }
 }
 
-fn modes_of(file: &[u64; 32]) -> Modes
+fn modes_of(file: &[u64; 32], fields: ModeFields) -> Modes
+    requires { ⌜ fields ≡ modeFields (registerWords (now file)) ⌝ }
     ensures { λ r. ⌜ r ≡ modesBy (isSet (now (file .entry))) (word (now (file .entry))) ⌝ }
 {
-    let other = file[5];
-    let depth = file[4];
-    let scissor = file[3];
+    let other = fields.other;
+    let depth = fields.depth;
+    let scissor = fields.scissor;
     Modes {
         other: OtherModesRegister {
-            set: other != 0,
-            modes: read::other_modes(other),
+            set: file[5] != 0,
+            modes: other,
         },
         depth: PrimitiveDepthRegister {
-            set: depth != 0,
-            depth: read::primitive_depth(depth),
+            set: file[4] != 0,
+            depth,
         },
         scissor: ScissorRegister {
-            set: scissor != 0,
-            scissor: read::scissor(scissor),
+            set: file[3] != 0,
+            scissor,
         },
     }
 }
 
-fn images_of(file: &[u64; 32]) -> Images
+fn images_of(file: &[u64; 32], fields: ImageFields) -> Images
+    requires { ⌜ fields ≡ imageFields (registerWords (now file)) ⌝ }
     ensures { λ r. ⌜ r ≡ imagesBy (isSet (now (file .entry))) (word (now (file .entry))) ⌝ }
 {
-    let color = file[14];
-    let texture = file[12];
-    let depth = file[13];
+    let color = fields.color;
+    let texture = fields.texture;
     Images {
         color: ImageRegister {
-            set: color != 0,
-            image: read::color_image(color),
+            set: file[14] != 0,
+            image: color,
         },
         texture: ImageRegister {
-            set: texture != 0,
-            image: read::image(texture),
+            set: file[12] != 0,
+            image: texture,
         },
         depth: DepthImageRegister {
-            set: depth != 0,
-            address: read::depth_image(depth),
+            set: file[13] != 0,
+            address: fields.depth,
         },
     }
 }
@@ -218,12 +252,14 @@ fn images_of(file: &[u64; 32]) -> Images
 fn tile_of(descriptor: u64, size: u64) -> Tile
     ensures { λ r. ⌜ r ≡ tileWith (not (eqb descriptor 0)) descriptor (not (eqb size 0)) size ⌝ }
 {
-    let area = read::tile_area(size);
+    let fields = rdp_command::tile_fields(descriptor, size);
+    let read = fields.descriptor;
+    let area = fields.area;
     let upper_left = area.upper_left;
     let lower_right = area.lower_right;
     Tile {
         set: descriptor != 0,
-        descriptor: read::tile_descriptor(descriptor),
+        descriptor: read,
         sized: size != 0,
         upper_left,
         lower_right,
@@ -248,10 +284,11 @@ fn tiles_of(file: &[u64; 32]) -> [Tile; 8]
 pub fn registers_of(file: [u64; 32]) -> Registers
     ensures { λ r. ⌜ r ≡ registersIn file ⌝ }
 {
-    let colors = colors_of(&file);
-    let combiner = combiner_of(&file);
-    let modes = modes_of(&file);
-    let images = images_of(&file);
+    let fields = rdp_command::register_fields(words_in(&file));
+    let colors = colors_of(&file, fields.colors);
+    let combiner = combiner_of(&file, fields.combiner);
+    let modes = modes_of(&file, fields.modes);
+    let images = images_of(&file, fields.images);
     let tiles = tiles_of(&file);
     Registers {
         colors,

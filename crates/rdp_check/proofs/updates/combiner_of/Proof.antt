@@ -1,4 +1,4 @@
--- `rdp_check::updates::combiner_of` meets its contract: each register is read out of its word. Assumes nothing.
+-- `rdp_check::updates::combiner_of` meets its contract: each register has the fields of its word. Assumes nothing.
 use mathlib.Core.Bool.{Bool, not}
 use Prim.Native.Nat.{ℕ}
 use lib.Dec.{eqb}
@@ -7,51 +7,36 @@ use borrow.Author.Needs.{needs}
 use Rattle.rdp_check.proofs.updates.combiner_of.Statement.{statement}
 use Rattle.rdp_check.proofs.updates.combiner_of.Tie as tie
 
-element-copy-out-combine : tie.Need-element-copy-out-combine
-element-copy-out-combine c = search needs
+element-copy-out-t8 : tie.Need-element-copy-out-t8
+element-copy-out-t8 c = search needs
 
-element-copy-out-key-gb : tie.Need-element-copy-out-key-gb
-element-copy-out-key-gb c = search needs
+element-copy-out-t13 : tie.Need-element-copy-out-t13
+element-copy-out-t13 c = search needs
 
-element-copy-out-key-r : tie.Need-element-copy-out-key-r
-element-copy-out-key-r c = search needs
+element-copy-out-t18 : tie.Need-element-copy-out-t18
+element-copy-out-t18 c = search needs
 
-element-copy-out-convert : tie.Need-element-copy-out-convert
-element-copy-out-convert c = search needs
-
-combine-mode-requires : tie.Need-combine-mode-requires
-combine-mode-requires c κs = search needs
-
-key-gb-requires : tie.Need-key-gb-requires
-key-gb-requires c κs = search needs
-
-key-r-requires : tie.Need-key-r-requires
-key-r-requires c κs = search needs
-
-convert-requires : tie.Need-convert-requires
-convert-requires c κs = search needs
+element-copy-out-t23 : tie.Need-element-copy-out-t23
+element-copy-out-t23 c = search needs
 
 returns : tie.Need-returns
 returns c =
-    let w : ℕ → ℕ = λ k. getD (c .before .before .before .before .before .before .before .before .args .file .now) k 0 in
-    let s : ℕ → Bool = λ k. not (eqb (w k) 0) in
+    let start = c .before .before .before .before .before .before .before in
+    let s : ℕ → Bool = λ k. not (eqb (getD (start .args .file .now) k 0) 0) in
+    let read = start .pre in
     λ i. record {
-      combine = record { set = s 11; mode = c .before .before .before .combine-mode .ensures i };
-      «key_gb» = record { set = s 0; key = c .before .before .key-gb2 .ensures i };
-      «key_r» = record { set = s 1; key = c .before .key-r2 .ensures i };
-      convert = record { set = s 2; convert = c .convert2 .ensures i };
+      combine = record { set = s 11; mode = read i .combine };
+      «key_gb» = record { set = s 0; key = read i .«key_gb» };
+      «key_r» = record { set = s 1; key = read i .«key_r» };
+      convert = record { set = s 2; convert = read i .convert };
     }
 
 pub combiner-of-spec : {M : Type 1} → statement M
 combiner-of-spec =
     tie.close
     (tie.spec
-    element-copy-out-combine
-    element-copy-out-key-gb
-    element-copy-out-key-r
-    element-copy-out-convert
-    combine-mode-requires
-    key-gb-requires
-    key-r-requires
-    convert-requires
+    element-copy-out-t8
+    element-copy-out-t13
+    element-copy-out-t18
+    element-copy-out-t23
     returns)

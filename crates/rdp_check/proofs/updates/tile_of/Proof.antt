@@ -5,23 +5,20 @@ use borrow.Author.Needs.{needs}
 use Rattle.rdp_check.proofs.updates.tile_of.Statement.{statement}
 use Rattle.rdp_check.proofs.updates.tile_of.Tie as tie
 
-tile-area-requires : tie.Need-tile-area-requires
-tile-area-requires c κs = search needs
-
-tile-descriptor-requires : tie.Need-tile-descriptor-requires
-tile-descriptor-requires c κs = search needs
+tile-fields-requires : tie.Need-tile-fields-requires
+tile-fields-requires c κs = search needs
 
 returns : tie.Need-returns
 returns c =
-    let a = c .before .before .before .before .args in
-    let area = c .before .before .before .tile-area .ensures in
+    let a = c .before .before .before .before .before .args in
+    let read = c .before .before .before .before .tile-fields .ensures in
     λ i. record {
       set = not (eqb (a .descriptor) 0);
-      descriptor = c .tile-descriptor .ensures i;
+      descriptor = read i .descriptor;
       sized = not (eqb (a .size) 0);
-      «upper_left» = area i .«upper_left»;
-      «lower_right» = area i .«lower_right»;
+      «upper_left» = read i .area .«upper_left»;
+      «lower_right» = read i .area .«lower_right»;
     }
 
 pub tile-of-spec : {M : Type 1} → statement M
-tile-of-spec = tie.close (tie.spec tile-area-requires tile-descriptor-requires returns)
+tile-of-spec = tie.close (tie.spec tile-fields-requires returns)
