@@ -8,12 +8,13 @@ use native.Mathlib.Omega.{arith}
 use borrow.Author.Tests.{ne-eqb, eqb-true, eqb-false, ltb-true}
 use lib.Dec.{T, eqb, ltb, eqb→eq, lit<}
 use lib.ListN.{length, getD, set, take, replicate, length-set}
-use lib.Seq.{getD-set-same, getD-set-other}
+use lib.Seq.{getD-set-same, getD-set-other, set-set, set-comm}
 use Rattle.rdp_command.specs.Words.{wordAt, numberIn}
 use Rattle.rdp_command.specs.Kinds.{among, wordsOf}
 use Rattle.rdp_command.specs.Layout.{layout, tileAreaLines, tileDescriptorLines}
 use Rattle.rdp_command.specs.Groups.{tileAreaOf, tileDescriptorOf}
 use Rattle.rdp_command.specs.Commands.{commandOf, numberOf}
+use Rattle.rdp_command.specs.Reads.{fieldsIn}
 use Rattle.rdp_command.specs.Decode.{firstNumber, wholeWords, ownWords, commandIn, decodeOf}
 use Rattle.rdp_command.specs.declared.TileDescriptor.{TileDescriptor}
 use Rattle.rdp_command.specs.declared.TexelCorner.{TexelCorner}
@@ -24,8 +25,8 @@ use Rattle.rdp_command.proofs.PlaceLaws.{number-small, is-whole}
 use Rattle.rdp_command.proofs.ReadLaws.{decodes, decoded-number}
 use Rattle.rdp_check.specs.Commands.{commandsFrom}
 use Rattle.rdp_check.specs.Registers.{noTile, noRegisters, withTiles, registersAfter, afterDecoded, describedTiles, sizedTiles}
-use Rattle.rdp_check.specs.View.{registersUpTo}
-use Rattle.rdp_check.specs.RegisterWords.{tileIn, slotOf, wordsAfter, wordsUpTo, slotIn, HoldSlots, fieldsIn, tilesBy, registersBy, isSet, word, registersIn}
+use Rattle.rdp_check.specs.RegisterWords.{tileIn, slotOf, storedAt, wordsAfter, tilesBy, registersBy, isSet, word, registersIn}
+use Rattle.rdp_check.specs.Replay.{slotRow, slotEntry, slotIn, wordsUpTo, registersUpTo}
 use Rattle.rdp_check.specs.declared.Tile.{Tile}
 use Rattle.rdp_check.specs.declared.Registers.{Registers}
 use Rattle.rdp_check.proofs.ListLaws.{command-there}
@@ -39,9 +40,10 @@ eachSlot f = each (λ n. each (f n) 8) 64
 slot-test : (f : ℕ → ℕ → Bool) → T (eachSlot f) → (n t : ℕ) → n < 64 → t < 8 → T (f n t)
 slot-test f test n t h k = below 8 (f n) (below 64 (λ n. each (f n) 8) test n h) t k
 
--- a table that holds the slots, by one test over it
-pub holds-slots : (table : List ℕ) → T (eachSlot (λ n t. eqb (slotIn (getD table n 0) t) (slotOf n t))) → HoldSlots table
-holds-slots table test n t h k = eqb→eq _ _ (slot-test (λ n t. eqb (slotIn (getD table n 0) t) (slotOf n t)) test n t h k)
+-- the rows of the code hold the slots, by one test over them
+pub row-slot : (n t : ℕ) → n < 64 → t < 8 → slotIn (slotEntry n) t ≡ slotOf n t
+unfolding slotOf slotRow
+row-slot n t h k = eqb→eq _ _ (slot-test (λ n t. eqb (slotIn (slotEntry n) t) (slotOf n t)) tt n t h k)
 
 pub slot-small : (n t : ℕ) → n < 64 → t < 8 → slotOf n t < 32
 unfolding slotOf
@@ -51,11 +53,14 @@ pub tile-small : (w : ℕ) → tileIn w < 8
 tile-small w = mod-lt _ (lit< tt)
 
 -- a slot as the code finds it
-pub held-small : (table : List ℕ) → HoldSlots table → (n w : ℕ) → n < 64 → slotIn (getD table n 0) (tileIn w) < 32
-held-small table h n w l = rw (h n (tileIn w) l (tile-small w)) (slot-small n (tileIn w) l (tile-small w))
+pub found-slot : (n w e : ℕ) → e ≡ slotEntry n → n < 64 → slotIn e (tileIn w) ≡ slotOf n (tileIn w)
+found-slot n w e is l = ap (λ (x : ℕ). slotIn x (tileIn w)) is ∙ row-slot n (tileIn w) l (tile-small w)
+
+pub found-small : (n w e : ℕ) → e ≡ slotEntry n → n < 64 → slotIn e (tileIn w) < 32
+found-small n w e is l = rw (found-slot n w e is l) (slot-small n (tileIn w) l (tile-small w))
 
 -- the commands that set a register
-abbrev setters : List ℕ
+abbrev pub setters : List ℕ
 setters = 0x2A ∷ 0x2B ∷ 0x2C ∷ 0x2D ∷ 0x2E ∷ 0x2F ∷ 0x30 ∷ 0x32 ∷ 0x33 ∷ 0x34 ∷ 0x35 ∷ 0x37 ∷ 0x38 ∷ 0x39 ∷ 0x3A ∷ 0x3B ∷ 0x3C ∷ 0x3D ∷ 0x3E ∷ 0x3F ∷ []
 
 unless : (b : Bool) {x y : ℕ} → T (cond b true (eqb x y)) → T (not b) → x ≡ y
@@ -67,6 +72,15 @@ unfolding slotOf
 other-slot n t h k s = unless (among n setters) (slot-test (λ n t. cond (among n setters) true (eqb (slotOf n t) 31)) tt n t h k) s
 
 -- ---- a word is stored
+
+pub length-stored : (slot : ℕ) (ws : List ℕ) (w : ℕ) → length (storedAt slot ws w) ≡ length ws
+length-stored slot ws w = by-test (eqb slot 31) (λ t. rw t) (λ f. rw f (length-set ws slot w))
+
+-- stored in slot 31 too, which is then put back
+pub stored-back : (slot : ℕ) (ws : List ℕ) (w x : ℕ) → set (set ws slot w) 31 x ≡ storedAt slot (set ws 31 x) w
+stored-back slot ws w x =
+    by-test (eqb slot 31) (λ t. rw t (ap (λ (j : ℕ). set (set ws j w) 31 x) (eqb-true slot 31 t) ∙ set-set ws 31 w x))
+    (λ f. rw f (set-comm ws slot 31 w x (eqb-false slot 31 f)))
 
 -- a function with one value changed
 abbrev changed : {A : Type 0} → ℕ → A → (ℕ → A) → ℕ → A
@@ -81,14 +95,14 @@ word-set ws i w h k =
     by-test (eqb k i) (λ t. rw t (ap (λ (j : ℕ). getD (set ws i w) j 0) (eqb-true k i t) ∙ getD-set-same ws i w 0 h))
     (λ f. rw f (getD-set-other ws i k w 0 (eqb-false k i f)))
 
-set-set : (ws : List ℕ) (i w : ℕ) → i < length ws → (k : ℕ) → isSet (set ws i w) k ≡ changed i (not (eqb w 0)) (isSet ws) k
-set-set ws i w h k =
+bit-set : (ws : List ℕ) (i w : ℕ) → i < length ws → (k : ℕ) → isSet (set ws i w) k ≡ changed i (not (eqb w 0)) (isSet ws) k
+bit-set ws i w h k =
     ap (λ (x : ℕ). not (eqb x 0)) (word-set ws i w h k) ∙ cond-of (λ (x : ℕ). not (eqb x 0)) (eqb k i) w (getD ws k 0)
 
 stored :
     (ws : List ℕ) (i w : ℕ) → i < length ws →
     registersIn (set ws i w) ≡ registersBy (changed i (not (eqb w 0)) (isSet ws)) (changed i w (word ws))
-stored ws i w h = λ j. registersBy (λ k. set-set ws i w h k j) (λ k. word-set ws i w h k j)
+stored ws i w h = λ j. registersBy (λ k. bit-set ws i w h k j) (λ k. word-set ws i w h k j)
 
 -- ---- the tiles
 
@@ -201,81 +215,23 @@ module _ (ws : List ℕ) (long : length ws ≡ 32) (c : List ℕ) (there : whole
   Result k = registersIn (wordsAfter ws k w) ≡ registersAfter (registersIn ws) (commandIn k own)
 
   at-slot :
-      (k i : ℕ) → slotOf k (tileIn w) ≡ i → i < 32 →
+      (k i : ℕ) → slotOf k (tileIn w) ≡ i → i < 31 →
       registersIn (wordsAfter ws k w) ≡ registersBy (changed i (not (eqb w 0)) (isSet ws)) (changed i w (word ws))
-  at-slot k i e h = ap (λ (j : ℕ). registersIn (set ws j w)) e ∙ stored ws i w (rw long h)
+  at-slot k i e h =
+      let apart : (i ≡ 31 → ⊥) = λ z. omega arith in
+      ap (λ (j : ℕ). registersIn (storedAt j ws w)) e ∙ rw (ne-eqb i 31 apart) (stored ws i w (omega (arith, long)))
 
   -- the word of a command whose number is not 0
   some : (k : ℕ) → n ≡ k → 0 < k → not (eqb w 0) ≡ true
   some k e h = let nz : (w ≡ 0 → ⊥) = λ z. let q : n ≡ 0 = ap numberIn z in omega arith in rw (ne-eqb w 0 nz)
 
   setter :
-      (k i : ℕ) → n ≡ k → 0 < k → slotOf k (tileIn w) ≡ i → i < 32 →
+      (k i : ℕ) → n ≡ k → 0 < k → slotOf k (tileIn w) ≡ i → i < 31 →
       registersBy (changed i true (isSet ws)) (changed i w (word ws)) ≡ registersAfter (registersIn ws) (commandIn k own) → Result n
   setter k i e z s h q =
       ap (λ (j : ℕ). registersIn (wordsAfter ws j w)) e ∙
       (at-slot k i s h ∙ (ap (λ (b : Bool). registersBy (changed i b (isSet ws)) (changed i w (word ws))) (some k e z) ∙
       (q ∙ ap (λ (j : ℕ). registersAfter (registersIn ws) (commandIn j own)) (sym e))))
-
-  of-key-gb : n ≡ 0x2A → Result n
-  unfolding slotOf commandOf layout registersAfter registersBy
-  of-key-gb e = setter 0x2A 0 e (lit< tt) refl (lit< tt) refl
-
-  of-key-r : n ≡ 0x2B → Result n
-  unfolding slotOf commandOf layout registersAfter registersBy
-  of-key-r e = setter 0x2B 1 e (lit< tt) refl (lit< tt) refl
-
-  of-convert : n ≡ 0x2C → Result n
-  unfolding slotOf commandOf layout registersAfter registersBy
-  of-convert e = setter 0x2C 2 e (lit< tt) refl (lit< tt) refl
-
-  of-scissor : n ≡ 0x2D → Result n
-  unfolding slotOf commandOf layout registersAfter registersBy
-  of-scissor e = setter 0x2D 3 e (lit< tt) refl (lit< tt) refl
-
-  of-depth : n ≡ 0x2E → Result n
-  unfolding slotOf commandOf layout registersAfter registersBy
-  of-depth e = setter 0x2E 4 e (lit< tt) refl (lit< tt) refl
-
-  of-modes : n ≡ 0x2F → Result n
-  unfolding slotOf commandOf layout registersAfter registersBy
-  of-modes e = setter 0x2F 5 e (lit< tt) refl (lit< tt) refl
-
-  of-fill : n ≡ 0x37 → Result n
-  unfolding slotOf commandOf layout registersAfter registersBy
-  of-fill e = setter 0x37 6 e (lit< tt) refl (lit< tt) refl
-
-  of-fog : n ≡ 0x38 → Result n
-  unfolding slotOf commandOf layout registersAfter registersBy
-  of-fog e = setter 0x38 7 e (lit< tt) refl (lit< tt) refl
-
-  of-blend : n ≡ 0x39 → Result n
-  unfolding slotOf commandOf layout registersAfter registersBy
-  of-blend e = setter 0x39 8 e (lit< tt) refl (lit< tt) refl
-
-  of-primitive : n ≡ 0x3A → Result n
-  unfolding slotOf commandOf layout registersAfter registersBy
-  of-primitive e = setter 0x3A 9 e (lit< tt) refl (lit< tt) refl
-
-  of-environment : n ≡ 0x3B → Result n
-  unfolding slotOf commandOf layout registersAfter registersBy
-  of-environment e = setter 0x3B 10 e (lit< tt) refl (lit< tt) refl
-
-  of-combine : n ≡ 0x3C → Result n
-  unfolding slotOf commandOf layout registersAfter registersBy
-  of-combine e = setter 0x3C 11 e (lit< tt) refl (lit< tt) refl
-
-  of-texture : n ≡ 0x3D → Result n
-  unfolding slotOf commandOf layout registersAfter registersBy
-  of-texture e = setter 0x3D 12 e (lit< tt) refl (lit< tt) refl
-
-  of-depth-image : n ≡ 0x3E → Result n
-  unfolding slotOf commandOf layout registersAfter registersBy
-  of-depth-image e = setter 0x3E 13 e (lit< tt) refl (lit< tt) refl
-
-  of-color-image : n ≡ 0x3F → Result n
-  unfolding slotOf commandOf layout registersAfter registersBy
-  of-color-image e = setter 0x3F 14 e (lit< tt) refl (lit< tt) refl
 
   abbrev tile : ℕ
   tile = tileIn w
@@ -306,37 +262,76 @@ module _ (ws : List ℕ) (long : length ws ≡ 32) (c : List ℕ) (there : whole
       withTiles (registersIn ws) (sizedAt (tilesBy (isSet ws) (word ws)) i (a .«upper_left») (a .«lower_right»)))
       (sym (mod-mod (w / 2 ^ 24))) ∙ q))
 
-  of-load-tlut : n ≡ 0x30 → Result n
-  unfolding slotOf commandOf layout registersAfter registersBy
-  of-load-tlut e = sizer 0x30 e (lit< tt) refl refl
-
-  of-tile-size : n ≡ 0x32 → Result n
-  unfolding slotOf commandOf layout registersAfter registersBy
-  of-tile-size e = sizer 0x32 e (lit< tt) refl refl
-
-  of-load-block : n ≡ 0x33 → Result n
-  unfolding slotOf commandOf layout registersAfter registersBy
-  of-load-block e = sizer 0x33 e (lit< tt) refl refl
-
-  of-load-tile : n ≡ 0x34 → Result n
-  unfolding slotOf commandOf layout registersAfter registersBy
-  of-load-tile e = sizer 0x34 e (lit< tt) refl refl
-
-  -- slot 31 is not read
-  unread : (s : ℕ → Bool) (g : ℕ → ℕ) (b : Bool) → registersBy (changed 31 b s) (changed 31 w g) ≡ registersBy s g
-  unfolding registersBy
-  unread s g b = refl
-
   of-others : T (not (among n setters)) → Result n
   of-others k =
-      at-slot n 31 (other-slot n tile (number-small w) (tile-small w) k) (lit< tt) ∙
-      (unread (isSet ws) (word ws) (not (eqb w 0)) ∙
-      sym (kept (registersIn ws) (commandIn n own) (rw (decoded-number c there) k)))
+      ap (λ (j : ℕ). registersIn (storedAt j ws w)) (other-slot n tile (number-small w) (tile-small w) k) ∙
+      sym (kept (registersIn ws) (commandIn n own) (rw (decoded-number c there) k))
 
+  -- a line for each number that sets a register
   result : Result n
+  unfolding slotOf commandOf layout registersAfter registersBy
   result =
-      by-number setters n
-      (of-key-gb, (of-key-r, (of-convert, (of-scissor, (of-depth, (of-modes, (of-load-tlut, (of-tile-size, (of-load-block, (of-load-tile, (of-tile, (of-fill, (of-fog, (of-blend, (of-primitive, (of-environment, (of-combine, (of-texture, (of-depth-image, (of-color-image, tt))))))))))))))))))))
+      by-number setters n (
+        λ e. setter 0x2A 0 e (lit< tt) refl (lit< tt) refl,
+        (
+          λ e. setter 0x2B 1 e (lit< tt) refl (lit< tt) refl,
+          (
+            λ e. setter 0x2C 2 e (lit< tt) refl (lit< tt) refl,
+            (
+              λ e. setter 0x2D 3 e (lit< tt) refl (lit< tt) refl,
+              (
+                λ e. setter 0x2E 4 e (lit< tt) refl (lit< tt) refl,
+                (
+                  λ e. setter 0x2F 5 e (lit< tt) refl (lit< tt) refl,
+                  (
+                    λ e. sizer 0x30 e (lit< tt) refl refl,
+                    (
+                      λ e. sizer 0x32 e (lit< tt) refl refl,
+                      (
+                        λ e. sizer 0x33 e (lit< tt) refl refl,
+                        (
+                          λ e. sizer 0x34 e (lit< tt) refl refl,
+                          (
+                            of-tile,
+                            (
+                              λ e. setter 0x37 6 e (lit< tt) refl (lit< tt) refl,
+                              (
+                                λ e. setter 0x38 7 e (lit< tt) refl (lit< tt) refl,
+                                (
+                                  λ e. setter 0x39 8 e (lit< tt) refl (lit< tt) refl,
+                                  (
+                                    λ e. setter 0x3A 9 e (lit< tt) refl (lit< tt) refl,
+                                    (
+                                      λ e. setter 0x3B 10 e (lit< tt) refl (lit< tt) refl,
+                                      (
+                                        λ e. setter 0x3C 11 e (lit< tt) refl (lit< tt) refl,
+                                        (
+                                          λ e. setter 0x3D 12 e (lit< tt) refl (lit< tt) refl,
+                                          (
+                                            λ e. setter 0x3E 13 e (lit< tt) refl (lit< tt) refl,
+                                            (
+                                              λ e. setter 0x3F 14 e (lit< tt) refl (lit< tt) refl,
+                                              tt,
+                                            ),
+                                          ),
+                                        ),
+                                      ),
+                                    ),
+                                  ),
+                                ),
+                              ),
+                            ),
+                          ),
+                        ),
+                      ),
+                    ),
+                  ),
+                ),
+              ),
+            ),
+          ),
+        ),
+      )
       of-others
 
   -- a word is stored: its registers are those after its command
@@ -373,6 +368,6 @@ registers-up-to end zero (b ∷ bs) at ws long =
     let next = at + wordsOf (firstNumber c) in
     let ws′ = wordsAfter ws (firstNumber c) (wordAt c 0) in
     rw (f, more)
-    (registers-up-to end (pred (8 * wholeWords (b ∷ bs))) bs next ws′ (length-set ws _ _ ∙ long) ∙
+    (registers-up-to end (pred (8 * wholeWords (b ∷ bs))) bs next ws′ (length-stored (slotOf (firstNumber c) (tileIn (wordAt c 0))) ws (wordAt c 0) ∙ long) ∙
     ap (λ (r : Registers). registersUpTo end next r later) (registers-stored ws long c (head-there (b ∷ bs) (eqb-false _ _ f)))))
     (λ ended. rw (f, ended)))

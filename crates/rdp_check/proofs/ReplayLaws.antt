@@ -7,7 +7,8 @@ use native.Mathlib.Nat.{le-refl}
 use native.Mathlib.Omega.{arith}
 use borrow.Author.Tests.{lt-ltb, le-ltb}
 use lib.Dec.{T, eqb, ltb}
-use lib.ListN.{length, drop, set, replicate, length-set}
+use lib.ListN.{length, getD, drop, set, replicate, length-set}
+use lib.Seq.{set-getD}
 use Rattle.rdp_command.specs.Words.{wordAt, numberIn}
 use Rattle.rdp_command.specs.Kinds.{wordsOf}
 use Rattle.rdp_command.specs.Decode.{firstNumber}
@@ -16,42 +17,50 @@ use Rattle.rdp_command.proofs.KindLaws.{words-pos, words-most}
 use Rattle.rdp_check.specs.Commands.{commandsOf, restOf}
 use Rattle.rdp_check.specs.Registers.{noRegisters}
 use Rattle.rdp_check.specs.Check.{State, start, afterCommand, Refusals, ownRefusals, syncRefusals, checkRefusals, refusalAt, Outcome, atEnd, settle, judge, judgeList, outcomeWithin}
-use Rattle.rdp_check.specs.View.{registersUpTo, endOf}
-use Rattle.rdp_check.specs.RegisterWords.{tileIn, slotOf, wordsUpTo, registersIn}
+use Rattle.rdp_check.specs.RegisterWords.{tileIn, slotOf, registersIn}
+use Rattle.rdp_check.specs.Replay.{wordsUpTo, registersUpTo, endOf}
 use Rattle.rdp_check.specs.declared.Registers.{Registers}
 use Rattle.rdp_command.proofs.PlaceLaws.{number-small, some-words}
 use Rattle.rdp_check.proofs.ListLaws.{commands-at, command-number, command-word, commands-past}
 use Rattle.rdp_check.proofs.OrderLaws.{allGive}
 use Rattle.rdp_check.proofs.FirstLaws.{judge-gives}
-use Rattle.rdp_check.proofs.RegisterLaws.{none-set, registers-up-to}
+use Rattle.rdp_check.proofs.RegisterLaws.{stored-back, none-set, registers-up-to}
 
 -- ---- the loop
 
--- what holds at the head of the loop: the words after what is left are those after the list
-pub record Replayed (list : List ℕ) (end words : ℕ) (before file : List ℕ) (at : ℕ) : Type 0 where
+-- what holds at the head of the loop: the words after what is left, with slot 31 put back, are those after the list
+pub record Replayed (list : List ℕ) (end words unread : ℕ) (before file : List ℕ) (at : ℕ) : Type 0 where
   pub count : words ≡ length list / 8
   pub within : at ≤ words
   pub long : length file ≡ 32
-  pub same : wordsUpTo end at file (commandsOf (drop (8 * at) list)) ≡ wordsUpTo end 0 before (commandsOf list)
+  pub same : wordsUpTo end at (set file 31 unread) (commandsOf (drop (8 * at) list)) ≡ wordsUpTo end 0 before (commandsOf list)
 
-pub first : (list : List ℕ) (end words : ℕ) (file : List ℕ) → length file ≡ 32 → words ≡ length list / 8 → Replayed list end words file file 0
-first list end words file l e = record { count = e; within = omega arith; long = l; same = refl }
+pub first :
+    (list : List ℕ) (end words unread : ℕ) (file : List ℕ) → length file ≡ 32 → words ≡ length list / 8 → unread ≡ getD file 31 0 →
+    Replayed list end words unread file file 0
+first list end words unread file l e u =
+    record {
+      count = e;
+      within = omega arith;
+      long = l;
+      same = ap (λ (f : List ℕ). wordsUpTo end 0 f (commandsOf list)) (ap (set file 31) u ∙ set-getD file 31 0);
+    }
 
 still : (end at : ℕ) (file : List ℕ) (cs : List (List ℕ)) → end ≤ at → wordsUpTo end at file cs ≡ file
 unfolding wordsUpTo
 still end at file [] h = refl
 still end at file (c ∷ cs) h = rw (le-ltb _ _ h)
 
-module _ {list : List ℕ} {end words : ℕ} {before file : List ℕ} {at : ℕ} (v : Replayed list end words before file at) where
-  pub ended : end ≤ at → file ≡ wordsUpTo end 0 before (commandsOf list)
-  ended h = sym (still end at file (commandsOf (drop (8 * at) list)) h) ∙ v .same
+module _ {list : List ℕ} {end words unread : ℕ} {before file : List ℕ} {at : ℕ} (v : Replayed list end words unread before file at) where
+  pub ended : end ≤ at → set file 31 unread ≡ wordsUpTo end 0 before (commandsOf list)
+  ended h = sym (still end at (set file 31 unread) (commandsOf (drop (8 * at) list)) h) ∙ v .same
 
   -- a turn at a command with a number
   module _ (more : at < end) (n : ℕ) (is : n ≡ numberIn (wordAt list at)) (count : ℕ) (long : count ≡ wordsOf n) where
     pub few : count ≤ 22
     few = rw (long, is) (words-most _ (number-small (wordAt list at)))
 
-    pub past : words < at + count → file ≡ wordsUpTo end 0 before (commandsOf list)
+    pub past : words < at + count → set file 31 unread ≡ wordsUpTo end 0 before (commandsOf list)
     unfolding wordsUpTo
     past h =
         let short : length list / 8 < at + wordsOf n = omega (arith, v .count) in
@@ -62,7 +71,7 @@ module _ {list : List ℕ} {end words : ℕ} {before file : List ℕ} {at : ℕ}
 
     pub again :
         at + count ≤ words → (w slot : ℕ) → w ≡ wordAt list at → slot ≡ slotOf n (tileIn w) →
-        Replayed list end words before (set file slot w) (at + count)
+        Replayed list end words unread before (set file slot w) (at + count)
     unfolding wordsUpTo
     again h w slot is-w is-slot =
         let inside : at + wordsOf n ≤ length list / 8 = omega (arith, v .count) in
@@ -71,6 +80,7 @@ module _ {list : List ℕ} {end words : ℕ} {before file : List ℕ} {at : ℕ}
           within = h;
           long = length-set file slot w ∙ v .long;
           same =
+              ap (λ (f : List ℕ). wordsUpTo end (at + count) f (commandsOf (drop (8 * (at + count)) list))) (stored-back slot file w unread) ∙
               rw (
                 ← v .same,
                 is-slot,

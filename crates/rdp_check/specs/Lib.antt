@@ -8,6 +8,7 @@ pub mod Syncs
 pub mod Marks
 pub mod View
 pub mod RegisterWords
+pub mod Replay
 pub mod Inserted
 pub mod Plan
 pub mod Repair

@@ -1,17 +1,14 @@
 -- The registers as the words that last set them: a slot for each, with 0 before the first such word. A word that sets a register has the number of its
--- command in it, so it is not 0. No public contract cites this.
-use Prim.Native.Nat.{ℕ, _+_, _-_, _*_, _/_, _%_, _^_, _<_}
+-- command in it, so it is not 0.
+use Prim.Native.Nat.{ℕ, _+_, _-_, _/_, _%_, _^_}
 use mathlib.Core.Bool.{Bool, cond, not, _&&_}
 use mathlib.Core.List.{List, [], _∷_}
-use mathlib.Core.Path.{_≡_}
 use lib.Dec.{eqb, ltb, leb}
 use lib.ListN.{getD, set}
-use Rattle.rdp_command.specs.Words.{wordAt}
-use Rattle.rdp_command.specs.Kinds.{among, wordsOf}
-use Rattle.rdp_command.specs.Layout.{Line, keyGbLines, keyRLines, convertLines, scissorLines, primitiveDepthLines, otherModesLines, tileAreaLines, tileDescriptorLines, fillColorLines, colorLines, primitiveColorLines, combineModeLines, imageLines, depthImageLines, colorImageLines}
-use Rattle.rdp_command.specs.Fields.{Value, fieldsOf}
+use Rattle.rdp_command.specs.Kinds.{among}
+use Rattle.rdp_command.specs.Layout.{keyGbLines, keyRLines, convertLines, scissorLines, primitiveDepthLines, otherModesLines, tileAreaLines, tileDescriptorLines, fillColorLines, colorLines, primitiveColorLines, combineModeLines, imageLines, depthImageLines, colorImageLines}
 use Rattle.rdp_command.specs.Groups.{natAt, keyGbOf, keyROf, convertOf, scissorOf, primitiveDepthOf, otherModesOf, tileAreaOf, tileDescriptorOf, colorOf, primitiveColorOf, imageOf}
-use Rattle.rdp_command.specs.Decode.{firstNumber}
+use Rattle.rdp_command.specs.Reads.{fieldsIn}
 use Rattle.rdp_command.specs.declared.RegisterWords.{RegisterWords}
 use Rattle.rdp_check.specs.Registers.{colorsOf, combinerOf, modesOf, imagesOf}
 use Rattle.rdp_check.specs.declared.ColorRegister.{ColorRegister}
@@ -29,7 +26,7 @@ abbrev pub tileIn : ℕ → ℕ
 tileIn w = w / 2 ^ 24 % 8
 
 -- the slot of the register that a command sets, by its number and its tile: those of 0x2A to 0x2F and of 0x37 to 0x3F in order, then eight descriptors
--- and eight sizes of tiles. Slot 31, which nothing reads, takes the words of all other commands
+-- and eight sizes of tiles; 31 for all other commands, which set none
 unfoldable pub slotOf : ℕ → ℕ → ℕ
 slotOf n t =
     cond (eqb n 0x35) (15 + t)
@@ -38,28 +35,14 @@ slotOf n t =
     (cond (leb 0x2A n && ltb n 0x30) (n - 0x2A)
     31)))
 
--- the words after a command, by its number and its first word
+-- the words after a command, by its number and its first word, which is stored where a register is set. Slot 31, which nothing reads, stays
+abbrev pub storedAt : ℕ → List ℕ → ℕ → List ℕ
+storedAt slot words w = cond (eqb slot 31) words (set words slot w)
+
 abbrev pub wordsAfter : List ℕ → ℕ → ℕ → List ℕ
-wordsAfter words n w = set words (slotOf n (tileIn w)) w
-
--- the words after the commands, from a place on, that begin before a place
-unfoldable pub wordsUpTo : ℕ → ℕ → List ℕ → List (List ℕ) → List ℕ
-wordsUpTo end at words [] = words
-wordsUpTo end at words (c ∷ cs) =
-    cond (ltb at end) (wordsUpTo end (at + wordsOf (firstNumber c)) (wordsAfter words (firstNumber c) (wordAt c 0)) cs) words
-
--- a table that holds the slots, by the command number: the slot of tile 0, and 32 more where the tile counts
-abbrev pub slotIn : ℕ → ℕ → ℕ
-slotIn entry t = entry % 32 + entry / 32 * t
-
-abbrev pub HoldSlots : List ℕ → Type 0
-HoldSlots table = (n t : ℕ) → n < 64 → t < 8 → slotIn (getD table n 0) t ≡ slotOf n t
+wordsAfter words n w = storedAt (slotOf n (tileIn w)) words w
 
 -- ---- the registers
-
--- the fields of a command of one word
-abbrev pub fieldsIn : List Line → ℕ → List Value
-fieldsIn ls w = fieldsOf ls (w ∷ [])
 
 -- the registers by functions of the slots: whether the register is set, and its word
 abbrev pub colorBy : Bool → ℕ → ColorRegister

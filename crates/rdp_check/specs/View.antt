@@ -3,17 +3,14 @@ use Prim.Native.Nat.{ℕ, zero, suc, _+_, _^_, _<_}
 use mathlib.Core.Bool.{Bool, true, false, cond, not, _&&_, _||_}
 use mathlib.Core.List.{List, [], _∷_}
 use mathlib.Core.Path.{_≡_}
-use lib.Dec.{eqb, ltb}
+use lib.Dec.{eqb}
 use Rattle.rdp_command.specs.Words.{wordAt}
 use Rattle.rdp_command.specs.Kinds.{among, hasBit, wordsOf}
 use Rattle.rdp_command.specs.declared.Head.{Head}
-use Rattle.rdp_command.specs.Decode.{firstNumber, decodeOf}
 use Rattle.rdp_command.specs.Reads.{headOf}
 use Rattle.rdp_check.specs.Hazards.{nextOf, requiredOf}
 use Rattle.rdp_check.specs.Commands.{commandsOf, restOf}
 use Rattle.rdp_check.specs.Check.{State, draws, Refusals, checkRefusals, repairRefusals, Outcome}
-use Rattle.rdp_check.specs.Registers.{afterDecoded}
-use Rattle.rdp_check.specs.declared.Registers.{Registers}
 use Rattle.rdp_check.specs.declared.walk.Rest.{Rest}
 use Rattle.rdp_check.specs.declared.walk.View.{View}
 use Rattle.rdp_check.specs.declared.walk.Advanced.{Advanced}
@@ -127,13 +124,3 @@ judgeView strict v at (c ∷ cs) rest =
 
 abbrev pub judgedView : Bool → View → ℕ → List ℕ → Stop
 judgedView strict v at bs = judgeView strict v at (commandsOf bs) (restOf bs)
-
--- the registers after the commands, from a place on, that begin before a place
-unfoldable pub registersUpTo : ℕ → ℕ → Registers → List (List ℕ) → Registers
-registersUpTo end at r [] = r
-registersUpTo end at r (c ∷ cs) =
-    cond (ltb at end) (registersUpTo end (at + wordsOf (firstNumber c)) (afterDecoded r (decodeOf c)) cs) r
-
--- where the commands end whose registers an outcome has: at its place, but for 1 and 2 before the first
-abbrev pub endOf : ℕ → ℕ → ℕ
-endOf number place = cond (eqb number 1 || eqb number 2) 0 place

@@ -3,7 +3,8 @@ ghost use mathlib.Core.Path.{_≡_};
 ghost use Prim.Native.Nat.{_%_};
 ghost use Rattle.rdp_check.specs.Hazards.{transitionOf};
 ghost use Rattle.rdp_check.specs.Check.{checkOf, listStateOf};
-ghost use Rattle.rdp_check.specs.View.{endOf};
+ghost use Rattle.rdp_check.specs.RegisterWords.{wordsAfter};
+ghost use Rattle.rdp_check.specs.Replay.{endOf};
 ghost use Rattle.rdp_check.specs.Repair.{RepairIs};
 
 mod hazards;
@@ -210,6 +211,18 @@ fn end_of(number: u32, place: u32) -> usize
         return 0;
     }
     place as usize
+}
+
+// Stores the first word of a command, by its number, in the slot of the register that it sets; nothing where it sets none. The file has the words that
+// last set each register, and is all zero before the first command. Of the number the low six bits count.
+pub fn store(file: &mut [u64; 32], number: u8, word: u64)
+    ensures { λ _. ⌜ now (file .exit) ≡ wordsAfter (now (file .entry)) (number % 64) word ⌝ }
+{
+    let slot = updates::slot_of(number % 64, word);
+    if slot == 31 {
+        return;
+    }
+    file[slot] = word;
 }
 
 // The check's answer with the registers after the last command; at a refusal, those before the refused command; at 1 or 2, the starting ones.

@@ -5,7 +5,8 @@ ghost use Prim.Native.Nat.{_<_};
 ghost use lib.Dec.{eqb};
 ghost use Rattle.rdp_command.specs.Reads.{colorFields, combinerFields, modeFields, imageFields};
 ghost use Rattle.rdp_check.specs.Commands.{commandsOf};
-ghost use Rattle.rdp_check.specs.RegisterWords.{HoldSlots, slotOf, tileIn, wordsUpTo, registerWords, tileWith, isSet, word, colorsBy, combinerBy, modesBy, imagesBy, tilesBy, registersIn};
+ghost use Rattle.rdp_check.specs.RegisterWords.{slotOf, tileIn, registerWords, tileWith, isSet, word, colorsBy, combinerBy, modesBy, imagesBy, tilesBy, registersIn};
+ghost use Rattle.rdp_check.specs.Replay.{slotRow, slotEntry, wordsUpTo};
 use crate::walk;
 use crate::*;
 use rdp_command::ColorFields;
@@ -14,94 +15,51 @@ use rdp_command::ImageFields;
 use rdp_command::ModeFields;
 use rdp_command::RegisterWords;
 
-// Where the word of a command goes, by its number: a slot, and 32 more where the tile counts.
-fn slot_table() -> [u8; 64]
-    ensures { λ r. ⌜ HoldSlots r ⌝ }
+// The slots of eight command numbers, a byte for each: a slot, and 32 more where the tile counts. Slot 31 stands for none.
+const SLOTS_28: u64 = 0x0504_0302_0100_1F1F;
+
+const SLOTS_30: u64 = 0x061F_2F37_3737_1F37;
+
+const SLOTS_38: u64 = 0x0E0D_0C0B_0A09_0807;
+
+const NO_SLOTS: u64 = 0x1F1F_1F1F_1F1F_1F1F;
+
+// The slots of eight numbers, by their eighth.
+fn slot_row(eight: u8) -> u64
+    ensures { λ r. ⌜ r ≡ slotRow eight ⌝ }
 {
-    [
-        31, // 0x00
-        31,
-        31,
-        31,
-        31,
-        31,
-        31,
-        31,
-        31, // 0x08
-        31,
-        31,
-        31,
-        31,
-        31,
-        31,
-        31,
-        31, // 0x10
-        31,
-        31,
-        31,
-        31,
-        31,
-        31,
-        31,
-        31, // 0x18
-        31,
-        31,
-        31,
-        31,
-        31,
-        31,
-        31,
-        31, // 0x20
-        31,
-        31,
-        31,
-        31,
-        31,
-        31,
-        31,
-        31, // 0x28
-        31,
-        0,
-        1,
-        2,
-        3,
-        4,
-        5,
-        55, // 0x30
-        31,
-        55,
-        55,
-        55,
-        47,
-        31,
-        6,
-        7, // 0x38
-        8,
-        9,
-        10,
-        11,
-        12,
-        13,
-        14,
-    ]
+    match eight {
+        5 => SLOTS_28,
+        6 => SLOTS_30,
+        7 => SLOTS_38,
+        _ => NO_SLOTS,
+    }
+}
+
+// The slot of a command, and 32 more where the tile counts.
+fn slot_entry(number: u8) -> u8
+    ensures { λ r. ⌜ r ≡ slotEntry number ⌝ }
+{
+    let row = slot_row(number / 8);
+    ((row >> (8 * (number % 8))) % 256) as u8
 }
 
 // The slot of a command's word.
-fn slot_of(table: &[u8; 64], number: u8, w: u64) -> usize
-    requires { ⌜ HoldSlots (now table) × (number < 64) ⌝ }
+pub fn slot_of(number: u8, w: u64) -> usize
+    requires { ⌜ number < 64 ⌝ }
     ensures { λ r. ⌜ r ≡ slotOf number (tileIn w) ⌝ }
 {
-    let entry = table[number as usize];
+    let entry = slot_entry(number);
     let tile = ((w >> 24) % 8) as u8;
     (entry % 32 + entry / 32 * tile) as usize
 }
 
-// The words after the commands of a list that begin before a place.
+// The words after the commands of a list that begin before a place. In the loop slot 31 takes the words of commands that set no register.
 pub fn replay_from(file: [u64; 32], list: &[u8], end: usize) -> [u64; 32]
     ensures { λ r. ⌜ r ≡ wordsUpTo end 0 file (commandsOf (now (list .entry))) ⌝ }
 {
     let words = list.len() / 8;
-    let table = slot_table();
+    let unread = file[31];
     let mut q = file;
     let mut at: usize = 0;
     while at < end {
@@ -109,13 +67,15 @@ pub fn replay_from(file: [u64; 32], list: &[u8], end: usize) -> [u64; 32]
         let number = head.number;
         let next = at + walk::count_of(number);
         if words < next {
+            q[31] = unread;
             return q;
         }
         let w = rdp_command::word_at(list, at);
-        let slot = slot_of(&table, number, w);
+        let slot = slot_of(number, w);
         q[slot] = w;
         at = next;
     }
+    q[31] = unread;
     q
 }
 

@@ -1,6 +1,6 @@
 -- `rdp_check::registers_after` meets its contract: the commands before the check's place leave the registers of its outcome. Assumes nothing.
 use mathlib.Core.Path.{ap, _∙_}
-use Rattle.rdp_check.specs.View.{endOf}
+use Rattle.rdp_check.specs.Replay.{endOf}
 use Rattle.rdp_check.proofs.ReplayLaws.{final, registers-final, outcome-registers}
 use borrow.Author.Needs.{needs}
 use Rattle.rdp_check.proofs.registers_after.Statement.{statement}

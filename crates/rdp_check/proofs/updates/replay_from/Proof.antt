@@ -12,16 +12,16 @@ use Rattle.rdp_check.proofs.updates.replay_from.Statement.{statement}
 use Rattle.rdp_check.proofs.updates.replay_from.Tie as tie
 
 abbrev Inv-loop : tie.InvT-loop
-Inv-loop list end words table q₀ at₀ q at = Replayed list end words q₀ q at
+Inv-loop list end words unread q₀ at₀ q at = Replayed list end words unread q₀ q at
 
 abbrev μ-loop : tie.MeasureT-loop
-μ-loop list end words table q₀ at₀ q at = words - at
+μ-loop list end words unread q₀ at₀ q at = words - at
 
-slot-table-requires : tie.Need-slot-table-requires Inv-loop μ-loop
-slot-table-requires c κs = search needs
+array-read-unread : tie.Need-array-read-unread Inv-loop μ-loop
+array-read-unread c = search needs
 
 loop-holds : tie.Need-loop-holds Inv-loop μ-loop
-loop-holds c = first _ _ _ _ (search needs) refl
+loop-holds c = first _ _ _ _ _ (search needs) refl refl
 
 head-at-requires : tie.Need-head-at-requires Inv-loop μ-loop
 head-at-requires c κs = search needs
@@ -36,6 +36,9 @@ add-next c =
     let f = few v (t .loop-test .taken) _ (ap (λ x. x .number) (c .before .head-at .ensures)) _ (c .count-of .ensures) in
     omega (arith, f, v .within, v .count)
 
+array-write-q : tie.Need-array-write-q Inv-loop μ-loop
+array-write-q c = omega (arith, c .before .before .before .before .loop .inv .long)
+
 returns : tie.Need-returns Inv-loop μ-loop
 returns c =
     let w = c .before in
@@ -46,38 +49,38 @@ word-at-requires : tie.Need-word-at-requires Inv-loop μ-loop
 word-at-requires c κs = search needs
 
 slot-of-requires : tie.Need-slot-of-requires Inv-loop μ-loop
-slot-of-requires c κs =
+slot-of-requires c κs = rw (c .before .before .before .head-at .ensures) (number-small _)
+
+-- the slot is below 32
+slot-fits : (c : tie.After-slot-of Inv-loop μ-loop) → c .slot-of .result < 32
+slot-fits c =
     let h = c .before .before .before .before in
-    (h .before .before .before .slot-table .ensures, rw (h .head-at .ensures) (number-small _))
+    let small : h .head-at .result .number < 64 = rw (h .head-at .ensures) (number-small _) in
+    rw (c .slot-of .ensures) (slot-small _ (tileIn (c .before .word-at .result)) small (tile-small _))
 
 mul-q : tie.Need-mul-q Inv-loop μ-loop
-mul-q c =
-    let h = c .before .before .before .before .before in
-    let small : h .head-at .result .number < 64 = rw (h .head-at .ensures) (number-small _) in
-    let slot = slot-small (h .head-at .result .number) (tileIn (c .before .before .word-at .result)) small (tile-small _) in
-    record { fits = omega (arith, slot, c .slot-of .ensures) }
+mul-q c = record { fits = omega (arith, slot-fits c) }
 
-array-write-q : tie.Need-array-write-q Inv-loop μ-loop
-array-write-q c =
-    let h = c .before .before .before .before .before in
-    let small : h .head-at .result .number < 64 = rw (h .head-at .ensures) (number-small _) in
-    let slot = slot-small (h .head-at .result .number) (tileIn (c .before .before .word-at .result)) small (tile-small _) in
-    omega (arith, slot, c .slot-of .ensures)
+array-write-q-2 : tie.Need-array-write-q-2 Inv-loop μ-loop
+array-write-q-2 c = slot-fits c
 
 loop-less : tie.Need-loop-less Inv-loop μ-loop
 loop-less c =
-    let i = c .before .before .before in
+    let i = c .before .before in
     let h = i .before .before in
     let t = h .before in
     falls (t .before .loop .inv) (t .loop-test .taken) _ (ap (λ x. x .number) (h .head-at .ensures)) _ (i .before .count-of .ensures) (i .if1 .left)
 
 loop-again : tie.Need-loop-again Inv-loop μ-loop
 loop-again c =
-    let i = c .before .before .before in
+    let i = c .before .before in
     let h = i .before .before in
     let t = h .before in
     again (t .before .loop .inv) (t .loop-test .taken) _ (ap (λ x. x .number) (h .head-at .ensures)) _ (i .before .count-of .ensures) (i .if1 .left) _ _
-    (c .before .before .word-at .ensures) (c .slot-of .ensures)
+    (c .before .word-at .ensures) (c .slot-of .ensures)
+
+array-write-q-3 : tie.Need-array-write-q-3 Inv-loop μ-loop
+array-write-q-3 c = omega (arith, c .before .loop .inv .long)
 
 returns-2 : tie.Need-returns-2 Inv-loop μ-loop
 returns-2 c = ended (c .before .loop .inv) (c .loop-test .left)
@@ -88,16 +91,18 @@ replay-from-spec =
     (tie.spec
     Inv-loop
     μ-loop
-    slot-table-requires
+    array-read-unread
     loop-holds
     head-at-requires
     count-of-requires
     add-next
+    array-write-q
     returns
     word-at-requires
     slot-of-requires
     mul-q
-    array-write-q
+    array-write-q-2
     loop-less
     loop-again
+    array-write-q-3
     returns-2)
