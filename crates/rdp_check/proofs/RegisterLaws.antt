@@ -25,7 +25,7 @@ use Rattle.rdp_command.proofs.PlaceLaws.{number-small, is-whole}
 use Rattle.rdp_command.proofs.ReadLaws.{decodes, decoded-number}
 use Rattle.rdp_check.specs.Commands.{commandsFrom}
 use Rattle.rdp_check.specs.Registers.{noTile, noRegisters, withTiles, registersAfter, afterDecoded, describedTiles, sizedTiles}
-use Rattle.rdp_check.specs.RegisterWords.{tileIn, slotOf, storedAt, wordsAfter, tilesBy, registersBy, isSet, word, registersIn}
+use Rattle.rdp_check.specs.RegisterWords.{tileIn, slotOf, setters, storedAt, wordsAfter, tilesBy, registersBy, isSet, word, registersIn}
 use Rattle.rdp_check.specs.Replay.{slotRow, slotEntry, slotIn, wordsUpTo, registersUpTo}
 use Rattle.rdp_check.specs.declared.Tile.{Tile}
 use Rattle.rdp_check.specs.declared.Registers.{Registers}
@@ -59,10 +59,6 @@ found-slot n w e is l = ap (λ (x : ℕ). slotIn x (tileIn w)) is ∙ row-slot n
 pub found-small : (n w e : ℕ) → e ≡ slotEntry n → n < 64 → slotIn e (tileIn w) < 32
 found-small n w e is l = rw (found-slot n w e is l) (slot-small n (tileIn w) l (tile-small w))
 
--- the commands that set a register
-abbrev pub setters : List ℕ
-setters = 0x2A ∷ 0x2B ∷ 0x2C ∷ 0x2D ∷ 0x2E ∷ 0x2F ∷ 0x30 ∷ 0x32 ∷ 0x33 ∷ 0x34 ∷ 0x35 ∷ 0x37 ∷ 0x38 ∷ 0x39 ∷ 0x3A ∷ 0x3B ∷ 0x3C ∷ 0x3D ∷ 0x3E ∷ 0x3F ∷ []
-
 unless : (b : Bool) {x y : ℕ} → T (cond b true (eqb x y)) → T (not b) → x ≡ y
 unless true t k = absurd k
 unless false t k = eqb→eq _ _ t
@@ -81,6 +77,10 @@ pub stored-back : (slot : ℕ) (ws : List ℕ) (w x : ℕ) → set (set ws slot 
 stored-back slot ws w x =
     by-test (eqb slot 31) (λ t. rw t (ap (λ (j : ℕ). set (set ws j w) 31 x) (eqb-true slot 31 t) ∙ set-set ws 31 w x))
     (λ f. rw f (set-comm ws slot 31 w x (eqb-false slot 31 f)))
+
+-- a command that sets no register leaves the words as they are
+pub words-kept : (ws : List ℕ) (n w : ℕ) → n < 64 → among n setters ≡ false → wordsAfter ws n w ≡ ws
+words-kept ws n w h e = ap (λ (j : ℕ). storedAt j ws w) (other-slot n (tileIn w) h (tile-small w) (rw e tt))
 
 -- a function with one value changed
 abbrev changed : {A : Type 0} → ℕ → A → (ℕ → A) → ℕ → A

@@ -35,6 +35,10 @@ slotOf n t =
     (cond (leb 0x2A n && ltb n 0x30) (n - 0x2A)
     31)))
 
+-- the commands that set a register
+abbrev pub setters : List ℕ
+setters = 0x2A ∷ 0x2B ∷ 0x2C ∷ 0x2D ∷ 0x2E ∷ 0x2F ∷ 0x30 ∷ 0x32 ∷ 0x33 ∷ 0x34 ∷ 0x35 ∷ 0x37 ∷ 0x38 ∷ 0x39 ∷ 0x3A ∷ 0x3B ∷ 0x3C ∷ 0x3D ∷ 0x3E ∷ 0x3F ∷ []
+
 -- the words after a command, by its number and its first word, which is stored where a register is set. Slot 31, which nothing reads, stays
 abbrev pub storedAt : ℕ → List ℕ → ℕ → List ℕ
 storedAt slot words w = cond (eqb slot 31) words (set words slot w)

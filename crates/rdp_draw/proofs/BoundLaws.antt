@@ -1,6 +1,5 @@
 -- Which answers drawing gives, and how large their parts are. Assumes nothing.
 use Prim.Native.Nat.{ℕ, zero, suc, _+_, _/_, _≤_}
-use mathlib.Core.Bool.{Bool, true, false, cond}
 use mathlib.Core.List.{List, [], _∷_}
 use mathlib.Core.Path.{_≡_, sym, subst}
 use native.Mathlib.Omega.{arith}
@@ -12,7 +11,7 @@ use Rattle.rdp_command.specs.Decode.{firstNumber, decodeOf}
 use Rattle.rdp_command.specs.declared.Answer.{Answer}
 use Rattle.rdp_command.proofs.Tests.{by-test}
 use Rattle.rdp_check.specs.Order.{firstOf}
-use Rattle.rdp_check.specs.Check.{State, draws, ownRefusals, syncRefusals, checkRefusals, checkOf}
+use Rattle.rdp_check.specs.Check.{State, ownRefusals, syncRefusals, checkRefusals, checkOf}
 use Rattle.rdp_check.specs.Commands.{commandsOf, wordsIn}
 use Rattle.rdp_check.specs.Registers.{noRegisters, afterDecoded}
 use Rattle.rdp_check.specs.declared.Registers.{Registers}
@@ -20,7 +19,7 @@ use Rattle.rdp_check.proofs.OrderLaws.{allGive, among-gives, refusedAt, then-re
 use Rattle.rdp_check.proofs.FirstLaws.{holds-gives, check-first}
 use Rattle.rdp_check.proofs.JoinLaws.{words-inside}
 use Rattle.rdp_check.proofs.BoundLaws.{place-most}
-use Rattle.rdp_draw.specs.Draw.{Draw, drawAt, drawsFrom, drawsOf, drawRefusals, drawGrounds, drawAnswer}
+use Rattle.rdp_draw.specs.Draw.{Act, nothing, otherDraw, filling, actOfDecoded, Draw, withAct, drawsFrom, drawsOf, drawRefusals, drawGrounds, drawAnswer}
 use Rattle.rdp_draw.specs.Seen.{firstRefusal}
 use Rattle.rdp_draw.specs.Refusals.{Holds, atCheck, atDraw}
 use Rattle.rdp_draw.proofs.DrawLaws.{first-next}
@@ -34,13 +33,13 @@ check-known : (s : State) (c : List ℕ) → T (allGive (λ n. among n drawNumbe
 unfolding ownRefusals syncRefusals
 check-known s c = tt
 
-draw-known : (start len : ℕ) (d : Draw) → T (allGive (λ n. among n drawNumbers) (drawRefusals start len d))
+draw-known : (start len : ℕ) (a : Act) → T (allGive (λ n. among n drawNumbers) (drawRefusals start len a))
 unfolding drawRefusals
-draw-known start len d = tt
+draw-known start len a = tt
 
 known : (list : List ℕ) (start len n p : ℕ) → Holds list start len n p → T (among n drawNumbers)
 known list start len n p (atCheck m q h) = holds-gives (λ k. among k drawNumbers) checkRefusals check-known tt tt tt tt 4096 list m q h
-known list start len n p (atDraw before d after m e r) = among-gives (λ k. among k drawNumbers) m (drawRefusals start len d) (draw-known start len d) r
+known list start len n p (atDraw before d after m e r) = among-gives (λ k. among k drawNumbers) m (drawRefusals start len (d .act)) (draw-known start len (d .act)) r
 
 pub draw-numbers : (list : List ℕ) (start len : ℕ) → T (among (drawAnswer list start len .number) drawNumbers)
 draw-numbers list start len =
@@ -53,15 +52,16 @@ abbrev Within : ℕ → List Draw → Type 0
 Within words [] = Unit {0}
 Within words (d ∷ ds) = (d .place ≤ words) × Within words ds
 
-within-cond : (b : Bool) (words : ℕ) (d : Draw) (ds : List Draw) → d .place ≤ words → Within words ds → Within words (cond b (d ∷ ds) ds)
-within-cond true words d ds h w = (h, w)
-within-cond false words d ds h w = w
+within-act : (words at : ℕ) (a : Act) (ds : List Draw) → at ≤ words → Within words ds → Within words (withAct at a ds)
+within-act words at nothing ds h w = w
+within-act words at (otherDraw i) ds h w = (h, w)
+within-act words at (filling f) ds h w = (h, w)
 
 draws-within : (words : ℕ) (r : Registers) (at : ℕ) (cs : List (List ℕ)) → at + wordsIn cs ≤ words → Within words (drawsFrom r at cs)
 unfolding drawsFrom
 draws-within words r at [] h = tt
 draws-within words r at (c ∷ cs) h =
-    within-cond (draws (firstNumber c)) words (drawAt r at c) _ (omega arith)
+    within-act words at (actOfDecoded r (decodeOf c)) _ (omega arith)
     (draws-within words (afterDecoded r (decodeOf c)) (at + wordsOf (firstNumber c)) cs (omega arith))
 
 refused-within : (g place words : ℕ) (next : Answer) → place ≤ words → next .place ≤ words → refusedAt g place next .place ≤ words
@@ -73,7 +73,7 @@ unfolding firstRefusal drawGrounds
 first-within start len words [] w = omega arith
 first-within start len words (d ∷ ds) w =
     subst (λ (a : Answer). a .place ≤ words) (sym (first-next start len words d ds))
-    (refused-within (firstOf (drawRefusals start len d) 0) (d .place) words _ (w .0) (first-within start len words ds (w .1)))
+    (refused-within (firstOf (drawRefusals start len (d .act)) 0) (d .place) words _ (w .0) (first-within start len words ds (w .1)))
 
 -- the place is within the 4,096 words that the check allows
 pub draw-place : (list : List ℕ) (start len : ℕ) → drawAnswer list start len .place ≤ 4096

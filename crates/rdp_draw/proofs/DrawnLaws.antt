@@ -18,13 +18,13 @@ use Rattle.rdp_draw.proofs.DrawLaws.{draw-numbered}
 
 module _ (start len : ℕ) where
   to-draws :
-      (before : List Draw) (d : Draw) (after : List Draw) (n : ℕ) → Among n (drawRefusals start len d) →
+      (before : List Draw) (d : Draw) (after : List Draw) (n : ℕ) → Among n (drawRefusals start len (d .act)) →
       Among (answer n (d .place)) (drawGrounds start len (before ++ d ∷ after))
   unfolding drawGrounds
   to-draws [] d after n m =
-      among-left (answer n (d .place)) (placed (d .place) (drawRefusals start len d)) _ (among-placed n (d .place) (drawRefusals start len d) m)
+      among-left (answer n (d .place)) (placed (d .place) (drawRefusals start len (d .act))) _ (among-placed n (d .place) (drawRefusals start len (d .act)) m)
   to-draws (b ∷ before) d after n m =
-      among-right (answer n (d .place)) (placed (b .place) (drawRefusals start len b)) _ (to-draws before d after n m)
+      among-right (answer n (d .place)) (placed (b .place) (drawRefusals start len (b .act))) _ (to-draws before d after n m)
 
   -- the draw that is refused
   record Refused (ds : List Draw) (n p : ℕ) : Type 0 where
@@ -32,7 +32,7 @@ module _ (start len : ℕ) where
     d : Draw
     after : List Draw
     split : ds ≡ before ++ d ∷ after
-    refuses : Among n (drawRefusals start len d)
+    refuses : Among n (drawRefusals start len (d .act))
     place : d .place ≡ p
 
   from-draws : (ds : List Draw) (n p : ℕ) → Among (answer n p) (drawGrounds start len ds) → Refused ds n p
@@ -41,7 +41,7 @@ module _ (start len : ℕ) where
   from-draws (d ∷ ds) n p m =
       ⊎-elim
       (λ a.
-      let r = placed-among n p (d .place) (drawRefusals start len d) a in
+      let r = placed-among n p (d .place) (drawRefusals start len (d .act)) a in
       record { before = []; d = d; after = ds; split = refl; refuses = r .0; place = r .1 })
       (λ b.
       let r = from-draws ds n p b in
@@ -53,7 +53,7 @@ module _ (start len : ℕ) where
         refuses = r .refuses;
         place = r .place;
       })
-      (among-parts (answer n p) (placed (d .place) (drawRefusals start len d)) _ m)
+      (among-parts (answer n p) (placed (d .place) (drawRefusals start len (d .act))) _ m)
 
 module _ (list : List ℕ) (start len : ℕ) where
   abbrev ofCheck : List (Ground Answer)
@@ -81,7 +81,7 @@ module _ (list : List ℕ) (start len : ℕ) where
 
   not-zero : (n p : ℕ) → Holds list start len n p → n ≡ 0 → ⊥
   not-zero n p (atCheck m q h) z = no-zero checkRefusals list 4096 check-numbered m q h z
-  not-zero n p (atDraw before d after m split r) z = draw-numbered start len d (subst (λ (k : ℕ). Among k (drawRefusals start len d)) z r)
+  not-zero n p (atDraw before d after m split r) z = draw-numbered start len (d .act) (subst (λ (k : ℕ). Among k (drawRefusals start len (d .act))) z r)
 
   -- drawing's answer accepts exactly where none of 1 to 12 holds, and is else the first in their order, at its place
   pub draw-first : FirstRefusal list start len (drawAnswer list start len)

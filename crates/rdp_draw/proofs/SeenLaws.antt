@@ -1,161 +1,175 @@
--- What the drawing's loops carry is a view of the registers, before and after each command, and leads them from draw to draw. Assumes nothing.
-use mathlib.Core.Bool.{Bool, true, false, cond, not}
+-- The register file that the drawing's loops carry leads them from draw to draw. Assumes nothing.
+use mathlib.Core.Bool.{Bool, true, false, cond, not, _&&_, _||_, true≢false}
 use mathlib.Core.List.{List, [], _∷_}
-use mathlib.Core.Path.{_≡_, refl, sym, _∙_, ap}
-use Prim.Native.Nat.{ℕ, _+_, _*_, _/_, _^_, _≤_, _<_}
-use native.Mathlib.Nat.{le-refl}
+use mathlib.Core.Path.{_≡_, refl, sym, _∙_, ap, subst}
+use Prim.Native.Nat.{ℕ, _+_, _*_, _/_, _%_, _^_, _≤_, _<_}
+use native.Mathlib.Nat.{le-refl, mod-eq-of-lt}
 use native.Mathlib.Omega.{arith}
-use borrow.Author.Tests.{ne-eqb, eqb-true, eqb-false, ltb-true, ltb-false}
+use borrow.Author.Tests.{ne-eqb, eqb-true, ltb-true, ltb-false}
 use lib.Dec.{T, eqb, ltb, eqb→eq}
-use lib.ListN.{length, drop, length-drop}
+use lib.ListN.{length, drop, replicate, length-drop}
+use mir.Val.{boolByte}
 use Rattle.rdp_command.specs.Words.{wordAt, numberIn}
-use Rattle.rdp_command.specs.Kinds.{kindOf, hasBit, wordsOf}
+use Rattle.rdp_command.specs.Kinds.{among, kindOf, hasBit, wordsOf}
 use Rattle.rdp_command.specs.Commands.{numberOf}
 use Rattle.rdp_command.specs.Decode.{firstNumber, wholeWords, decodeOf}
-use Rattle.rdp_command.specs.Reads.{cycleTypeIn, scissorIn, rectangleIn, fillColorIn, colorImageIn}
-use Rattle.rdp_command.specs.declared.Command.{Command}
-use Rattle.rdp_command.specs.declared.FillWords.{FillWords}
+use Rattle.rdp_command.specs.Reads.{fillFields}
 use Rattle.rdp_command.specs.declared.FillFields.{FillFields}
-use Rattle.rdp_command.proofs.Tests.{below, by-test, false-of, neither}
+use Rattle.rdp_command.specs.declared.Command.{Command}
+use Rattle.rdp_command.specs.declared.Command.the-variants.{NoOperation, FillTriangle, TextureRectangle, TextureRectangleFlip, SyncLoad, SyncPipe, SyncTile, SyncFull, SetKeyGb, SetKeyR, SetConvert, SetScissor, SetPrimitiveDepth, SetOtherModes, LoadTlut, SetTileSize, LoadBlock, LoadTile, SetTile, FillRectangle, SetFillColor, SetFogColor, SetBlendColor, SetPrimitiveColor, SetEnvironmentColor, SetCombineMode, SetTextureImage, SetDepthImage, SetColorImage}
+use Rattle.rdp_command.proofs.Tests.{below, by-test, false-of}
 use Rattle.rdp_command.proofs.KindLaws.{bits-by}
 use Rattle.rdp_command.proofs.PlaceLaws.{number-small, some-words}
-use Rattle.rdp_command.proofs.ReadLaws.{decoded, decodes, decoded-number, reads-other-modes, reads-scissor, reads-fill-color, reads-color-image}
+use Rattle.rdp_command.proofs.ReadLaws.{decoded, decodes, decoded-number, reads-triangle, reads-texture-rectangle, reads-texture-rectangle-flip, reads-rectangle}
 use Rattle.rdp_check.specs.Commands.{commandsOf, restOf}
-use Rattle.rdp_check.specs.Registers.{noRegisters, registersAfter, afterDecoded}
+use Rattle.rdp_check.specs.Registers.{afterDecoded}
+use Rattle.rdp_check.specs.RegisterWords.{slotOf, tileIn, setters, wordsAfter, registersBy, registersIn}
 use Rattle.rdp_check.specs.Check.{draws}
 use Rattle.rdp_check.specs.declared.Registers.{Registers}
-use Rattle.rdp_check.proofs.KeptLaws.{keeps}
+use Rattle.rdp_check.proofs.RegisterLaws.{none-set, length-stored, words-kept, registers-stored}
 use Rattle.rdp_check.proofs.ListLaws.{commandAt, commands-at, rest-at, commands-past, rest-past, command-word, command-number, command-there}
-use Rattle.rdp_draw.specs.Draw.{Draw, drawOf, drawAt, drawsFrom, drawsOf}
-use Rattle.rdp_draw.specs.Seen.{FillRegisters, seen, registersIn, sets, seenAfter, setAfter, Due, Next, Reaches}
+use Rattle.rdp_draw.specs.Draw.{Act, nothing, otherDraw, filling, actOf, actOfDecoded, Draw, withAct, drawsFrom, drawsOf}
+use Rattle.rdp_draw.specs.Seen.{fillWords, actWith, Due, Next, Reaches}
 
 -- ---- the kinds of steps
 
 -- the constant of the code
-pub sets-by : (n : ℕ) → n < 64 → hasBit (2 ^ n) 0x8080_A000_0000_0000 ≡ sets n
-unfolding sets
-sets-by = bits-by _ sets tt
+pub sets-by : (n : ℕ) → n < 64 → hasBit (2 ^ n) 0xFFBD_FC00_0000_0000 ≡ among n setters
+sets-by = bits-by _ (λ n. among n setters) tt
 
--- a command that is no draw has one word; a draw sets none of the registers
+-- a command that is no draw has one word; a draw sets no register
 abbrev stepTest : ℕ → Bool
-stepTest n = cond (draws n) (not (sets n)) (eqb (wordsOf n) 1)
+stepTest n = cond (draws n) (not (among n setters)) (eqb (wordsOf n) 1)
 
 step-test : (n : ℕ) → n < 64 → T (stepTest n)
-unfolding draws kindOf wordsOf sets
+unfolding draws kindOf wordsOf
 step-test n h = below 64 stepTest tt n h
 
 one-word : (n : ℕ) → n < 64 → draws n ≡ false → wordsOf n ≡ 1
 one-word n h e = eqb→eq (wordsOf n) 1 (rw e at (step-test n h))
 
-draw-keeps : (n : ℕ) → n < 64 → draws n ≡ true → sets n ≡ false
-draw-keeps n h e = false-of (sets n) (rw e at (step-test n h))
+draw-keeps : (n : ℕ) → n < 64 → draws n ≡ true → among n setters ≡ false
+draw-keeps n h e = false-of (among n setters) (rw e at (step-test n h))
 
--- ---- the words that are set, and the registers that are seen
+-- a draw is a triangle, a texture rectangle or a fill rectangle
+abbrev drawTest : ℕ → Bool
+drawTest n = not (draws n) || (eqb (n / 8) 1 || (eqb n 0x24 || (eqb n 0x25 || eqb n 0x36)))
 
--- four words of 0 show the registers before the first command
-pub none-seen : registersIn (record { modes = 0; scissor = 0; image = 0; color = 0 }) ≡ seen noRegisters
-unfolding seen noRegisters
-none-seen = refl
+draw-test : (n : ℕ) → n < 64 → draws n ≡ true → T (eqb (n / 8) 1 || (eqb n 0x24 || (eqb n 0x25 || eqb n 0x36)))
+unfolding draws kindOf
+draw-test n h e = let t : T (drawTest n) = below 64 drawTest tt n h in rw e at t
 
-cond-of : {A : Type 0} (f : ℕ → A) (b : Bool) (x y : ℕ) → f (cond b x y) ≡ cond b (f x) (f y)
-cond-of f true x y = refl
-cond-of f false x y = refl
+-- ---- what a command draws
 
--- to set a word is to set its register
-set-seen : (set : FillWords) (w : ℕ) → registersIn (setAfter set (numberIn w) w) ≡ seenAfter (registersIn set) w
-unfolding setAfter seenAfter
-set-seen set w =
-    let n = numberIn w in
-    λ i. record {
-      «cycle_type» = cond-of cycleTypeIn (eqb n 0x2F) w (set .modes) i;
-      scissor = cond-of scissorIn (eqb n 0x2D) w (set .scissor) i;
-      image = cond-of colorImageIn (eqb n 0x3F) w (set .image) i;
-      color = cond-of fillColorIn (eqb n 0x37) w (set .color) i;
-    }
+triangle-draws : (s t z : Bool) → draws (0x08 + boolByte s * 4 + boolByte t * 2 + boolByte z) ≡ true
+unfolding draws kindOf
+triangle-draws true true true = refl
+triangle-draws true true false = refl
+triangle-draws true false true = refl
+triangle-draws true false false = refl
+triangle-draws false true true = refl
+triangle-draws false true false = refl
+triangle-draws false false true = refl
+triangle-draws false false false = refl
 
--- a word of a command that sets none of them changes nothing
-pub seen-kept : (q : FillRegisters) (w : ℕ) → sets (numberIn w) ≡ false → seenAfter q w ≡ q
-unfolding sets seenAfter
-seen-kept q w e =
-    let n = numberIn w in
-    let a = neither (eqb n 0x2D) _ e in
-    let b = neither (eqb n 0x2F) _ (a .1) in
-    let c = neither (eqb n 0x37) _ (b .1) in
-    let d = neither (eqb n 0x3F) _ (c .1) in
-    rw (a .0, b .0, c .0, d .0)
+no-act : (r : Registers) (x : Command) → draws (numberOf x) ≡ false → actOf r x ≡ nothing
+unfolding actOf draws kindOf
+no-act r (NoOperation g) e = refl
+no-act r (FillTriangle g) e = absurd (true≢false (sym (triangle-draws (g .shade) (g .texture) (g .zbuffer)) ∙ e))
+no-act r (TextureRectangle g) e = absurd (true≢false e)
+no-act r (TextureRectangleFlip g) e = absurd (true≢false e)
+no-act r SyncLoad e = refl
+no-act r SyncPipe e = refl
+no-act r SyncTile e = refl
+no-act r SyncFull e = refl
+no-act r (SetKeyGb g) e = refl
+no-act r (SetKeyR g) e = refl
+no-act r (SetConvert g) e = refl
+no-act r (SetScissor g) e = refl
+no-act r (SetPrimitiveDepth g) e = refl
+no-act r (SetOtherModes g) e = refl
+no-act r (LoadTlut g) e = refl
+no-act r (SetTileSize g) e = refl
+no-act r (LoadBlock g) e = refl
+no-act r (LoadTile g) e = refl
+no-act r (SetTile g) e = refl
+no-act r (FillRectangle g) e = absurd (true≢false e)
+no-act r (SetFillColor g) e = refl
+no-act r (SetFogColor g) e = refl
+no-act r (SetBlendColor g) e = refl
+no-act r (SetPrimitiveColor g) e = refl
+no-act r (SetEnvironmentColor g) e = refl
+no-act r (SetCombineMode g) e = refl
+no-act r (SetTextureImage g) e = refl
+no-act r (SetDepthImage g) e = refl
+no-act r (SetColorImage g) e = refl
 
--- a command that sets none of them
-others :
-    (r : Registers) (c : Command) → (numberOf c ≡ 0x2D → ⊥) → (numberOf c ≡ 0x2F → ⊥) → (numberOf c ≡ 0x37 → ⊥) → (numberOf c ≡ 0x3F → ⊥) →
-    seen (registersAfter r c) ≡ seen r
-unfolding seen
-others r c s m f i = let k = keeps r c in rw (k .scissor s, k .modes m, k .color f, k .image i)
-
-module _ (r : Registers) (c : List ℕ) (there : wholeWords c ≡ 0 → ⊥) where
+module _ (file c : List ℕ) (there : wholeWords c ≡ 0 → ⊥) where
   abbrev n : ℕ
   n = firstNumber c
 
-  abbrev Result : Type 0
-  Result = seen (registersAfter r (decoded c there)) ≡ seenAfter (seen r) (wordAt c 0)
+  abbrev r : Registers
+  r = registersIn file
 
-  of-scissor : n ≡ 0x2D → Result
-  unfolding seen seenAfter registersAfter
-  of-scissor e = ap (λ (x : Command). seen (registersAfter r x)) (reads-scissor c there e) ∙ rw e
+  abbrev fill : FillFields
+  fill = fillFields (fillWords file) (wordAt c 0)
 
-  of-modes : n ≡ 0x2F → Result
-  unfolding seen seenAfter registersAfter
-  of-modes e = ap (λ (x : Command). seen (registersAfter r x)) (reads-other-modes c there e) ∙ rw e
+  pub draws-none : draws n ≡ false → actOfDecoded r (decodeOf c) ≡ nothing
+  draws-none e = ap (actOfDecoded r) (decodes c there) ∙ no-act r (decoded c there) (rw (decoded-number c there) e)
 
-  of-color : n ≡ 0x37 → Result
-  unfolding seen seenAfter registersAfter
-  of-color e = ap (λ (x : Command). seen (registersAfter r x)) (reads-fill-color c there e) ∙ rw e
+  -- a draw but a fill rectangle
+  others : (n ≡ 0x36 → ⊥) → (x : Command) → decoded c there ≡ x → actOf r x ≡ otherDraw (fill .image) → actOf r (decoded c there) ≡ actWith n fill
+  others h x e q = ap (actOf r) e ∙ q ∙ rw (ne-eqb _ _ h)
 
-  of-image : n ≡ 0x3F → Result
-  unfolding seen seenAfter registersAfter
-  of-image e = ap (λ (x : Command). seen (registersAfter r x)) (reads-color-image c there e) ∙ rw e
+  apart : (k : ℕ) → n ≡ k → (k ≡ 0x36 → ⊥) → n ≡ 0x36 → ⊥
+  apart k e h z = h (sym e ∙ z)
 
-  of-others : (n ≡ 0x2D → ⊥) → (n ≡ 0x2F → ⊥) → (n ≡ 0x37 → ⊥) → (n ≡ 0x3F → ⊥) → Result
-  unfolding seenAfter
-  of-others s m f i =
-      let e = decoded-number c there in
-      others r (decoded c there) (λ x. s (sym e ∙ x)) (λ x. m (sym e ∙ x)) (λ x. f (sym e ∙ x)) (λ x. i (sym e ∙ x)) ∙
-      rw (ne-eqb _ _ s, ne-eqb _ _ m, ne-eqb _ _ f, ne-eqb _ _ i)
+  of-triangle : n / 8 ≡ 1 → actOf r (decoded c there) ≡ actWith n fill
+  unfolding actOf registersBy
+  of-triangle e = let g = reads-triangle c there e in others (λ z. omega arith) (FillTriangle (g .0)) (g .1) refl
 
-  result : Result
-  result =
-      by-test (eqb n 0x2D) (λ t. of-scissor (eqb-true _ _ t))
-      (λ s.
-      by-test (eqb n 0x2F) (λ t. of-modes (eqb-true _ _ t))
-      (λ m.
-      by-test (eqb n 0x37) (λ t. of-color (eqb-true _ _ t))
+  of-texture : n ≡ 0x24 → actOf r (decoded c there) ≡ actWith n fill
+  unfolding actOf registersBy
+  of-texture e = let g = reads-texture-rectangle c there e in others (λ z. omega arith) (TextureRectangle (g .0)) (g .1) refl
+
+  of-flip : n ≡ 0x25 → actOf r (decoded c there) ≡ actWith n fill
+  unfolding actOf registersBy
+  of-flip e = let g = reads-texture-rectangle-flip c there e in others (λ z. omega arith) (TextureRectangleFlip (g .0)) (g .1) refl
+
+  of-fill : n ≡ 0x36 → actOf r (decoded c there) ≡ actWith n fill
+  unfolding actOf registersBy
+  of-fill e = ap (actOf r) (reads-rectangle c there e) ∙ rw e
+
+  pub draws-act : draws n ≡ true → actOfDecoded r (decodeOf c) ≡ actWith n fill
+  draws-act e =
+      let t = draw-test n (number-small (wordAt c 0)) e in
+      ap (actOfDecoded r) (decodes c there) ∙
+      by-test (eqb (n / 8) 1) (λ y. of-triangle (eqb-true _ _ y))
       (λ f.
-      by-test (eqb n 0x3F) (λ t. of-image (eqb-true _ _ t))
-      (λ i. of-others (eqb-false _ _ s) (eqb-false _ _ m) (eqb-false _ _ f) (eqb-false _ _ i)))))
+      by-test (eqb n 0x24) (λ y. of-texture (eqb-true _ _ y))
+      (λ g.
+      by-test (eqb n 0x25) (λ y. of-flip (eqb-true _ _ y)) (λ h. by-test (eqb n 0x36) (λ y. of-fill (eqb-true _ _ y)) (λ i. absurd (rw (f, g, h, i) at t)))))
 
-  pub seen-after : seen (afterDecoded r (decodeOf c)) ≡ seenAfter (seen r) (wordAt c 0)
-  seen-after = ap (λ x. seen (afterDecoded r x)) (decodes c there) ∙ result
+with-drawn : (n at : ℕ) (f : FillFields) (ds : List Draw) → withAct at (actWith n f) ds ≡ record { place = at; act = actWith n f } ∷ ds
+with-drawn n at f ds = either (eqb n 0x36 && eqb (f .«cycle_type») 3)
+  where
+    either : (b : Bool) → withAct at (cond b (filling f) (otherDraw (f .image))) ds ≡ record { place = at; act = cond b (filling f) (otherDraw (f .image)) } ∷ ds
+    either true = refl
+    either false = refl
 
 -- ---- from draw to draw
 
--- a fill under registers that are seen, by its word
-abbrev fillUnder : FillRegisters → ℕ → FillFields
-fillUnder q w =
-    record { «cycle_type» = q .«cycle_type»; rectangle = rectangleIn w; scissor = q .scissor; image = q .image; color = q .color }
-
-draw-seen : (r : Registers) (at : ℕ) (c : List ℕ) → drawAt r at c ≡ drawOf at (firstNumber c) (fillUnder (seen r) (wordAt c 0))
-unfolding seen
-draw-seen r at c = refl
-
-pub start-due : (list : List ℕ) → restOf list ≡ [] → (set : FillWords) → registersIn set ≡ seen noRegisters → Due list 0 set (drawsOf list)
-start-due list w set e = record { registers = noRegisters; sees = sym e; draws = refl; whole = w }
+-- a file of zeros is that before the first command
+pub start-due : (list : List ℕ) → restOf list ≡ [] → Due list 0 (replicate 32 0) (drawsOf list)
+start-due list w = record { long = refl; draws = ap (λ (q : Registers). drawsFrom q 0 (commandsOf list)) none-set; whole = w }
 
 -- nothing is left
-pub due-none : {list : List ℕ} {at : ℕ} {set : FillWords} {ds : List Draw} → Due list at set ds → length list / 8 ≤ at → ds ≡ []
+pub due-none : {list : List ℕ} {at : ℕ} {file : List ℕ} {ds : List Draw} → Due list at file ds → length list / 8 ≤ at → ds ≡ []
 unfolding drawsFrom
 due-none {list} {at} d h =
     sym (d .draws) ∙ rw (commands-past list at _ refl (omega (arith, h, some-words list at _ refl)))
 
-module _ {list : List ℕ} {at : ℕ} {set : FillWords} {ds : List Draw} (d : Due list at set ds) (more : at < length list / 8) (n : ℕ) (is : n ≡ numberIn (wordAt list at)) where
+module _ {list : List ℕ} {at : ℕ} {file : List ℕ} {ds : List Draw} (d : Due list at file ds) (more : at < length list / 8) (n : ℕ) (is : n ≡ numberIn (wordAt list at)) where
   whole-at : at + wordsOf n ≤ length list / 8
   whole-at =
       by-test (ltb (length list / 8) (at + wordsOf n))
@@ -166,89 +180,102 @@ module _ {list : List ℕ} {at : ℕ} {set : FillWords} {ds : List Draw} (d : Du
       absurd (omega (arith, short, length-drop (8 * at) list)))
       (λ f. ltb-false _ _ f)
 
-  abbrev r : Registers
-  r = d .registers
+  small : n < 64
+  small = rw is (number-small (wordAt list at))
 
   abbrev c : List ℕ
   c = commandAt list at n
 
-  abbrev r′ : Registers
-  r′ = afterDecoded r (decodeOf c)
+  there : wholeWords c ≡ 0 → ⊥
+  there = command-there list at n is whole-at
 
-  small : n < 64
-  small = rw is (number-small (wordAt list at))
+  -- the file after the command
+  abbrev file′ : List ℕ
+  file′ = wordsAfter file n (wordAt list at)
 
-  sees-after : seen r′ ≡ seenAfter (registersIn set) (wordAt list at)
-  sees-after = seen-after r c (command-there list at n is whole-at) ∙ rw (d .sees, command-word list at n is whole-at)
+  stored : registersIn file′ ≡ afterDecoded (registersIn file) (decodeOf c)
+  stored =
+      (λ i. registersIn (wordsAfter file (sym (command-number list at n is whole-at) i) (sym (command-word list at n is whole-at) i))) ∙
+      registers-stored file (d .long) c there
 
   abbrev rest : List Draw
-  rest = drawsFrom r′ (at + wordsOf n) (commandsOf (drop (8 * (at + wordsOf n)) list))
+  rest = drawsFrom (registersIn file′) (at + wordsOf n) (commandsOf (drop (8 * (at + wordsOf n)) list))
 
-  unrolled : ds ≡ cond (draws n) (drawAt r at c ∷ rest) rest
+  unrolled : ds ≡ withAct at (actOfDecoded (registersIn file) (decodeOf c)) rest
   unfolding drawsFrom
-  unrolled = sym (d .draws) ∙ rw (commands-at list at n is whole-at, command-number list at n is whole-at)
+  unrolled =
+      sym (d .draws) ∙
+      rw (commands-at list at n is whole-at, command-number list at n is whole-at)
+      (ap
+      (λ (q : Registers). withAct at (actOfDecoded (registersIn file) (decodeOf c)) (drawsFrom q (at + wordsOf n) (commandsOf (drop (8 * (at + wordsOf n)) list))))
+      (sym stored))
 
-  rest-whole : restOf (drop (8 * (at + wordsOf n)) list) ≡ []
-  rest-whole = sym (rest-at list at n is whole-at) ∙ d .whole
-
-  -- past a command that is no draw
-  pub step : draws n ≡ false → (set′ : FillWords) → registersIn set′ ≡ seenAfter (registersIn set) (wordAt list at) → Due list (at + 1) set′ ds
-  step e set′ is-set =
-      let one : wordsOf n ≡ 1 = one-word n small e in
-      let onward : rest ≡ ds = sym (unrolled ∙ ap (λ (b : Bool). cond b (drawAt r at c ∷ rest) rest) e) in
+  after : Due list (at + wordsOf n) file′ rest
+  after =
       record {
-        registers = r′;
-        sees = sees-after ∙ sym is-set;
-        draws = ap (λ (k : ℕ). drawsFrom r′ (at + k) (commandsOf (drop (8 * (at + k)) list))) (sym one) ∙ onward;
-        whole = rw one at rest-whole;
+        long = length-stored (slotOf n (tileIn (wordAt list at))) file (wordAt list at) ∙ d .long;
+        draws = refl;
+        whole = sym (rest-at list at n is whole-at) ∙ d .whole;
       }
 
-  pub skip : draws n ≡ false → sets n ≡ false → Due list (at + 1) set ds
-  skip e k = step e set (sym (seen-kept (registersIn set) (wordAt list at) (rw is at k)))
+  -- past a command that is no draw
+  pub step : draws n ≡ false → Due list (at + 1) file′ ds
+  step e =
+      let none = draws-none file c there (rw (command-number list at n is whole-at) e) in
+      let same : rest ≡ ds = sym (unrolled ∙ ap (λ (a : Act). withAct at a rest) none) in
+      subst (λ (k : ℕ). Due list (at + k) file′ ds) (one-word n small e) (subst (λ (x : List Draw). Due list (at + wordsOf n) file′ x) same after)
 
-  pub reached : draws n ≡ true → Next list (record { place = at; number = n; set = set }) ds
+  pub skip : draws n ≡ false → among n setters ≡ false → Due list (at + 1) file ds
+  skip e k = subst (λ (f : List ℕ). Due list (at + 1) f ds) (words-kept file n (wordAt list at) small k) (step e)
+
+  pub reached : draws n ≡ true → Next list (record { place = at; number = n }) file ds
   reached e =
+      let act = draws-act file c there (rw (command-number list at n is whole-at) e) in
+      let same : actWith (firstNumber c) (fillFields (fillWords file) (wordAt c 0)) ≡ actWith n (fillFields (fillWords file) (wordAt list at)) =
+      λ i. actWith (command-number list at n is whole-at i) (fillFields (fillWords file) (command-word list at n is whole-at i)) in
       record {
         some = some-words list at n is;
         inside = whole-at;
         others = rest;
         first =
-            unrolled ∙ rw (e, draw-seen r at c, d .sees, command-number list at n is whole-at, command-word list at n is whole-at);
+            unrolled ∙
+            ap (λ (a : Act). withAct at a rest) (act ∙ same) ∙
+            with-drawn n at (fillFields (fillWords file) (wordAt list at)) rest;
         due =
-            record {
-              registers = r′;
-              sees = sees-after ∙ seen-kept (registersIn set) (wordAt list at) (rw is at (draw-keeps n small e));
-              draws = refl;
-              whole = rest-whole;
-            };
+            subst (λ (f : List ℕ). Due list (at + wordsOf n) f rest) (words-kept file n (wordAt list at) small (draw-keeps n small e)) after;
       }
 
 -- what holds at the head of the loop that looks for a draw: what was due at its start is due here
-pub record Walks (list : List ℕ) (from : ℕ) (before : FillWords) (words : ℕ) (set : FillWords) (at : ℕ) : Type 0 where
+pub record Walks (list : List ℕ) (from : ℕ) (before : List ℕ) (words : ℕ) (file : List ℕ) (at : ℕ) : Type 0 where
   pub count : words ≡ length list / 8
   pub onward : from ≤ at
-  pub due : (ds : List Draw) → Due list from before ds → Due list at set ds
+  pub due : (ds : List Draw) → Due list from before ds → Due list at file ds
 
-pub walk-first : (list : List ℕ) (from : ℕ) (set : FillWords) (words : ℕ) → words ≡ length list / 8 → Walks list from set words set from
-walk-first list from set words e = record { count = e; onward = le-refl from; due = λ ds d. d }
+pub walk-first : (list : List ℕ) (from : ℕ) (file : List ℕ) (words : ℕ) → words ≡ length list / 8 → Walks list from file words file from
+walk-first list from file words e = record { count = e; onward = le-refl from; due = λ ds d. d }
 
-module _ {list : List ℕ} {from : ℕ} {before : FillWords} {words : ℕ} {set : FillWords} {at : ℕ} (w : Walks list from before words set at) where
-  pub walk-none : words ≤ at → (n : ℕ) → Reaches list from before (record { place = at; number = n; set = set })
+module _ {list : List ℕ} {from : ℕ} {before : List ℕ} {words : ℕ} {file : List ℕ} {at : ℕ} (w : Walks list from before words file at) where
+  pub walk-none : words ≤ at → (n : ℕ) → Reaches list from before (record { place = at; number = n }) file
   walk-none h n = (w .onward, λ ds d. record { some = λ l. absurd (omega (arith, w .count)); none = λ l. due-none (w .due ds d) l })
 
   module _ (more : at < words) (n : ℕ) (is : n ≡ numberIn (wordAt list at)) (b : Bool) (is-b : b ≡ draws n) where
     inside : at < length list / 8
     inside = omega (arith, w .count)
 
-    pub walk-found : b ≡ true → Reaches list from before (record { place = at; number = n; set = set })
+    pub walk-found : b ≡ true → Reaches list from before (record { place = at; number = n }) file
     walk-found t =
         (w .onward, λ ds d. record { some = λ l. reached (w .due ds d) inside n is (sym is-b ∙ t); none = λ l. absurd (omega arith) })
 
-    module _ (f : b ≡ false) (s : Bool) (is-s : s ≡ sets n) where
-      pub walk-skip : s ≡ false → Walks list from before words set (at + 1)
-      walk-skip e = record { count = w .count; onward = omega (arith, w .onward); due = λ ds d. skip (w .due ds d) inside n is (sym is-b ∙ f) (sym is-s ∙ e) }
+    module _ (f : b ≡ false) where
+      pub walk-skip : (s : Bool) → s ≡ among n setters → s ≡ false → Walks list from before words file (at + 1)
+      walk-skip s is-s e = record { count = w .count; onward = omega (arith, w .onward); due = λ ds d. skip (w .due ds d) inside n is (sym is-b ∙ f) (sym is-s ∙ e) }
 
-      pub walk-set : (v : ℕ) → v ≡ wordAt list at → (set′ : FillWords) → set′ ≡ setAfter set n v → Walks list from before words set′ (at + 1)
-      walk-set v is-v set′ is-set =
-          let same : registersIn set′ ≡ seenAfter (registersIn set) (wordAt list at) = rw (is-set, is-v, is) (set-seen set (wordAt list at)) in
-          record { count = w .count; onward = omega (arith, w .onward); due = λ ds d. step (w .due ds d) inside n is (sym is-b ∙ f) set′ same }
+      pub walk-set : (v : ℕ) → v ≡ wordAt list at → (stored : List ℕ) → stored ≡ wordsAfter file (n % 64) v → Walks list from before words stored (at + 1)
+      walk-set v is-v stored is-stored =
+          let low : n % 64 ≡ n = mod-eq-of-lt (rw is (number-small (wordAt list at))) in
+          let same : wordsAfter file n (wordAt list at) ≡ stored = sym (is-stored ∙ (λ i. wordsAfter file (low i) (is-v i))) in
+          record {
+            count = w .count;
+            onward = omega (arith, w .onward);
+            due = λ ds d. subst (λ (x : List ℕ). Due list (at + 1) x ds) same (step (w .due ds d) inside n is (sym is-b ∙ f));
+          }

@@ -6,11 +6,12 @@ use mathlib.Core.Path.{_≡_}
 use lib.Dec.{T}
 use lib.ListN.{length}
 use Rattle.rdp_command.specs.declared.Answer.{Answer}
+use Rattle.rdp_command.specs.declared.FillFields.{FillFields}
 use Rattle.rdp_check.specs.Order.{Among, IsFirst}
 use Rattle.rdp_check.specs.Check.{checkRefusals}
 use Rattle.rdp_check.specs.Refusals as check
 use Rattle.rdp_draw.specs.Fill.{covers}
-use Rattle.rdp_draw.specs.Draw.{Draw, drawsOf, drawRefusals, groundsOf}
+use Rattle.rdp_draw.specs.Draw.{Act, nothing, otherDraw, filling, Draw, drawsOf, drawRefusals, groundsOf}
 
 -- a refusal of a list, and its place
 pub data Holds (list : List ℕ) (start len : ℕ) : ℕ → ℕ → Type 0 where
@@ -19,21 +20,27 @@ pub data Holds (list : List ℕ) (start len : ℕ) : ℕ → ℕ → Type 0 wher
   -- 10 to 12, at a draw's first word
   atDraw :
       (before : List Draw) (d : Draw) (after : List Draw) (n : ℕ) →
-      drawsOf list ≡ before ++ d ∷ after → Among n (drawRefusals start len d) → Holds list start len n (d .place)
+      drawsOf list ≡ before ++ d ∷ after → Among n (drawRefusals start len (d .act)) → Holds list start len n (d .place)
 
 -- an answer that accepts exactly where no refusal holds, and is else the first that holds, at its place
 abbrev pub FirstRefusal : List ℕ → ℕ → ℕ → Answer → Type 0
 FirstRefusal list start len r = IsFirst (Holds list start len) (groundsOf list start len) (length list / 8) (r .number) (r .place)
 
--- one of some draws covers an address
+-- a draw, and one of some draws, covers an address
+abbrev pub actCovers : Act → ℕ → Bool
+actCovers nothing a = false
+actCovers (otherDraw i) a = false
+actCovers (filling f) a = covers f a
+
 unfoldable pub someCovers : List Draw → ℕ → Bool
 someCovers [] a = false
-someCovers (d ∷ ds) a = covers (d .fill) a || someCovers ds a
+someCovers (d ∷ ds) a = actCovers (d .act) a || someCovers ds a
 
--- the last draw of a list that covers an address
-pub record LastCovers (list : List ℕ) (a : ℕ) (d : Draw) : Type 0 where
+-- the last fill of a list that covers an address
+pub record LastCovers (list : List ℕ) (a : ℕ) (f : FillFields) : Type 0 where
   pub before : List Draw
+  pub place : ℕ
   pub after : List Draw
-  pub split : drawsOf list ≡ before ++ d ∷ after
-  pub covering : T (covers (d .fill) a)
+  pub split : drawsOf list ≡ before ++ record { place = place; act = filling f } ∷ after
+  pub covering : T (covers f a)
   pub staying : T (not (someCovers after a))

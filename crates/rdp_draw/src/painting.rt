@@ -40,14 +40,11 @@ pub fn paint_all(list: &[u8], words: usize, memory: &mut [u8], start: u64)
     requires { ⌜ firstRefusal start (length (now memory)) words (drawsOf (now list)) .number ≡ 0 ⌝ }
     ensures { λ _. ⌜ now (memory .exit) ≡ paintedAll start (drawsOf (now (list .entry))) (now (memory .entry)) ⌝ }
 {
-    let mut reached = walk::next_draw(list, 0, walk::none_set());
+    let mut file = [0u64; 32];
+    let mut reached = walk::next_draw(list, 0, &mut file);
     while reached.place < words {
-        paint_fill(
-            memory,
-            start,
-            walk::fill_at(list, reached.place, reached.set),
-        );
+        paint_fill(memory, start, walk::fill_at(list, reached.place, &file));
         let next = reached.place + rdp_command::words_of(reached.number);
-        reached = walk::next_draw(list, next, reached.set);
+        reached = walk::next_draw(list, next, &mut file);
     }
 }

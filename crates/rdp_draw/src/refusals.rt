@@ -13,10 +13,10 @@ use rdp_command::Answer;
 use walk::Reached;
 
 // The first refusal of a draw, or 0.
-fn refusal_at(list: &[u8], at: Reached, start: u64, len: usize) -> u32
-    ensures { λ r. ⌜ r ≡ firstOf (drawRefusals start len (drawWith (at .set) (now (list .entry)) (at .place) (at .number))) 0 ⌝ }
+fn refusal_at(list: &[u8], at: Reached, file: &[u64; 32], start: u64, len: usize) -> u32
+    ensures { λ r. ⌜ r ≡ firstOf (drawRefusals start len (drawWith (now (file .entry)) (now (list .entry)) (at .place) (at .number) .act)) 0 ⌝ }
 {
-    let fill = walk::fill_at(list, at.place, at.set);
+    let fill = walk::fill_at(list, at.place, file);
     if !((at.number == 0x36) & (fill.cycle_type == 3)) {
         return 10;
     }
@@ -35,9 +35,10 @@ pub fn first_refusal(list: &[u8], words: usize, start: u64, len: usize) -> Answe
     requires { ⌜ (words ≡ length (now list) / 8) × ((words ≤ 4096) × (restOf (now list) ≡ [])) ⌝ }
     ensures { λ r. ⌜ r ≡ firstRefusal start len words (drawsOf (now (list .entry))) ⌝ }
 {
-    let mut reached = walk::next_draw(list, 0, walk::none_set());
+    let mut file = [0u64; 32];
+    let mut reached = walk::next_draw(list, 0, &mut file);
     while reached.place < words {
-        let number = refusal_at(list, reached, start, len);
+        let number = refusal_at(list, reached, &file, start, len);
         let place = reached.place;
         if number != 0 {
             return Answer {
@@ -46,7 +47,7 @@ pub fn first_refusal(list: &[u8], words: usize, start: u64, len: usize) -> Answe
             };
         }
         let next = place + rdp_command::words_of(reached.number);
-        reached = walk::next_draw(list, next, reached.set);
+        reached = walk::next_draw(list, next, &mut file);
     }
     Answer {
         number: 0,

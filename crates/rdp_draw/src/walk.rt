@@ -1,31 +1,19 @@
-// The walk over the draws of a list, with the words that set what fills are drawn under.
+// The walk over the draws of a list, with the words that last set the registers.
 ghost use mathlib.Core.Path.{_≡_};
 ghost use Prim.Native.Nat.{_<_};
 ghost use Rattle.rdp_command.specs.Words.{wordAt};
+ghost use Rattle.rdp_command.specs.Kinds.{among};
 ghost use Rattle.rdp_command.specs.Reads.{fillFields};
 ghost use Rattle.rdp_check.specs.Check.{draws};
-ghost use Rattle.rdp_check.specs.Registers.{noRegisters};
-ghost use Rattle.rdp_draw.specs.Seen.{seen, sets, registersIn, setAfter, Reaches};
+ghost use Rattle.rdp_check.specs.RegisterWords.{setters};
+ghost use Rattle.rdp_draw.specs.Seen.{fillWords, Reaches};
 use rdp_command::FillFields;
 use rdp_command::FillWords;
 
-// A draw: its place, its number and the words that set what it is drawn under. Where there is none, the place is the number of words.
+// A draw: its place and its number. Where there is none, the place is the number of words.
 pub struct Reached {
     pub place: usize,
     pub number: u8,
-    pub set: FillWords,
-}
-
-// The words before the first command: none has come.
-pub fn none_set() -> FillWords
-    ensures { λ r. ⌜ registersIn r ≡ seen noRegisters ⌝ }
-{
-    FillWords {
-        modes: 0,
-        scissor: 0,
-        image: 0,
-        color: 0,
-    }
 }
 
 fn is_draw(number: u8) -> bool
@@ -37,56 +25,25 @@ fn is_draw(number: u8) -> bool
 
 fn is_setter(number: u8) -> bool
     requires { ⌜ number < 64 ⌝ }
-    ensures { λ r. ⌜ r ≡ sets number ⌝ }
+    ensures { λ r. ⌜ r ≡ among number setters ⌝ }
 {
-    (0x8080_A000_0000_0000u64 >> number) % 2 == 1
+    (0xFFBD_FC00_0000_0000u64 >> number) % 2 == 1
 }
 
-// The words after a command, by its number and its first word.
-fn after(set: FillWords, number: u8, w: u64) -> FillWords
-    ensures { λ r. ⌜ r ≡ setAfter set number w ⌝ }
-{
-    let mut r = set;
-    match number {
-        0x2D => {
-            r.scissor = w;
-            return r;
-        }
-        0x2F => {
-            r.modes = w;
-            return r;
-        }
-        0x37 => {
-            r.color = w;
-            return r;
-        }
-        0x3F => {
-            r.image = w;
-            return r;
-        }
-        _ => return r,
-    }
-}
-
-// The first draw from a place on. Every other command has one word.
-pub fn next_draw(list: &[u8], from: usize, before: FillWords) -> Reached
-    ensures { λ r. ⌜ Reaches (now (list .entry)) from before r ⌝ }
+// The first draw from a place on; the words before it are stored in the file. Every other command has one word.
+pub fn next_draw(list: &[u8], from: usize, file: &mut [u64; 32]) -> Reached
+    ensures { λ r. ⌜ Reaches (now (list .entry)) from (now (file .entry)) r (now (file .exit)) ⌝ }
 {
     let words = list.len() / 8;
-    let mut set = before;
     let mut at = from;
     while at < words {
         let head = rdp_command::head_at(list, at);
         let number = head.number;
         if is_draw(number) {
-            return Reached {
-                place: at,
-                number,
-                set,
-            };
+            return Reached { place: at, number };
         }
         if is_setter(number) {
-            set = after(set, number, rdp_command::word_at(list, at));
+            rdp_check::store(file, number, rdp_command::word_at(list, at));
             at += 1;
             continue;
         }
@@ -95,13 +52,18 @@ pub fn next_draw(list: &[u8], from: usize, before: FillWords) -> Reached
     Reached {
         place: at,
         number: 0,
-        set,
     }
 }
 
 // A fill rectangle at a place, with what it is drawn under.
-pub fn fill_at(list: &[u8], place: usize, set: FillWords) -> FillFields
-    ensures { λ r. ⌜ r ≡ fillFields set (wordAt (now (list .entry)) place) ⌝ }
+pub fn fill_at(list: &[u8], place: usize, file: &[u64; 32]) -> FillFields
+    ensures { λ r. ⌜ r ≡ fillFields (fillWords (now (file .entry))) (wordAt (now (list .entry)) place) ⌝ }
 {
+    let set = FillWords {
+        modes: file[5],
+        scissor: file[3],
+        image: file[14],
+        color: file[6],
+    };
     rdp_command::fill_fields(set, rdp_command::word_at(list, place))
 }

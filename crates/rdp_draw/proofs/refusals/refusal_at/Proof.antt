@@ -10,13 +10,13 @@ fill-at-requires c κs = search needs
 returns : tie.Need-returns
 returns c =
     let f = c .before .before .before in
-    refusal-10 _ _ _ (f .before .before .args .at .number) (f .fill-at .ensures) (c .if1 .taken)
+    refusal-10 _ _ (f .before .before .args .at .number) (f .fill-at .ensures) (c .if1 .taken)
 
 returns-2 : tie.Need-returns-2
 returns-2 c =
     let t = c .before .before in
     let f = t .before .before .before in
-    refusal-11 _ _ _ (f .before .before .args .at .number) (f .fill-at .ensures) (t .if1 .left) (c .if2 .taken)
+    refusal-11 _ _ (f .before .before .args .at .number) (f .fill-at .ensures) (t .if1 .left) (c .if2 .taken)
 
 area-of-requires : tie.Need-area-of-requires
 area-of-requires c κs = search needs
@@ -29,7 +29,7 @@ returns-3 c =
     let a = c .before .before in
     let t = a .before .before .before in
     let f = t .before .before .before in
-    refusal-0 _ _ _ (f .before .before .args .at .number) (f .fill-at .ensures) (t .if1 .left) (a .before .if2 .left) _ (a .area-of .ensures .0) _
+    refusal-0 _ _ (f .before .before .args .at .number) (f .fill-at .ensures) (t .if1 .left) (a .before .if2 .left) _ (a .area-of .ensures .0) _
     (c .before .is-inside .ensures) (c .if3 .taken)
 
 returns-4 : tie.Need-returns-4
@@ -37,7 +37,7 @@ returns-4 c =
     let a = c .before .before in
     let t = a .before .before .before in
     let f = t .before .before .before in
-    refusal-12 _ _ _ (f .before .before .args .at .number) (f .fill-at .ensures) (t .if1 .left) (a .before .if2 .left) _ (a .area-of .ensures .0) _
+    refusal-12 _ _ (f .before .before .args .at .number) (f .fill-at .ensures) (t .if1 .left) (a .before .if2 .left) _ (a .area-of .ensures .0) _
     (c .before .is-inside .ensures) (c .if3 .left)
 
 pub refusal-at-spec : {M : Type 1} → statement M

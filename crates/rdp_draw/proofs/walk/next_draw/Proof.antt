@@ -10,10 +10,10 @@ use Rattle.rdp_draw.proofs.walk.next_draw.Statement.{statement}
 use Rattle.rdp_draw.proofs.walk.next_draw.Tie as tie
 
 abbrev Inv-loop : tie.InvT-loop
-Inv-loop list from words before at₀ set at = Walks list from before words set at
+Inv-loop list from file₀ words at₀ file at = Walks list from file₀ words file at
 
 abbrev μ-loop : tie.MeasureT-loop
-μ-loop list from words before at₀ set at = words - at
+μ-loop list from file₀ words at₀ file at = words - at
 
 loop-holds : tie.Need-loop-holds Inv-loop μ-loop
 loop-holds c = walk-first _ _ _ _ refl
@@ -26,8 +26,9 @@ is-draw-requires c κs = rw (c .head-at .ensures) (number-small _)
 
 returns : tie.Need-returns Inv-loop μ-loop
 returns c =
-    let l = c .before .before .before in
-    walk-found (l .before .loop .inv) (l .loop-test .taken) _ (ap (λ x. x .number) (c .before .before .head-at .ensures)) _ (c .before .is-draw .ensures) (c .if1 .taken)
+    let d = c .before in
+    let l = d .before .before in
+    walk-found (l .before .loop .inv) (l .loop-test .taken) _ (ap (λ x. x .number) (d .before .head-at .ensures)) _ (d .is-draw .ensures) (c .if1 .taken)
 
 is-setter-requires : tie.Need-is-setter-requires Inv-loop μ-loop
 is-setter-requires c κs = rw (c .before .before .head-at .ensures) (number-small _)
@@ -35,12 +36,12 @@ is-setter-requires c κs = rw (c .before .before .head-at .ensures) (number-smal
 word-at-requires : tie.Need-word-at-requires Inv-loop μ-loop
 word-at-requires c κs = search needs
 
-after-requires : tie.Need-after-requires Inv-loop μ-loop
-after-requires c κs = search needs
+store-requires : tie.Need-store-requires Inv-loop μ-loop
+store-requires c κs = search needs
 
 add-at : tie.Need-add-at Inv-loop μ-loop
 add-at c =
-    let l = c .before .before .before .before .before .before .before in
+    let l = c .before .before .before .before .before .before .before .before in
     omega (arith, l .loop-test .taken, l .before .loop .inv .count)
 
 loop-less : tie.Need-loop-less Inv-loop μ-loop
@@ -48,11 +49,11 @@ loop-less c = search needs
 
 loop-again : tie.Need-loop-again Inv-loop μ-loop
 loop-again c =
-    let s = c .before .before .before in
-    let d = s .before .before in
+    let n = c .before .before .before .before .before in
+    let d = n .before in
     let l = d .before .before in
-    walk-set (l .before .loop .inv) (l .loop-test .taken) _ (ap (λ x. x .number) (d .before .head-at .ensures)) _ (d .is-draw .ensures) (s .before .if1 .left) _
-    (s .is-setter .ensures) _ (c .before .word-at .ensures) _ (c .after .ensures)
+    walk-set (l .before .loop .inv) (l .loop-test .taken) _ (ap (λ x. x .number) (d .before .head-at .ensures)) _ (d .is-draw .ensures) (n .if1 .left) _
+    (c .before .word-at .ensures) _ (c .store .ensures)
 
 add-at-2 : tie.Need-add-at-2 Inv-loop μ-loop
 add-at-2 c = search needs
@@ -83,7 +84,7 @@ next-draw-spec =
     returns
     is-setter-requires
     word-at-requires
-    after-requires
+    store-requires
     add-at
     loop-less
     loop-again
