@@ -2,7 +2,7 @@
 use Prim.Native.Nat.{ℕ, _≤_, _<_}
 use mathlib.Core.Bool.{Bool, true, false, cond, _&&_}
 use mathlib.Core.List.{List}
-use mathlib.Core.Path.{_≡_, sym, ap, _∙_}
+use mathlib.Core.Path.{_≡_, ap, _∙_}
 use native.Mathlib.Omega.{arith}
 use lib.Dec.{eqb, ltb, leb, leb→le}
 use lib.ListN.{length, length-map}
@@ -12,37 +12,18 @@ use Rattle.rdp_command.specs.Layout.{layout}
 use Rattle.rdp_command.specs.Fields.{fieldAt, numberOfValue}
 use Rattle.rdp_command.specs.Commands.{numberOf, valuesOf}
 use Rattle.rdp_command.specs.Decode.{firstNumber, wholeWords, ownWords, commandIn, decodeOf}
-use Rattle.rdp_command.specs.Encode.{numbersOf, numberFits, encodable, hasRoom, answerWith, encodeAnswer}
+use Rattle.rdp_command.specs.Encode.{numbersOf, numberInRow, encodable, hasRoom, answerWith, encodeAnswer}
 use Rattle.rdp_command.specs.Numbers.{numbersFit, flagsAgree, fieldsAnswer, fromNumbers}
 use Rattle.rdp_command.specs.declared.Answer.{Answer}
 use Rattle.rdp_command.specs.declared.Command.{Command}
 use Rattle.rdp_command.specs.declared.Decoded.the-variants.{Whole, Refused}
 use Rattle.rdp_command.proofs.Tests.{below, by-test}
 use Rattle.rdp_command.proofs.KindLaws.{words-most}
-use Rattle.rdp_command.proofs.AnswerLaws.{answer}
+use Rattle.rdp_command.proofs.AnswerLaws.{answer, refusal-of, refusal-first, decoded-is}
 use Rattle.rdp_command.proofs.PlaceLaws.{number-small}
 use Rattle.rdp_command.proofs.Spreading.{not-encodable}
 use Rattle.rdp_command.proofs.GroupLaws.{values-read}
 use Rattle.rdp_command.proofs.NumberLaws.{standing}
-
--- ---- a test that answers a command or a refusal
-
-never : {c : Command} {a : Answer} → Whole c ≡ Refused a → ⊥
-never e = let z : _≡_ {A = ℕ} 0 1 = cc in omega arith
-
--- what is refused
-refusal-of : (b : Bool) (c : Command) (r : Answer) {a : Answer} → cond b (Whole c) (Refused r) ≡ Refused a → a ≡ r
-refusal-of true c r e = absurd (never e)
-refusal-of false c r e = cc
-
--- what is accepted
-command-of : (b : Bool) (c : Command) (r : Answer) {d : Command} → cond b (Refused r) (Whole c) ≡ Whole d → d ≡ c
-command-of true c r e = absurd (never (sym e))
-command-of false c r e = cc
-
-refusal-first : (b : Bool) (c : Command) (r : Answer) {a : Answer} → cond b (Refused r) (Whole c) ≡ Refused a → a ≡ r
-refusal-first true c r e = cc
-refusal-first false c r e = absurd (never e)
 
 -- ---- decoding
 
@@ -53,12 +34,10 @@ decode-refused bs e = refusal-first (eqb (wholeWords bs) 0) (commandIn (firstNum
 
 -- a decoded command has as many fields as its number has bit lines
 pub fields-decoded : (bs : List ℕ) {c : Command} → decodeOf bs ≡ Whole c → length (numbersOf c) ≡ length (layout (firstNumber bs))
-unfolding decodeOf
 fields-decoded bs e =
     let n = firstNumber bs in
     let ws = ownWords bs (wholeWords bs) in
-    let is = command-of (eqb (wholeWords bs) 0) (commandIn n ws) (answer 3 0) e in
-    ap (λ (x : Command). length (numbersOf x)) is ∙
+    ap (λ (x : Command). length (numbersOf x)) (decoded-is bs e) ∙
     length-map (valuesOf (commandIn n ws)) numberOfValue ∙
     ap length (values-read n (number-small (wordAt bs 0)) ws) ∙
     length-map (layout n) (fieldAt ws)
@@ -105,6 +84,6 @@ verdict-words false room words h = omega arith
 pub encode-words : (c : Command) (suffix out : List ℕ) → encodeAnswer c suffix out .place ≤ 22
 unfolding answerWith
 encode-words c suffix out =
-    by-test (numberFits c)
+    by-test (numberInRow c)
     (λ t. verdict-words (encodable c suffix) (hasRoom (numberOf c) out) (wordsOf (numberOf c)) (words-most (numberOf c) (standing c t .1)))
     (λ f. rw (not-encodable c suffix f) (omega arith))

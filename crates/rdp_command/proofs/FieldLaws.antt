@@ -18,42 +18,43 @@ use Rattle.rdp_command.specs.Table.{AllReadable}
 use Rattle.rdp_command.specs.Fields.{Value, unsigned, signed, fieldsOf, numberOfValue, fitsLine, allFit, packed}
 use Rattle.rdp_command.specs.Groups.{triangleBaseOf}
 use Rattle.rdp_command.specs.Commands.{commandOf, numberOf, valuesOf}
-use Rattle.rdp_command.specs.Encode.{packedWord, numbersOf, numberFits}
+use Rattle.rdp_command.specs.Encode.{packedWord, numbersOf, numberInRow, encodable, answerWith, encodeAnswer}
 use Rattle.rdp_command.specs.Numbers.{valueFrom, valuesFrom, numbersFit, flagsAgree, fromNumbers}
 use Rattle.rdp_command.specs.declared.TriangleBase.{TriangleBase}
 use Rattle.rdp_command.specs.declared.Command.{Command}
 use Rattle.rdp_command.specs.declared.Command.the-variants.{FillTriangle}
 use Rattle.rdp_command.specs.declared.Decoded.the-variants.{Whole}
-use Rattle.rdp_command.proofs.Tests.{both, by-test}
-use Rattle.rdp_command.proofs.Signed.{bool-le}
+use Rattle.rdp_command.proofs.Tests.{both, by-test, and-true}
+use Rattle.rdp_command.proofs.Signed.{signed-fits, bool-le}
 use Rattle.rdp_command.proofs.TableLaws.{layout-readable}
 use Rattle.rdp_command.proofs.Triangles.{layout-at, triangle-eighth}
 use Rattle.rdp_command.proofs.CommandLaws.{triangle-command}
-use Rattle.rdp_command.proofs.AnswerLaws.{and-true, fit-parts, accepted}
+use Rattle.rdp_command.proofs.AnswerLaws.{fit-parts, accepted, made-tests, made-is}
 use Rattle.rdp_command.proofs.BitLaws.{packed-lt}
-use Rattle.rdp_command.proofs.ValueLaws.{kind}
+use Rattle.rdp_command.proofs.ValueLaws.{signIs}
 use Rattle.rdp_command.proofs.LayoutLaws.{matched, matched-long, first-rest, packedWords, numbers-from, fields-back}
 use Rattle.rdp_command.proofs.GroupLaws.{command-back, values-read}
+use Rattle.rdp_command.proofs.WholeLaws.{parts}
 use Rattle.rdp_command.proofs.NumberLaws.{standing, plain-number, flags-number, by-flags, number-read}
 
 -- the values out of their own numbers
-value-again : (l : Line) (v : Value) → width l ≤ 56 → T (kind (l .signed) v) → fitsLine l v ≡ true → valueFrom (l .signed) (numberOfValue v) ≡ v
-value-again l v q = by (l .signed) v
+value-again : (l : Line) (v : Value) → width l ≤ 56 → T (signIs (l .isSigned) v) → fitsLine l v ≡ true → valueFrom (l .isSigned) (numberOfValue v) ≡ v
+value-again l v q = by (l .isSigned) v
   where
-    by : (s : Bool) (v : Value) → T (kind s v) → fitsLine l v ≡ true → valueFrom s (numberOfValue v) ≡ v
+    by : (s : Bool) (v : Value) → T (signIs s v) → fitsLine l v ≡ true → valueFrom s (numberOfValue v) ≡ v
     by false (unsigned n) t e = refl
     by false (signed z) t e = absurd t
     by true (unsigned n) t e = absurd t
     by true (signed z) t e =
         let r : width l - 1 ≤ 63 = omega arith in
-        ap signed (toZ-ofZ (record { sfits = lt-of-lt-of-le (ltb-true (mag z) (2 ^ (width l - 1)) e) (pow-mono r) }))
+        ap signed (toZ-ofZ (record { sfits = lt-of-lt-of-le (ltb-true (mag z) (2 ^ (width l - 1)) (sym (signed-fits (2 ^ (width l - 1)) z) ∙ e)) (pow-mono r) }))
 
 values-again : (ls : List Line) (vs : List Value) → AllReadable ls → T (matched ls vs) → allFit ls vs ≡ true → valuesFrom ls (map numberOfValue vs) ≡ vs
 values-again [] [] r t a = refl
 values-again [] (v ∷ vs) r t a = absurd t
 values-again (l ∷ ls) [] r t a = absurd t
 values-again (l ∷ ls) (v ∷ vs) r t a =
-    let m = both (kind (l .signed) v) (matched ls vs) t in
+    let m = both (signIs (l .isSigned) v) (matched ls vs) t in
     let p = and-true (fitsLine l v) (allFit ls vs) a in
     λ i. value-again l v (r .0 .narrow) (m .0) (p .0) i ∷ values-again ls vs (r .1) (m .1) (p .1) i
 
@@ -66,7 +67,7 @@ triangle-agrees g =
     let f = flag-of (boolByte (g .shade)) (boolByte (g .texture)) (boolByte (g .zbuffer)) (bool-le (g .shade)) (bool-le (g .texture)) (bool-le (g .zbuffer)) in
     rw (eq-eqb _ _ (triangle-eighth g), eq-eqb _ _ (f .0), eq-eqb _ _ (f .1 .0), eq-eqb _ _ (f .1 .1))
 
-flags-agree : (c : Command) → numberFits c ≡ true → flagsAgree (numberOf c) (numbersOf c) ≡ true
+flags-agree : (c : Command) → numberInRow c ≡ true → flagsAgree (numberOf c) (numbersOf c) ≡ true
 flags-agree c e =
     by-test (eqb (numberOf c / 8) 1)
     (λ t.
@@ -75,17 +76,25 @@ flags-agree c e =
     (triangle-agrees (triangleBaseOf (valuesOf c))))
     (λ f. rw f)
 
--- the number and the fields of a command that can be encoded give the command back
-pub from-fields-of :
-    (c : Command) → numberFits c ≡ true → allFit (layout (numberOf c)) (valuesOf c) ≡ true → fromNumbers (numberOf c) (numbersOf c) ≡ Whole c
+from-own : (c : Command) → numberInRow c ≡ true → allFit (layout (numberOf c)) (valuesOf c) ≡ true → fromNumbers (numberOf c) (numbersOf c) ≡ Whole c
 unfolding numbersFit
-from-fields-of c e a =
+from-own c e a =
     let n = numberOf c in
     let s = standing c e in
     let again = values-again (layout n) (valuesOf c) (layout-readable n (s .1)) (s .0) a in
     let long = sym (matched-long (layout n) (valuesOf c) (s .0)) in
     let fit : numbersFit n (numbersOf c) ≡ true = rw (eq-eqb _ _ long) (ap (allFit (layout n)) again ∙ a) in
     sym (accepted n (numbersOf c) (s .1) (λ i. (fit i && flags-agree c e i)) (sym (command-back c e) ∙ ap (commandOf n) (sym again)))
+
+-- what `encode` does not refuse by 15 can be encoded
+fits-of : (c : Command) (suffix out : List ℕ) → (encodeAnswer c suffix out .number ≡ 15 → ⊥) → encodable c suffix ≡ true
+unfolding answerWith
+fits-of c suffix out n = by-test (encodable c suffix) (λ t. t) (λ f. absurd (n (rw f)))
+
+-- the number and the fields of a command that `encode` does not refuse by 15 give the command back
+pub from-fields-of :
+    (c : Command) (suffix out : List ℕ) → (encodeAnswer c suffix out .number ≡ 15 → ⊥) → fromNumbers (numberOf c) (numbersOf c) ≡ Whole c
+from-fields-of c suffix out n = let p = parts c suffix (fits-of c suffix out n) in from-own c (p .0) (p .1 .0)
 
 -- ---- the other way round
 
@@ -116,13 +125,13 @@ packed-number n ns h l f =
     (λ t. let e = eqb-true (n / 8) 1 t in triangle-packed n ns h e (ap length (sym (layout-at n e)) ∙ l) f)
     (λ g. let r = rw g at (first-rest n h ns) in rw g (plain-number n (packed 0 (layout n) ns) h r))
 
--- the command of a number and fields has that number and those fields
-module _ (n : ℕ) (ns : List ℕ) (small : n < 64) (below64 : (k : ℕ) → getD ns k 0 < 2 ^ 64) (ok : numbersFit n ns && flagsAgree n ns ≡ true) where
-  abbrev pub made : Command
-  made = commandOf n (valuesFrom (layout n) ns)
+-- the command made of a number and fields of 64 bits has that number and those fields
+module _ (n : ℕ) (ns : List ℕ) (below64 : (k : ℕ) → getD ns k 0 < 2 ^ 64) {c : Command} (d : fromNumbers n ns ≡ Whole c) where
+  small : n < 64
+  small = ltb-true n 64 (made-tests n ns d .0)
 
   halves : (numbersFit n ns ≡ true) × (flagsAgree n ns ≡ true)
-  halves = and-true (numbersFit n ns) (flagsAgree n ns) ok
+  halves = and-true (numbersFit n ns) (flagsAgree n ns) (made-tests n ns d .1)
 
   long : length (layout n) ≡ length ns
   long = sym (fit-parts n ns (halves .0) .0)
@@ -130,11 +139,14 @@ module _ (n : ℕ) (ns : List ℕ) (small : n < 64) (below64 : (k : ℕ) → get
   fields : fieldsOf (layout n) (packedWords n ns) ≡ valuesFrom (layout n) ns
   fields = fields-back n ns small (layout-readable n small) long below64 (fit-parts n ns (halves .0) .1)
 
-  pub number-of-made : numberOf made ≡ n
-  number-of-made = ap (λ (vs : List Value). numberOf (commandOf n vs)) (sym fields) ∙ number-read n small (packedWords n ns) (packed-number n ns small long (halves .1))
+  read : c ≡ commandOf n (fieldsOf (layout n) (packedWords n ns))
+  read = made-is n ns d ∙ ap (commandOf n) (sym fields)
 
-  pub numbers-of-made : numbersOf made ≡ ns
+  pub number-of-made : numberOf c ≡ n
+  number-of-made = ap numberOf read ∙ number-read n small (packedWords n ns) (packed-number n ns small long (halves .1))
+
+  pub numbers-of-made : numbersOf c ≡ ns
   numbers-of-made =
-      ap (λ (vs : List Value). numbersOf (commandOf n vs)) (sym fields) ∙
+      ap numbersOf read ∙
       ap (map numberOfValue) (values-read n small (packedWords n ns) ∙ fields) ∙
       numbers-from (layout n) ns long below64 .1

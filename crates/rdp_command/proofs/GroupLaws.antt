@@ -8,22 +8,21 @@ use lib.Dec.{eqb, ltb}
 use lib.ListN.{length, getD, drop}
 use mir.Val.{boolByte}
 use borrow.Author.Tests.{eqb-true, eqb-false, ltb-true, not-true}
-use Rattle.rdp_command.specs.Kinds.{among, kindOf, isNoOperation}
+use Rattle.rdp_command.specs.Kinds.{among, isNoOperation}
 use Rattle.rdp_command.specs.Layout.{Line, layout, bit, bits, signedBits, otherModesLines, scissorLines, tileDescriptorLines, triangleBaseLines}
 use Rattle.rdp_command.specs.Fields.{Value, unsigned, flag, shiftRight, bitsAt, fieldAt, fieldsOf}
 use Rattle.rdp_command.specs.Groups.{scissorOf, scissorValues, otherModesOf, otherModesValues, tileDescriptorOf, tileDescriptorValues, triangleBaseOf, triangleBaseValues}
 use Rattle.rdp_command.specs.Commands.{commandOf, valuesOf, numberOf}
 use Rattle.rdp_command.specs.Decode.{commandIn}
-use Rattle.rdp_command.specs.Encode.{numberFits}
+use Rattle.rdp_command.specs.Encode.{numberInRow}
 use Rattle.rdp_command.specs.declared.Scissor.{Scissor}
 use Rattle.rdp_command.specs.declared.OtherModes.{OtherModes}
 use Rattle.rdp_command.specs.declared.TileDescriptor.{TileDescriptor}
 use Rattle.rdp_command.specs.declared.TriangleBase.{TriangleBase}
 use Rattle.rdp_command.specs.declared.Command.{Command}
 use Rattle.rdp_command.specs.declared.Command.the-variants.{NoOperation, FillTriangle, TextureRectangle, TextureRectangleFlip, SyncLoad, SyncPipe, SyncTile, SyncFull, SetKeyGb, SetKeyR, SetConvert, SetScissor, SetPrimitiveDepth, SetOtherModes, LoadTlut, SetTileSize, LoadBlock, LoadTile, SetTile, FillRectangle, SetFillColor, SetFogColor, SetBlendColor, SetPrimitiveColor, SetEnvironmentColor, SetCombineMode, SetTextureImage, SetDepthImage, SetColorImage}
-use Rattle.rdp_command.proofs.Tests.{below, by-test, true-of}
+use Rattle.rdp_command.proofs.Tests.{below, by-test, true-of, and-true, or-cases}
 use Rattle.rdp_command.proofs.KindLaws.{no-operation-small, no-operation-lines}
-use Rattle.rdp_command.proofs.AnswerLaws.{and-true}
 use Rattle.rdp_command.proofs.Triangles.{layout-at, triangle-eighth}
 use Rattle.rdp_command.proofs.CommandLaws.{triangle-command, low-command}
 
@@ -36,10 +35,6 @@ unfoldable pub Each : (ℕ → Type 0) → List ℕ → Type 0
 Each P [] = Unit
 Each P (k ∷ ks) = P k × Each P ks
 
-or-cases : {P : Type 0} (a b : Bool) → a || b ≡ true → (a ≡ true → P) → (b ≡ true → P) → P
-or-cases true b e p q = p refl
-or-cases false b e p q = q e
-
 pick : (P : ℕ → Type 0) (ks : List ℕ) → Each P ks → (n : ℕ) → among n ks ≡ true → P n
 unfolding Each
 pick P [] ps n e = absurd (false≢true e)
@@ -47,7 +42,6 @@ pick P (k ∷ ks) ps n e =
     or-cases (eqb n k) (among n ks) e (λ f. subst P (sym (eqb-true n k f)) (ps .0)) (λ f. pick P ks (ps .1) n f)
 
 cases-of : (n : ℕ) → n < 64 → (eqb (n / 8) 1 || among n named) || isNoOperation n ≡ true
-unfolding isNoOperation kindOf
 cases-of n h = true-of _ (below 64 (λ k. (eqb (k / 8) 1 || among k named) || isNoOperation k) tt n h)
 
 pub by-number :
@@ -63,7 +57,7 @@ noneTest : ℕ → Bool
 noneTest n = eqb n 0x31 || (ltb n 0x24 && not (eqb (n / 8) 1))
 
 none-cases : (n : ℕ) → isNoOperation n ≡ true → noneTest n ≡ true
-unfolding isNoOperation kindOf noneTest
+unfolding noneTest
 none-cases n e =
     let t = below 64 (λ k. not (isNoOperation k) || noneTest k) tt n (no-operation-small n e) in
     true-of (noneTest n) (rw e at t)
@@ -169,7 +163,7 @@ triangle-base-back g = λ i. record {
 }
 
 -- a command from its own number and values
-pub command-back : (c : Command) → numberFits c ≡ true → commandOf (numberOf c) (valuesOf c) ≡ c
+pub command-back : (c : Command) → numberInRow c ≡ true → commandOf (numberOf c) (valuesOf c) ≡ c
 unfolding commandOf
 command-back (NoOperation n) e = none-command n [] e
 command-back (FillTriangle g) e =

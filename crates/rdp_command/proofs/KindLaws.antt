@@ -1,33 +1,79 @@
 -- The kinds and words of command numbers, each rule by one test over the numbers. Assumes nothing.
-use Prim.Native.Nat.{ℕ, _*_, _/_, _%_, _^_, _≤_, _<_}
-use mathlib.Core.Bool.{Bool, true, false, cond, not, _&&_, _||_}
-use mathlib.Core.Path.{_≡_, refl}
-use lib.ListN.{length}
-use borrow.Author.Tests.{ltb-true}
-use lib.Dec.{T, eqb, ltb, leb, eqb→eq, leb→le}
-use Rattle.rdp_command.specs.Kinds.{kindOf, isNone, isNoOperation, hasBit, wordsOf}
+use Prim.Native.Nat.{ℕ, zero, suc, _+_, _*_, _/_, _%_, _^_, _≤_, _<_}
+use mathlib.Core.Bool.{Bool, true, cond, not, _&&_, _||_}
+use mathlib.Core.List.{List, [], _∷_, _++_}
+use mathlib.Core.Path.{_≡_, refl, ap, sym, subst, _∙_}
+use native.Mathlib.Nat.{add-zero, zero-add, mod-eq-of-lt, not-suc-le-zero, le-of-suc-le-suc}
+use native.Mathlib.Omega.{arith}
+use lib.ListN.{length, getD, replicate}
+use borrow.Author.Tests.{leb-true, eqb-true}
+use lib.Dec.{T, eqb, leb, eqb→eq, leb→le}
+use Rattle.rdp_command.specs.Kinds.{Kind, noOperation, triangle, textureRectangle, fillRectangle, syncLoad, syncTile, syncPipe, syncFull, load, setTile, attribute, free, between, kindOf, isNoOperation, hasBit, isAmong, wordsOfKind, wordsOf}
 use Rattle.rdp_command.specs.Layout.{layout}
-use Rattle.rdp_command.proofs.Tests.{each, below, both, same, same-bool}
+use Rattle.rdp_command.proofs.Tests.{each, below, both, and-true, or-cases, same, same-bool}
 
 -- command numbers as the bits of a number
 pub bits-by : (numbers : ℕ) (f : ℕ → Bool) → T (each (λ k. same (hasBit (2 ^ k) numbers) (f k)) 64) → (n : ℕ) → n < 64 → hasBit (2 ^ n) numbers ≡ f n
 bits-by numbers f t n h = same-bool _ _ (below 64 (λ k. same (hasBit (2 ^ k) numbers) (f k)) t n h)
 
--- the row of no operations as the code tests it
-abbrev pub rowTest : ℕ → Bool
-rowTest n = (ltb n 0x08 || (leb 0x10 n && ltb n 0x24)) || eqb n 0x31
+pub among-by : (numbers : ℕ) (f : ℕ → Bool) → T (each (λ k. same (hasBit (2 ^ k) numbers) (f k)) 64) → (n : ℕ) → n < 64 → isAmong numbers n ≡ f n
+among-by numbers f t n h = ap (λ (k : ℕ). hasBit (2 ^ k) numbers) (mod-eq-of-lt h) ∙ bits-by numbers f t n h
 
-pub row-by : (n : ℕ) → n < 256 → rowTest n ≡ isNoOperation n
-unfolding isNoOperation kindOf
-row-by n h = same-bool _ _ (below 256 (λ k. same (rowTest k) (isNoOperation k)) tt n h)
+-- ---- the table by number
 
-and-left : (a b : Bool) → a && b ≡ true → a ≡ true
-and-left true b e = refl
-and-left false b e = e
+-- the kinds of the numbers from n on
+kindsFrom : ℕ → ℕ → List Kind
+kindsFrom n zero = []
+kindsFrom n (suc k) = kindOf n ∷ kindsFrom (suc n) k
+
+kinds-from : (n k i : ℕ) → i < k → getD (kindsFrom n k) i free ≡ kindOf (n + i)
+unfolding kindsFrom
+kinds-from n zero i h = absurd (not-suc-le-zero h)
+kinds-from n (suc k) zero h = ap kindOf (sym (add-zero n))
+kinds-from n (suc k) (suc i) h = let e : suc n + i ≡ n + suc i = omega arith in kinds-from (suc n) k i (le-of-suc-le-suc h) ∙ ap kindOf e
+
+-- the kinds of the 64 numbers in their order
+abbrev pub kinds : List Kind
+kinds =
+    replicate 8 noOperation ++
+    (replicate 8 triangle ++
+    (replicate 20 noOperation ++
+    textureRectangle ∷ textureRectangle ∷ syncLoad ∷ syncPipe ∷ syncTile ∷ syncFull ∷  -- 0x24
+    attribute ∷ attribute ∷ attribute ∷ free ∷ free ∷ attribute ∷  -- 0x2A
+    load ∷ noOperation ∷ free ∷ load ∷ load ∷ setTile ∷ fillRectangle ∷  -- 0x30
+    attribute ∷ attribute ∷ attribute ∷ free ∷ attribute ∷ attribute ∷ free ∷ attribute ∷ attribute ∷ []))  -- 0x37
+
+abbrev pub kindAt : ℕ → Kind
+kindAt n = getD kinds n free
+
+kinds-are : kinds ≡ kindsFrom 0 64
+unfolding kindsFrom kindOf
+kinds-are = refl
+
+-- a test of kind and number that passes at the 64 numbers passes at each: it computes without the definition of kinds
+pub by-kinds : (f : Kind → ℕ → Bool) → T (each (λ k. f (kindAt k) k) 64) → (n : ℕ) → n < 64 → T (f (kindOf n) n)
+by-kinds f t n h =
+    subst (λ (k : Kind). T (f k n)) (ap (λ (ks : List Kind). getD ks n free) kinds-are ∙ kinds-from 0 64 n h ∙ ap kindOf (zero-add n))
+    (below 64 (λ k. f (kindAt k) k) t n h)
+
+-- the words of a number by its kind
+pub words-of-kind : (n : ℕ) → wordsOf n ≡ wordsOfKind (kindOf n) n
+unfolding wordsOf
+words-of-kind n = refl
+
+-- ---- no operations and words
+
+-- a number of the row of no operations is a command number
+between-small : (low high n : ℕ) → between low high n ≡ true → n ≤ high
+between-small low high n e = leb-true n high (and-true (leb low n) (leb n high) e .1)
 
 pub no-operation-small : (n : ℕ) → isNoOperation n ≡ true → n < 64
-unfolding isNoOperation
-no-operation-small n e = ltb-true n 64 (and-left (ltb n 64) (isNone (kindOf n)) e)
+no-operation-small n e =
+    or-cases (between 0x00 0x07 n || between 0x10 0x23 n) (eqb n 0x31) e
+    (λ f.
+    or-cases (between 0x00 0x07 n) (between 0x10 0x23 n) f (λ g. omega (arith, between-small 0x00 0x07 n g))
+    (λ g. omega (arith, between-small 0x10 0x23 n g)))
+    (λ f. omega (arith, eqb-true n 0x31 f))
 
 -- the words as the code has them
 abbrev pub wordsBy : ℕ → ℕ
@@ -58,7 +104,7 @@ abbrev emptyTest : ℕ → Bool
 emptyTest n = not (isNoOperation n) || eqb (length (layout n)) 0
 
 pub no-operation-lines : (n : ℕ) → isNoOperation n ≡ true → length (layout n) ≡ 0
-unfolding isNoOperation kindOf layout
+unfolding layout
 no-operation-lines n e =
     let t = below 64 emptyTest tt n (no-operation-small n e) in
     eqb→eq (length (layout n)) 0 (rw e at t)

@@ -13,10 +13,9 @@ use Rattle.rdp_command.specs.Fields.{Value, bitsAt, valueOf, fieldsOf, n
 use Rattle.rdp_command.specs.Encode.{fixedBits, packedWord, baseWords}
 use Rattle.rdp_command.specs.Kinds.{kindOf, wordsOf}
 use Rattle.rdp_command.specs.Numbers.{valueFrom, valuesFrom}
-use Rattle.rdp_command.proofs.Tests.{below, both, both-of, by-test}
+use Rattle.rdp_command.proofs.Tests.{below, both, both-of, by-test, and-true}
 use Rattle.rdp_command.proofs.BitLaws.{falling, packed-lt, read-at}
-use Rattle.rdp_command.proofs.ValueLaws.{kind, kind-from, number-from, value-back}
-use Rattle.rdp_command.proofs.AnswerLaws.{and-true}
+use Rattle.rdp_command.proofs.ValueLaws.{signIs, sign-from, number-from, value-back}
 
 -- ---- one test over the 64 numbers
 
@@ -109,18 +108,18 @@ module _ (n : ℕ) (h : n < 64) where
 
 -- ---- the fields of the words are the values
 
--- as many values as lines, each of its line's kind
+-- as many values as lines, each signed as its line is
 abbrev pub matched : List Line → List Value → Bool
 matched [] [] = true
 matched [] (v ∷ vs) = false
 matched (l ∷ ls) [] = false
-matched (l ∷ ls) (v ∷ vs) = kind (l .signed) v && matched ls vs
+matched (l ∷ ls) (v ∷ vs) = signIs (l .isSigned) v && matched ls vs
 
 pub matched-long : (ls : List Line) (vs : List Value) → T (matched ls vs) → length ls ≡ length (map numberOfValue vs)
 matched-long [] [] t = refl
 matched-long [] (v ∷ vs) t = absurd t
 matched-long (l ∷ ls) [] t = absurd t
-matched-long (l ∷ ls) (v ∷ vs) t = ap suc (matched-long ls vs (both (kind (l .signed) v) (matched ls vs) t .1))
+matched-long (l ∷ ls) (v ∷ vs) t = ap suc (matched-long ls vs (both (signIs (l .isSigned) v) (matched ls vs) t .1))
 
 all-back :
     (ws : List ℕ) (ls : List Line) (vs : List Value) → AllReadable ls → T (matched ls vs) →
@@ -130,10 +129,10 @@ all-back ws [] [] r t f a = refl
 all-back ws [] (v ∷ vs) r t f a = absurd t
 all-back ws (l ∷ ls) [] r t f a = absurd t
 all-back ws (l ∷ ls) (v ∷ vs) r t f a =
-    let m = both (kind (l .signed) v) (matched ls vs) t in
+    let m = both (signIs (l .isSigned) v) (matched ls vs) t in
     let p = and-true (fitsLine l v) (allFit ls vs) a in
     let q : width l ≤ 64 = omega (arith, r .0 .narrow) in
-    let head = ap (valueOf (l .signed) (width l)) (f 0 (suc-le-suc zero-le)) ∙ value-back l q v (m .0) (p .0) in
+    let head = ap (valueOf (l .isSigned) (width l)) (f 0 (suc-le-suc zero-le)) ∙ value-back l q v (m .0) (p .0) in
     λ i. head i ∷ all-back ws ls vs (r .1) (m .1) (λ k s. f (suc k) (suc-le-suc s)) (p .1) i
 
 -- words that hold the values, as many as the command has
@@ -169,8 +168,8 @@ numbers-from [] (n ∷ ns) e g = absurd (omega arith)
 numbers-from (l ∷ ls) [] e g = absurd (omega arith)
 numbers-from (l ∷ ls) (n ∷ ns) e g =
     let r = numbers-from ls ns (suc-inj e) (λ k. g (suc k)) in (
-      both-of (kind (l .signed) (valueFrom (l .signed) n)) (matched ls (valuesFrom ls ns)) (kind-from (l .signed) n) (r .0),
-      λ i. number-from (l .signed) n (g 0) i ∷ r .1 i,
+      both-of (signIs (l .isSigned) (valueFrom (l .isSigned) n)) (matched ls (valuesFrom ls ns)) (sign-from (l .isSigned) n) (r .0),
+      λ i. number-from (l .isSigned) n (g 0) i ∷ r .1 i,
     )
 
 pub fields-back :

@@ -14,8 +14,10 @@ pub mod AnswerLaws
 pub mod GroupLaws
 pub mod WordLaws
 pub mod NumberLaws
+pub mod WholeLaws
 pub mod Laws
 pub mod FieldLaws
 pub mod PlaceLaws
+pub mod SyncWordLaws
 pub mod ReadLaws
 pub mod BoundLaws

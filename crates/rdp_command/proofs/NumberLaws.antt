@@ -17,7 +17,7 @@ use Rattle.rdp_command.specs.Fields.{shiftRight, bitsAt, fieldsOf, numbe
 use Rattle.rdp_command.specs.Commands.{commandOf, numberOf, valuesOf}
 use Rattle.rdp_command.specs.Groups.{triangleBaseOf}
 use Rattle.rdp_command.specs.Decode.{commandIn}
-use Rattle.rdp_command.specs.Encode.{packedWord, numbersOf, numberFits}
+use Rattle.rdp_command.specs.Encode.{packedWord, numbersOf, numberInRow}
 use Rattle.rdp_command.specs.Kept.{bitsKept}
 use Rattle.rdp_command.specs.declared.TriangleBase.{TriangleBase}
 use Rattle.rdp_command.specs.declared.Command.{Command}
@@ -39,7 +39,7 @@ no-values [] e = tt
 no-values (l ∷ ls) e = absurd (omega arith)
 
 -- its values are those of its lines, and its number is below 64
-pub standing : (c : Command) → numberFits c ≡ true → T (matched (layout (numberOf c)) (valuesOf c)) × (numberOf c < 64)
+pub standing : (c : Command) → numberInRow c ≡ true → T (matched (layout (numberOf c)) (valuesOf c)) × (numberOf c < 64)
 unfolding layout
 standing (NoOperation n) e = (no-values (layout n) (no-operation-lines n e), no-operation-small n e)
 standing (FillTriangle g) e = (subst (λ (ls : List Line). T (matched ls (valuesOf (FillTriangle g)))) (sym (triangle-layout g)) tt, triangle-small g)
@@ -98,7 +98,7 @@ of-triangle : (g : TriangleBase) → numberIn (packedWord (numberOf (FillTriangl
 of-triangle g =
     rw (eq-eqb (numberOf (FillTriangle g) / 8) 1 (triangle-eighth g), triangle-layout g) (triangle-number g)
 
-pub number-packed : (c : Command) → numberFits c ≡ true → numberIn (packedWord (numberOf c) (numbersOf c) 0) ≡ numberOf c
+pub number-packed : (c : Command) → numberInRow c ≡ true → numberIn (packedWord (numberOf c) (numbersOf c) 0) ≡ numberOf c
 number-packed c e =
     let n = numberOf c in
     let small = standing c e .1 in
@@ -232,10 +232,10 @@ number-read =
     (λ n e ws h. ap numberOf (none-command n (fieldsOf (layout n) ws) e))
 
 -- and to one that can be encoded
-pub number-fits-read : (n : ℕ) → n < 64 → (ws : List ℕ) → numberFits (commandIn n ws) ≡ true
+pub number-in-row-read : (n : ℕ) → n < 64 → (ws : List ℕ) → numberInRow (commandIn n ws) ≡ true
 unfolding commandOf Each
-number-fits-read =
-    by-number (λ (n : ℕ). (ws : List ℕ) → numberFits (commandIn n ws) ≡ true) (λ n e ws. ap numberFits (sym (at-triangle n ws e))) (
+number-in-row-read =
+    by-number (λ (n : ℕ). (ws : List ℕ) → numberInRow (commandIn n ws) ≡ true) (λ n e ws. ap numberInRow (sym (at-triangle n ws e))) (
       λ ws. refl,
       (
         λ ws. refl,
@@ -317,7 +317,7 @@ number-fits-read =
         ),
       ),
     )
-    (λ n e ws. ap numberFits (none-command n (fieldsOf (layout n) ws) e) ∙ e)
+    (λ n e ws. ap numberInRow (none-command n (fieldsOf (layout n) ws) e) ∙ e)
 
 pub fits-read : (ls : List Line) (ws : List ℕ) → AllReadable ls → allFit ls (fieldsOf ls ws) ≡ true
 fits-read [] ws r = refl

@@ -17,6 +17,7 @@ use Rattle.rdp_command.specs.Layout.{Line, width}
 use Rattle.rdp_command.specs.Table.{Readable, lineOf}
 use Rattle.rdp_command.specs.Fields.{fitsLine, allFit, placed, packed}
 use Rattle.rdp_command.specs.Numbers.{valueFrom, valuesFrom}
+use Rattle.rdp_command.proofs.Signed.{signed-fits}
 
 -- a power of two as the code shifts it
 power : (k : ℕ) → k < 64 → 1 * 2 ^ k % 2 ^ 64 ≡ 2 ^ k
@@ -28,14 +29,15 @@ module _ (l : Line) (r : Readable l) (n : ℕ) {w : ℕ} (e : w ≡ width l) whe
   wide : w < 64
   wide = omega (arith, r .narrow)
 
-  pub fits-signed : {m : ℕ} → l .signed ≡ true → m ≡ mag (toZ w64 n) → ltb m (1 * 2 ^ (w - 1) % 2 ^ 64) ≡ fitsLine l (valueFrom (l .signed) n)
+  pub fits-signed : {m : ℕ} → l .isSigned ≡ true → m ≡ mag (toZ w64 n) → ltb m (1 * 2 ^ (w - 1) % 2 ^ 64) ≡ fitsLine l (valueFrom (l .isSigned) n)
   fits-signed s f =
       let k : w - 1 < 64 = omega (arith, wide) in
       (λ i. ltb (f i) (power (w - 1) k i)) ∙
       ap (λ (x : ℕ). ltb (mag (toZ w64 n)) (2 ^ (x - 1))) e ∙
+      sym (signed-fits (2 ^ (width l - 1)) (toZ w64 n)) ∙
       ap (λ (b : Bool). fitsLine l (valueFrom b n)) (sym s)
 
-  pub fits-unsigned : l .signed ≡ false → ltb n (1 * 2 ^ w % 2 ^ 64) ≡ fitsLine l (valueFrom (l .signed) n)
+  pub fits-unsigned : l .isSigned ≡ false → ltb n (1 * 2 ^ w % 2 ^ 64) ≡ fitsLine l (valueFrom (l .isSigned) n)
   fits-unsigned s =
       ap (ltb n) (power w wide) ∙ ap (λ (x : ℕ). ltb n (2 ^ x)) e ∙ ap (λ (b : Bool). fitsLine l (valueFrom b n)) (sym s)
 
@@ -68,7 +70,7 @@ module _ (ls : List Line) (ns : List ℕ) (long : length ls ≡ length ns) where
     numbers : drop k ns ≡ getD ns k 0 ∷ drop (k + 1) ns
     numbers = drop-cons ns k 0 h ∙ ap (λ (j : ℕ). getD ns k 0 ∷ drop j ns) (sym (add-one k))
 
-    pub fit-step : fitFrom ls ns k ≡ fitsLine line (valueFrom (line .signed) (getD ns k 0)) && fitFrom ls ns (k + 1)
+    pub fit-step : fitFrom ls ns k ≡ fitsLine line (valueFrom (line .isSigned) (getD ns k 0)) && fitFrom ls ns (k + 1)
     fit-step = λ i. allFit (lines i) (valuesFrom (lines i) (numbers i))
 
     pub packed-step : (i : ℕ) → packedFrom ls ns i k ≡ cond (eqb (line .word) i) (placed line (getD ns k 0)) 0 + packedFrom ls ns i (k + 1)

@@ -41,12 +41,12 @@ unfolding wholeWords
 words-cut bs h = rw (lt-ltb _ _ h)
 
 -- where they are all there, they are as many as the number says, at least one, and lie in the list
-pub record Whole (bs : List ℕ) : Type 0 where
+pub record IsWhole (bs : List ℕ) : Type 0 where
   pub words : wholeWords bs ≡ wordsOf (firstNumber bs)
   pub some : 1 ≤ wholeWords bs
   pub inside : 8 * wholeWords bs ≤ length bs
 
-pub is-whole : (bs : List ℕ) → (wholeWords bs ≡ 0 → ⊥) → Whole bs
+pub is-whole : (bs : List ℕ) → (wholeWords bs ≡ 0 → ⊥) → IsWhole bs
 is-whole bs there =
     by-test (ltb (length bs / 8) (wordsOf (firstNumber bs)))
     (λ t. absurd (there (words-cut bs (ltb-true _ _ t))))

@@ -9,8 +9,9 @@ use lib.Signed.{mag}
 use mir.Syntax.{w16, w32, w64}
 use mir.Val.{SFits, toZ, ofZ, boolByte}
 use mathlib.Core.Bool.{Bool, true, false}
-use lib.Dec.{lit≤}
+use lib.Dec.{lit≤, ltb}
 use mir.Facts.{toZ-ofZ, sfits-widen}
+use Rattle.rdp_command.specs.Fields.{fitsSigned}
 
 -- a signed number of 16 bits with 2 ^ 16 added to it
 unfoldable pub excessOf : ℤ → ℕ
@@ -67,6 +68,11 @@ pub given :
     (r ≡ ofZ w64 (toZ w16 (ofZ w16 z))) × (toZ w64 (ofZ w64 (toZ w16 (ofZ w16 z))) ≡ toZ w16 (ofZ w16 z)) →
     (r ≡ ofZ w64 z) × (toZ w64 (ofZ w64 z) ≡ z)
 given z f e = let k : toZ w16 (ofZ w16 z) ≡ z = read-back f refl in rw k at e
+
+-- a signed number fits by how far it is from 0, or from -1 where it is negative
+pub signed-fits : (half : ℕ) (z : ℤ) → fitsSigned half z ≡ ltb (mag z) half
+signed-fits half (pos n) = refl
+signed-fits half (negsuc n) = refl
 
 pub bool-le : (b : Bool) → boolByte b ≤ 1
 bool-le true = lit≤ tt

@@ -8,7 +8,7 @@ use mathlib.Core.Path.{_≡_, ap, subst, sym, _∙_}
 use lib.ListN.{length, take, drop, replicate}
 use lib.Seq.{take-append-seam}
 use Rattle.rdp_command.specs.Words.{overwrite}
-use Rattle.rdp_command.specs.Encode.{numbersOf, numberFits, encodable}
+use Rattle.rdp_command.specs.Encode.{numbersOf, numberInRow, encodable}
 use Rattle.rdp_command.specs.Kinds.{wordsOf}
 use Rattle.rdp_command.specs.Layout.{layout}
 use Rattle.rdp_command.specs.Fields.{Value, allFit}
@@ -45,7 +45,7 @@ module _ (c : Command) (r : Numbers) (s : Spread c r) where
   pub number-is : r .number ≡ numberOf c
   number-is = ap (λ (x : Numbers). x .number) (s .numbers)
 
-  pub known-is : r .known ≡ numberFits c
+  pub known-is : r .known ≡ numberInRow c
   known-is = ap (λ (x : Numbers). x .known) (s .numbers)
 
   pub usable : Usable r
@@ -60,13 +60,13 @@ module _ (c : Command) (r : Numbers) (s : Spread c r) where
 
   -- refusal 15 by the numbers
   pub encodable-by :
-      (suffix : List ℕ) → numberFits c ≡ true →
+      (suffix : List ℕ) → numberInRow c ≡ true →
       encodable c suffix ≡ numbersFit (numberOf c) (numbersOf c) && eqb (length suffix) (8 * suffixWords (wordsOf (numberOf c)))
   unfolding encodable numbersFit
   encodable-by suffix e =
       rw (e, eq-eqb (length (numbersOf c)) (length (layout (numberOf c))) (sym (s .sized e)))
       (ap (λ (vs : List Value). allFit (layout (numberOf c)) vs && eqb (length suffix) (8 * suffixWords (wordsOf (numberOf c)))) (sym (s .kept)))
 
-pub not-encodable : (c : Command) (suffix : List ℕ) → numberFits c ≡ false → encodable c suffix ≡ false
+pub not-encodable : (c : Command) (suffix : List ℕ) → numberInRow c ≡ false → encodable c suffix ≡ false
 unfolding encodable
 not-encodable c suffix e = rw e

@@ -13,15 +13,15 @@ use Rattle.rdp_command.specs.Table.{lineOf, linesAt, Row, Agrees, Readab
 use Rattle.rdp_command.proofs.Tests.{each, below, both, same, same-bool}
 
 abbrev sameLine : Line → Line → Bool
-sameLine a b = ((same (a .signed) (b .signed) && eqb (a .word) (b .word)) && eqb (a .high) (b .high)) && eqb (a .low) (b .low)
+sameLine a b = ((same (a .isSigned) (b .isSigned) && eqb (a .word) (b .word)) && eqb (a .high) (b .high)) && eqb (a .low) (b .low)
 
 same-line : (a b : Line) → T (sameLine a b) → a ≡ b
 same-line a b t =
-    let f = both ((same (a .signed) (b .signed) && eqb (a .word) (b .word)) && eqb (a .high) (b .high)) (eqb (a .low) (b .low)) t in
-    let g = both (same (a .signed) (b .signed) && eqb (a .word) (b .word)) (eqb (a .high) (b .high)) (f .0) in
-    let h = both (same (a .signed) (b .signed)) (eqb (a .word) (b .word)) (g .0) in
+    let f = both ((same (a .isSigned) (b .isSigned) && eqb (a .word) (b .word)) && eqb (a .high) (b .high)) (eqb (a .low) (b .low)) t in
+    let g = both (same (a .isSigned) (b .isSigned) && eqb (a .word) (b .word)) (eqb (a .high) (b .high)) (f .0) in
+    let h = both (same (a .isSigned) (b .isSigned)) (eqb (a .word) (b .word)) (g .0) in
     λ i. record {
-      signed = same-bool (a .signed) (b .signed) (h .0) i;
+      isSigned = same-bool (a .isSigned) (b .isSigned) (h .0) i;
       word = eqb→eq (a .word) (b .word) (h .1) i;
       high = eqb→eq (a .high) (b .high) (g .1) i;
       low = eqb→eq (a .low) (b .low) (f .1) i;

@@ -1,6 +1,6 @@
 -- A rule that is shown for every number below a bound by one test that antt computes. Assumes nothing.
 use mathlib.Core.Path.{_≡_, refl}
-use mathlib.Core.Bool.{Bool, true, false, not, _&&_, _||_, true≢false}
+use mathlib.Core.Bool.{Bool, true, false, not, _&&_, _||_, true≢false, false≢true}
 use Prim.Native.Nat.{ℕ, zero, suc, _<_}
 use native.Mathlib.Nat.{not-suc-le-zero}
 use native.Mathlib.Omega.{arith}
@@ -14,6 +14,14 @@ both false b t = absurd t
 pub both-of : (a b : Bool) → T a → T b → T (a && b)
 both-of true b t u = u
 both-of false b t u = absurd t
+
+pub and-true : (a b : Bool) → a && b ≡ true → (a ≡ true) × (b ≡ true)
+and-true true b e = (refl, e)
+and-true false b e = (e, absurd (false≢true e))
+
+pub or-cases : {P : Type 0} (a b : Bool) → a || b ≡ true → (a ≡ true → P) → (b ≡ true → P) → P
+or-cases true b e p q = p refl
+or-cases false b e p q = q e
 
 pub true-of : (b : Bool) → T b → b ≡ true
 true-of true t = refl

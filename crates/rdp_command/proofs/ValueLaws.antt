@@ -17,6 +17,7 @@ use Rattle.rdp_command.specs.Layout.{Line, width}
 use Rattle.rdp_command.specs.Fields.{Value, unsigned, signed, twosComplement, valueOf, numberOfValue, fitsLine}
 use Rattle.rdp_command.specs.Numbers.{valueFrom}
 use Rattle.rdp_command.proofs.Tests.{by-test}
+use Rattle.rdp_command.proofs.Signed.{signed-fits}
 
 -- half is 2 to the bits less one, of which 2 ^ 64 is a multiple
 module _ (half k : ℕ) (m : 2 ^ 64 ≡ 2 * half + k * (2 * half)) where
@@ -72,15 +73,15 @@ module _ (w : ℕ) (p : 0 < w) (q : w ≤ 64) where
 -- ---- values of lines
 
 -- a value of a signed line is signed, of any other unsigned
-abbrev pub kind : Bool → Value → Bool
-kind false (unsigned n) = true
-kind false (signed z) = false
-kind true (unsigned n) = false
-kind true (signed z) = true
+abbrev pub signIs : Bool → Value → Bool
+signIs false (unsigned n) = true
+signIs false (signed z) = false
+signIs true (unsigned n) = false
+signIs true (signed z) = true
 
-pub kind-from : (s : Bool) (n : ℕ) → T (kind s (valueFrom s n))
-kind-from false n = tt
-kind-from true n = tt
+pub sign-from : (s : Bool) (n : ℕ) → T (signIs s (valueFrom s n))
+sign-from false n = tt
+sign-from true n = tt
 
 pub number-from : (s : Bool) (n : ℕ) → n < 2 ^ 64 → numberOfValue (valueFrom s n) ≡ n
 number-from false n h = refl
@@ -93,33 +94,33 @@ module _ (l : Line) (q : width l ≤ 64) where
   one : 0 < w
   one = omega arith
 
-  -- a value that fits a line of its kind is read back from its low bits
-  pub value-back : (v : Value) → T (kind (l .signed) v) → fitsLine l v ≡ true → valueOf (l .signed) w (numberOfValue v % 2 ^ w) ≡ v
-  value-back v = by (l .signed) v
+  -- a value that fits a line of its sign is read back from its low bits
+  pub value-back : (v : Value) → T (signIs (l .isSigned) v) → fitsLine l v ≡ true → valueOf (l .isSigned) w (numberOfValue v % 2 ^ w) ≡ v
+  value-back v = by (l .isSigned) v
     where
-      by : (s : Bool) (v : Value) → T (kind s v) → fitsLine l v ≡ true → valueOf s w (numberOfValue v % 2 ^ w) ≡ v
+      by : (s : Bool) (v : Value) → T (signIs s v) → fitsLine l v ≡ true → valueOf s w (numberOfValue v % 2 ^ w) ≡ v
       by false (unsigned n) t e = ap unsigned (mod-eq-of-lt (ltb-true n (2 ^ w) e))
       by false (signed z) t e = absurd t
       by true (unsigned n) t e = absurd t
       by true (signed z) t e =
           ap signed
           (ap (λ (x : ℕ). twosComplement (2 ^ (w - 1)) (ofZ w64 z % x)) (doubled w one q) ∙
-          signed-back (2 ^ (w - 1)) (2 ^ (64 - w) - 1) (multiple w one q) z (ltb-true (mag z) (2 ^ (w - 1)) e))
+          signed-back (2 ^ (w - 1)) (2 ^ (64 - w) - 1) (multiple w one q) z (ltb-true (mag z) (2 ^ (w - 1)) (sym (signed-fits (2 ^ (w - 1)) z) ∙ e)))
 
   -- what is read fits, and its number has the same low bits
   module _ (b : ℕ) (h : b < 2 ^ w) where
     under : b < 2 * 2 ^ (w - 1)
     under = rw (doubled w one q) at h
 
-    pub value-fits : fitsLine l (valueOf (l .signed) w b) ≡ true
-    value-fits = by (l .signed)
+    pub value-fits : fitsLine l (valueOf (l .isSigned) w b) ≡ true
+    value-fits = by (l .isSigned)
       where
         by : (s : Bool) → fitsLine l (valueOf s w b) ≡ true
         by false = lt-ltb _ _ h
-        by true = lt-ltb _ _ (magnitude (2 ^ (w - 1)) (2 ^ (64 - w) - 1) (multiple w one q) b under)
+        by true = signed-fits (2 ^ (w - 1)) (twosComplement (2 ^ (w - 1)) b) ∙ lt-ltb _ _ (magnitude (2 ^ (w - 1)) (2 ^ (64 - w) - 1) (multiple w one q) b under)
 
-    pub value-low : numberOfValue (valueOf (l .signed) w b) % 2 ^ w ≡ b
-    value-low = by (l .signed)
+    pub value-low : numberOfValue (valueOf (l .isSigned) w b) % 2 ^ w ≡ b
+    value-low = by (l .isSigned)
       where
         by : (s : Bool) → numberOfValue (valueOf s w b) % 2 ^ w ≡ b
         by false = mod-eq-of-lt h

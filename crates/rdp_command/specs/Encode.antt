@@ -42,41 +42,41 @@ abbrev pub encodedBytes : Command → List ℕ → List ℕ
 encodedBytes c suffix = bytesWith (numberOf c) (numbersOf c) suffix
 
 -- refusal 15 for a no operation whose number is not in its row
-abbrev pub numberFits : Command → Bool
-numberFits (NoOperation n) = isNoOperation n
-numberFits (FillTriangle g) = true
-numberFits (TextureRectangle g) = true
-numberFits (TextureRectangleFlip g) = true
-numberFits SyncLoad = true
-numberFits SyncPipe = true
-numberFits SyncTile = true
-numberFits SyncFull = true
-numberFits (SetKeyGb g) = true
-numberFits (SetKeyR g) = true
-numberFits (SetConvert g) = true
-numberFits (SetScissor g) = true
-numberFits (SetPrimitiveDepth g) = true
-numberFits (SetOtherModes g) = true
-numberFits (LoadTlut g) = true
-numberFits (SetTileSize g) = true
-numberFits (LoadBlock g) = true
-numberFits (LoadTile g) = true
-numberFits (SetTile g) = true
-numberFits (FillRectangle g) = true
-numberFits (SetFillColor g) = true
-numberFits (SetFogColor g) = true
-numberFits (SetBlendColor g) = true
-numberFits (SetPrimitiveColor g) = true
-numberFits (SetEnvironmentColor g) = true
-numberFits (SetCombineMode g) = true
-numberFits (SetTextureImage g) = true
-numberFits (SetDepthImage g) = true
-numberFits (SetColorImage g) = true
+abbrev pub numberInRow : Command → Bool
+numberInRow (NoOperation n) = isNoOperation n
+numberInRow (FillTriangle g) = true
+numberInRow (TextureRectangle g) = true
+numberInRow (TextureRectangleFlip g) = true
+numberInRow SyncLoad = true
+numberInRow SyncPipe = true
+numberInRow SyncTile = true
+numberInRow SyncFull = true
+numberInRow (SetKeyGb g) = true
+numberInRow (SetKeyR g) = true
+numberInRow (SetConvert g) = true
+numberInRow (SetScissor g) = true
+numberInRow (SetPrimitiveDepth g) = true
+numberInRow (SetOtherModes g) = true
+numberInRow (LoadTlut g) = true
+numberInRow (SetTileSize g) = true
+numberInRow (LoadBlock g) = true
+numberInRow (LoadTile g) = true
+numberInRow (SetTile g) = true
+numberInRow (FillRectangle g) = true
+numberInRow (SetFillColor g) = true
+numberInRow (SetFogColor g) = true
+numberInRow (SetBlendColor g) = true
+numberInRow (SetPrimitiveColor g) = true
+numberInRow (SetEnvironmentColor g) = true
+numberInRow (SetCombineMode g) = true
+numberInRow (SetTextureImage g) = true
+numberInRow (SetDepthImage g) = true
+numberInRow (SetColorImage g) = true
 
 -- none of the parts of refusal 15 holds
 unfoldable pub encodable : Command → List ℕ → Bool
 encodable c suffix =
-    (numberFits c && allFit (layout (numberOf c)) (valuesOf c)) && eqb (length suffix) (8 * suffixWords (wordsOf (numberOf c)))
+    (numberInRow c && allFit (layout (numberOf c)) (valuesOf c)) && eqb (length suffix) (8 * suffixWords (wordsOf (numberOf c)))
 
 -- 15 at 0 where what is given can't be encoded, else 14 at the words needed where there is no room, else 0 at the words
 abbrev pub verdictOf : Bool → Bool → ℕ → Answer

@@ -2,10 +2,9 @@
 use mathlib.Core.Bool.{Bool, true, false, cond, _&&_}
 use mathlib.Core.List.{List, [], _∷_, map}
 use Prim.Native.Nat.{ℕ, zero, suc, _+_, _-_, _*_, _/_, _%_, _^_}
-use lib.Dec.{eqb, ltb}
+use lib.Dec.{eqb, ltb, leb}
 use lib.IntN.{ℤ, pos, negsuc}
 use lib.ListN.{getD}
-use lib.Signed.{mag}
 use mir.Syntax.{w64}
 use mir.Val.{ofZ, boolByte}
 use Rattle.rdp_command.specs.Layout.{Line, width}
@@ -38,7 +37,7 @@ valueOf true bits n = signed (twosComplement (2 ^ (bits - 1)) n)
 
 -- the value of a line, out of the words of a command
 abbrev pub fieldAt : List ℕ → Line → Value
-fieldAt ws l = valueOf (l .signed) (width l) (bitsAt l (getD ws (l .word) 0))
+fieldAt ws l = valueOf (l .isSigned) (width l) (bitsAt l (getD ws (l .word) 0))
 
 abbrev pub fieldsOf : List Line → List ℕ → List Value
 fieldsOf ls ws = map (fieldAt ws) ls
@@ -48,10 +47,15 @@ abbrev pub numberOfValue : Value → ℕ
 numberOfValue (unsigned n) = n
 numberOfValue (signed z) = ofZ w64 z
 
+-- a signed number of so many bits, where half is 2 to the bits less one: from - half to half - 1; negsuc n is - (n + 1)
+abbrev pub fitsSigned : ℕ → ℤ → Bool
+fitsSigned half (pos n) = ltb n half
+fitsSigned half (negsuc n) = leb (suc n) half
+
 -- document 01, refusal 15: a value that does not exceed its bits
 abbrev pub fitsLine : Line → Value → Bool
 fitsLine l (unsigned n) = ltb n (2 ^ width l)
-fitsLine l (signed z) = ltb (mag z) (2 ^ (width l - 1))
+fitsLine l (signed z) = fitsSigned (2 ^ (width l - 1)) z
 
 -- as many values as lines, each fitting its line
 abbrev pub allFit : List Line → List Value → Bool

@@ -1,8 +1,8 @@
 -- Document 01, "Words and lengths": the table of command numbers, kinds and words.
 use mathlib.Core.Bool.{Bool, true, false, cond, _&&_, _||_}
 use mathlib.Core.List.{List, [], _∷_}
-use Prim.Native.Nat.{ℕ, _+_, _/_, _%_}
-use lib.Dec.{leb, ltb, eqb}
+use Prim.Native.Nat.{ℕ, _+_, _/_, _%_, _^_}
+use lib.Dec.{leb, eqb}
 
 pub data Kind : Type 0 where
   noOperation : Kind
@@ -25,10 +25,15 @@ abbrev pub among : ℕ → List ℕ → Bool
 among n [] = false
 among n (x ∷ xs) = eqb n x || among n xs
 
--- the row of 01's table that names a number; a number that no other row names is a no operation
+-- 01's row of no operations
+abbrev pub isNoOperation : ℕ → Bool
+isNoOperation n = (between 0x00 0x07 n || between 0x10 0x23 n) || eqb n 0x31
+
+-- the row of 01's table that names a number. The rows name every number below 64; one of 64 or more, which no word has, counts as a no operation
 unfoldable pub kindOf : ℕ → Kind
 kindOf n =
-    cond (between 0x08 0x0F n) triangle
+    cond (isNoOperation n) noOperation
+    (cond (between 0x08 0x0F n) triangle
     (cond (among n (0x24 ∷ 0x25 ∷ [])) textureRectangle
     (cond (eqb n 0x36) fillRectangle
     (cond (eqb n 0x26) syncLoad
@@ -39,21 +44,7 @@ kindOf n =
     (cond (eqb n 0x35) setTile
     (cond (among n (0x2A ∷ 0x2B ∷ 0x2C ∷ 0x2F ∷ 0x37 ∷ 0x38 ∷ 0x39 ∷ 0x3B ∷ 0x3C ∷ 0x3E ∷ 0x3F ∷ [])) attribute
     (cond (among n (0x2D ∷ 0x2E ∷ 0x32 ∷ 0x3A ∷ 0x3D ∷ [])) free
-    noOperation))))))))))
-
-abbrev pub isNone : Kind → Bool
-isNone noOperation = true
-isNone triangle = false
-isNone textureRectangle = false
-isNone fillRectangle = false
-isNone syncLoad = false
-isNone syncTile = false
-isNone syncPipe = false
-isNone syncFull = false
-isNone load = false
-isNone setTile = false
-isNone attribute = false
-isNone free = false
+    noOperation)))))))))))
 
 -- the rows that 01 calls draws
 abbrev pub isDraw : Kind → Bool
@@ -70,13 +61,13 @@ isDraw setTile = false
 isDraw attribute = false
 isDraw free = false
 
--- a number of the row of no operations
-unfoldable pub isNoOperation : ℕ → Bool
-isNoOperation n = ltb n 64 && isNone (kindOf n)
-
 -- bit k of n, for p = 2 ^ k
 abbrev pub hasBit : ℕ → ℕ → Bool
 hasBit p n = eqb (n / p % 2) 1
+
+-- a command number among the bits of a number; its low six bits count
+abbrev pub isAmong : ℕ → ℕ → Bool
+isAmong numbers n = hasBit (2 ^ (n % 64)) numbers
 
 -- bits 58, 57 and 56 of a triangle's first word are bits 2, 1 and 0 of its number
 abbrev pub triangleWords : ℕ → ℕ

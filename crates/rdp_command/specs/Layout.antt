@@ -7,7 +7,7 @@ use lib.Dec.{eqb}
 
 -- a bit line: the word of the command, its high and low bit there, and whether it is two's complement
 pub record Line : Type 0 where
-  pub signed : Bool
+  pub isSigned : Bool
   pub word : ℕ
   pub high : ℕ
   pub low : ℕ
@@ -17,7 +17,7 @@ width l = l .high - l .low + 1
 
 -- "bit HIGH:LOW" of a word
 abbrev pub bits : ℕ → ℕ → ℕ → Line
-bits w h l = record { signed = false; word = w; high = h; low = l }
+bits w h l = record { isSigned = false; word = w; high = h; low = l }
 
 -- "bit K" of a word
 abbrev pub bit : ℕ → ℕ → Line
@@ -25,7 +25,7 @@ bit w k = bits w k k
 
 -- the lines that 01 names as signed
 abbrev pub signedBits : ℕ → ℕ → ℕ → Line
-signedBits w h l = record { signed = true; word = w; high = h; low = l }
+signedBits w h l = record { isSigned = true; word = w; high = h; low = l }
 
 -- Fill Triangle, word 0 of the base
 abbrev pub triangleHeadLines : List Line

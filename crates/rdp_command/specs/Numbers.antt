@@ -33,18 +33,22 @@ valueFrom true n = signed (toZ w64 n)
 abbrev pub valuesFrom : List Line → List ℕ → List Value
 valuesFrom ls [] = []
 valuesFrom [] (n ∷ ns) = []
-valuesFrom (l ∷ ls) (n ∷ ns) = valueFrom (l .signed) n ∷ valuesFrom ls ns
+valuesFrom (l ∷ ls) (n ∷ ns) = valueFrom (l .isSigned) n ∷ valuesFrom ls ns
+
+-- each number within the bits of its line
+abbrev pub eachFits : List Line → List ℕ → Bool
+eachFits ls ns = allFit ls (valuesFrom ls ns)
 
 -- as many numbers as bit lines, each within its bits
 unfoldable pub numbersFit : ℕ → List ℕ → Bool
-numbersFit n ns = eqb (length ns) (length (layout n)) && allFit (layout n) (valuesFrom (layout n) ns)
+numbersFit n ns = eqb (length ns) (length (layout n)) && eachFits (layout n) ns
 
 -- the flags of a triangle are those of its number
 abbrev pub flagsAgree : ℕ → List ℕ → Bool
 flagsAgree n ns =
     cond (eqb (n / 8) 1) ((eqb (getD ns 0 0) (n / 4 % 2) && eqb (getD ns 1 0) (n / 2 % 2)) && eqb (getD ns 2 0) (n % 2)) true
 
--- the command of a number and its fields, or 15 at 0: a number of 64 or more, a wrong count, a field beyond its bits, flags that contradict the number
+-- the command of a number and its fields, or 15 at 0: a number of 64 or more, a wrong count, a field beyond its bits, flags that are not the number's
 unfoldable pub fromNumbers : ℕ → List ℕ → Decoded
 fromNumbers n ns =
     cond (ltb n 64 && (numbersFit n ns && flagsAgree n ns)) (Whole (commandOf n (valuesFrom (layout n) ns)))

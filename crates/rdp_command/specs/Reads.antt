@@ -5,6 +5,7 @@ use Rattle.rdp_command.specs.Words.{numberIn}
 use Rattle.rdp_command.specs.Layout.{Line, keyGbLines, keyRLines, convertLines, scissorLines, primitiveDepthLines, otherModesLines, tileAreaLines, tileDescriptorLines, rectangleLines, fillColorLines, colorLines, primitiveColorLines, combineModeLines, imageLines, depthImageLines, colorImageLines}
 use Rattle.rdp_command.specs.Fields.{Value, fieldsOf}
 use Rattle.rdp_command.specs.Groups.{natAt, keyGbOf, keyROf, convertOf, scissorOf, primitiveDepthOf, otherModesOf, tileAreaOf, tileDescriptorOf, rectangleOf, colorOf, primitiveColorOf, imageOf}
+use Rattle.rdp_command.specs.declared.OtherModes.{OtherModes}
 use Rattle.rdp_command.specs.declared.Scissor.{Scissor}
 use Rattle.rdp_command.specs.declared.Rectangle.{Rectangle}
 use Rattle.rdp_command.specs.declared.Image.{Image}
@@ -23,9 +24,12 @@ use Rattle.rdp_command.specs.declared.TileFields.{TileFields}
 abbrev pub fieldsIn : List Line → ℕ → List Value
 fieldsIn ls w = fieldsOf ls (w ∷ [])
 
--- the cycle type of a Set Other Modes
+-- the modes of a Set Other Modes, and their cycle type
+abbrev pub otherModesIn : ℕ → OtherModes
+otherModesIn w = otherModesOf (fieldsIn otherModesLines w)
+
 abbrev pub cycleTypeIn : ℕ → ℕ
-cycleTypeIn w = otherModesOf (fieldsIn otherModesLines w) .«cycle_type»
+cycleTypeIn w = otherModesIn w .«cycle_type»
 
 -- the scissor of a Set Scissor
 abbrev pub scissorIn : ℕ → Scissor
@@ -86,7 +90,7 @@ combinerFields ws =
 abbrev pub modeFields : RegisterWords → ModeFields
 modeFields ws =
     record {
-      other = otherModesOf (fieldsIn otherModesLines (ws .«other_modes»));
+      other = otherModesIn (ws .«other_modes»);
       depth = primitiveDepthOf (fieldsIn primitiveDepthLines (ws .«primitive_depth»));
       scissor = scissorIn (ws .scissor);
     }

@@ -9,11 +9,15 @@ use Rattle.rdp_command.specs.declared.packing.BitLine.{BitLine}
 
 -- a bit line out of decimal digits: 1 where it is signed, word, high bit, low bit
 abbrev pub lineOf : ℕ → Line
-lineOf c = record { signed = eqb (c / 100000) 1; word = c / 10000 % 10; high = c / 100 % 100; low = c % 100 }
+lineOf c = record { isSigned = eqb (c / 100000) 1; word = c / 10000 % 10; high = c / 100 % 100; low = c % 100 }
 
 -- the bit lines from an index on
 abbrev pub linesAt : List ℕ → ℕ → ℕ → List Line
 linesAt t first count = map lineOf (take count (drop first t))
+
+-- as many as there are numbers
+abbrev pub linesFor : List ℕ → ℕ → List ℕ → List Line
+linesFor t first ns = linesAt t first (length ns)
 
 -- bit lines that stand in the table from an index on
 pub record Row (t : List ℕ) (first count : ℕ) (ls : List Line) : Type 0 where
@@ -36,9 +40,13 @@ abbrev pub AllReadable : List Line → Type 0
 AllReadable [] = Unit
 AllReadable (l ∷ ls) = Readable l × AllReadable ls
 
+-- bit lines for numbers that stand in the table, each of which can be read
+abbrev pub Stand : List ℕ → ℕ → List ℕ → Type 0
+Stand t first ns = (length t ≡ 203) × ((first + length ns ≤ 203) × AllReadable (linesFor t first ns))
+
 -- a bit line as the code holds it
 pub record LineIs (l : Line) (r : BitLine) : Type 0 where
-  pub signed : r .signed ≡ l .signed
+  pub isSigned : r .«is_signed» ≡ l .isSigned
   pub word : r .word ≡ l .word
   pub width : r .width ≡ width l
   pub low : r .low ≡ l .low

@@ -1,18 +1,15 @@
 // A command's words out of its number and the numbers of its fields, and back.
-ghost use mathlib.Core.Bool.{_&&_};
-ghost use mathlib.Core.List.{_++_};
 ghost use mathlib.Core.Path.{_≡_};
-ghost use Prim.Native.Nat.{_*_, _+_, _-_, _<_, _≤_, _/_, _%_};
-ghost use lib.Dec.{eqb};
+ghost use Prim.Native.Nat.{_*_, _<_, _≤_, _/_, _%_};
 ghost use lib.ListN.{length, getD};
 ghost use Rattle.rdp_command.specs.Words.{overwrite};
 ghost use Rattle.rdp_command.specs.Kinds.{wordsOf};
 ghost use Rattle.rdp_command.specs.Layout.{layout};
 ghost use Rattle.rdp_command.specs.Table.{Agrees};
 ghost use Rattle.rdp_command.specs.Decode.{suffixWords};
-ghost use Rattle.rdp_command.specs.Encode.{fixedBits, packedWord, packedBytes, baseWords, bytesWith, verdictOf, answerWith, outWith, encodeAnswer, encodeOut};
+ghost use Rattle.rdp_command.specs.Encode.{fixedBits, packedWord, packedBytes, bytesWith, verdictOf, encodeAnswer, encodeOut};
 ghost use Rattle.rdp_command.specs.Numbers.{numbersFit, flagsAgree, fromNumbers};
-ghost use Rattle.rdp_command.specs.Steps.{Spread, Usable, decodedFrom};
+ghost use Rattle.rdp_command.specs.Steps.{Spread, Packable, SuffixDue, answerBy, outBy, Usable, decodedFrom};
 ghost use Rattle.rdp_command.specs.declared.Command.{Command};
 use crate::decoding::Base;
 use crate::packing;
@@ -67,11 +64,11 @@ fn fixed_bits(number: u8) -> u8
 
 // Word k of a command.
 fn packed_word(table: &[u32; 203], number: u8, numbers: &[u64], k: usize) -> u64
-    requires { ⌜ Agrees (now table) × ((number < 64) × ((length (now numbers) ≡ length (layout number)) × (k < 4))) ⌝ }
+    requires { ⌜ Packable (now table) number (now numbers) × (k < 4) ⌝ }
     ensures { λ r. ⌜ r ≡ packedWord number (now (numbers .entry)) k ⌝ }
 {
     let lines = lines_of(table, number);
-    let rest = packing::packed_word(table, lines.first, k, numbers);
+    let rest = packing::packed(table, lines.first, k, numbers);
     if k == 0 {
         return (fixed_bits(number) as u64) * 0x100_0000_0000_0000 + rest;
     }
@@ -80,7 +77,7 @@ fn packed_word(table: &[u32; 203], number: u8, numbers: &[u64], k: usize) -> u64
 
 // Writes the first words of a command at the front.
 fn write_base(table: &[u32; 203], number: u8, numbers: &[u64], base: usize, out: &mut [u8])
-    requires { ⌜ Agrees (now table) × ((number < 64) × ((length (now numbers) ≡ length (layout number)) × ((base ≤ 4) × (8 * base ≤ length (now out))))) ⌝ }
+    requires { ⌜ Packable (now table) number (now numbers) × ((base ≤ 4) × (8 * base ≤ length (now out))) ⌝ }
     ensures { λ _. ⌜ now (out .exit) ≡ overwrite (packedBytes number (now (numbers .entry)) base) (now (out .entry)) ⌝ }
 {
     let mut k = 0;
@@ -100,7 +97,7 @@ fn write_whole(
     suffix: &[u8],
     out: &mut [u8],
 )
-    requires { ⌜ Agrees (now table) × ((number < 64) × ((length (now numbers) ≡ length (layout number)) × ((n ≡ wordsOf number) × ((8 * n ≤ length (now out)) × (length (now suffix) ≡ 8 * suffixWords n))))) ⌝ }
+    requires { ⌜ Packable (now table) number (now numbers) × ((n ≡ wordsOf number) × ((8 * n ≤ length (now out)) × SuffixDue (now suffix) n)) ⌝ }
     ensures { λ _. ⌜ now (out .exit) ≡ overwrite (bytesWith number (now (numbers .entry)) (now (suffix .entry))) (now (out .entry)) ⌝ }
 {
     let base = n - suffix.len() / 8;
@@ -137,8 +134,8 @@ fn verdict(encodable: bool, room: bool, n: usize) -> Answer
 // Writes a command at the front of out, where it can be encoded and there is room.
 fn write_command(number: u8, numbers: &[u64], suffix: &[u8], out: &mut [u8]) -> Answer
     requires { ⌜ number < 64 ⌝ }
-    ensures answer { λ r. ⌜ r ≡ answerWith (numbersFit number (now (numbers .entry)) && eqb (length (now (suffix .entry))) (8 * suffixWords (wordsOf number))) number (now (out .entry)) ⌝ }
-    ensures output { λ _. ⌜ now (out .exit) ≡ outWith (numbersFit number (now (numbers .entry)) && eqb (length (now (suffix .entry))) (8 * suffixWords (wordsOf number))) number (bytesWith number (now (numbers .entry)) (now (suffix .entry))) (now (out .entry)) ⌝ }
+    ensures answer { λ r. ⌜ r ≡ answerBy number (now (numbers .entry)) (now (suffix .entry)) (now (out .entry)) ⌝ }
+    ensures output { λ _. ⌜ now (out .exit) ≡ outBy number (now (numbers .entry)) (now (suffix .entry)) (now (out .entry)) ⌝ }
 {
     let table = table::layout_table();
     let n = words_of(number);

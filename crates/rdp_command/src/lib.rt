@@ -3,7 +3,7 @@ ghost use mathlib.Core.Path.{_≡_};
 ghost use Prim.Native.Nat.{_+_};
 ghost use denote.Ref.{ptr};
 ghost use Rattle.rdp_command.specs.Words.{wordAt};
-ghost use Rattle.rdp_command.specs.Kinds.{wordsOf};
+ghost use Rattle.rdp_command.specs.Kinds.{wordsOf, isAmong};
 ghost use Rattle.rdp_command.specs.Decode.{decodeOf, suffixOf, suffixStart};
 ghost use Rattle.rdp_command.specs.Reads.{headOf, fillFields, registerFields, tileFields};
 ghost use Rattle.rdp_command.specs.Encode.{encodeAnswer, encodeOut};
@@ -266,8 +266,8 @@ pub struct Head {
     pub image_size: u8,
 }
 
-// The first words of the commands that set what a fill is drawn under: Set Other Modes, Set Scissor, Set Color Image and Set Fill Color. 0 stands where
-// none has come: the fields of the word 0 are the registers at the start.
+// The first words of the commands that set what a fill is drawn under: Set Other Modes, Set Scissor, Set Color Image and Set Fill Color. 0 stands
+// where none has come: the fields of the word 0 are the registers at the start.
 #[repr(C)]
 pub struct FillWords {
     pub modes: u64,
@@ -456,6 +456,13 @@ pub fn tile_fields(descriptor: u64, size: u64) -> TileFields
         descriptor: read::tile_descriptor(descriptor),
         area: read::tile_area(size),
     }
+}
+
+// Whether a command number is among those whose bits are set; its low six bits count.
+pub fn is_among(numbers: u64, number: u8) -> bool
+    ensures { λ r. ⌜ r ≡ isAmong numbers number ⌝ }
+{
+    (numbers >> (number % 64)) % 2 == 1
 }
 
 // The words of a command, by its number. Byte k of the constant, from its low end, has those of the triangle 0x08 + k.

@@ -2,18 +2,17 @@
 ghost use mathlib.Core.Bool.{cond};
 ghost use lib.Dec.{eqb};
 ghost use mathlib.Core.Path.{_≡_};
-ghost use Prim.Native.Nat.{_*_, _+_, _<_, _≤_, _^_};
-ghost use lib.ListN.{length, getD};
+ghost use Prim.Native.Nat.{_<_, _^_};
 ghost use lib.Signed.{mag};
 ghost use mir.Syntax.{w64};
 ghost use mir.Val.{toZ};
-ghost use Rattle.rdp_command.specs.Fields.{fitsLine, allFit, placed, packed};
-ghost use Rattle.rdp_command.specs.Numbers.{valueFrom, valuesFrom};
-ghost use Rattle.rdp_command.specs.Table.{lineOf, linesAt, Readable, AllReadable, LineIs};
+ghost use Rattle.rdp_command.specs.Fields.{fitsLine, placed, packed};
+ghost use Rattle.rdp_command.specs.Numbers.{valueFrom, eachFits};
+ghost use Rattle.rdp_command.specs.Table.{lineOf, linesFor, Stand, Readable, LineIs};
 
 // A bit line: its word, its width in bits and its low bit.
 pub struct BitLine {
-    pub signed: bool,
+    pub is_signed: bool,
     pub word: usize,
     pub width: u32,
     pub low: u32,
@@ -26,7 +25,7 @@ fn line_of(code: u32) -> BitLine
     let high = code / 100 % 100;
     let low = code % 100;
     BitLine {
-        signed: code / 100000 == 1,
+        is_signed: code / 100000 == 1,
         word: (code / 10000 % 10) as usize,
         width: high - low + 1,
         low,
@@ -47,12 +46,12 @@ fn magnitude(n: u64) -> u64
 // Whether a number fits a bit line.
 fn fits_line(code: u32, n: u64) -> bool
     requires { ⌜ Readable (lineOf code) ⌝ }
-    ensures { λ r. ⌜ r ≡ fitsLine (lineOf code) (valueFrom (lineOf code .signed) n) ⌝ }
+    ensures { λ r. ⌜ r ≡ fitsLine (lineOf code) (valueFrom (lineOf code .isSigned) n) ⌝ }
 {
     let line = line_of(code);
-    let signed = line.signed;
+    let is_signed = line.is_signed;
     let width = line.width;
-    if signed {
+    if is_signed {
         magnitude(n) < 1u64 << (width - 1)
     } else {
         n < 1u64 << width
@@ -61,8 +60,8 @@ fn fits_line(code: u32, n: u64) -> bool
 
 // Whether each number fits its bit line; the lines stand in the table from an index on.
 pub fn all_fit(table: &[u32; 203], first: usize, numbers: &[u64]) -> bool
-    requires { ⌜ (length (now table) ≡ 203) × ((first + length (now numbers) ≤ 203) × AllReadable (linesAt (now table) first (length (now numbers)))) ⌝ }
-    ensures { λ r. ⌜ r ≡ allFit (linesAt (now (table .entry)) first (length (now (numbers .entry)))) (valuesFrom (linesAt (now (table .entry)) first (length (now (numbers .entry)))) (now (numbers .entry))) ⌝ }
+    requires { ⌜ Stand (now table) first (now numbers) ⌝ }
+    ensures { λ r. ⌜ r ≡ eachFits (linesFor (now (table .entry)) first (now (numbers .entry))) (now (numbers .entry)) ⌝ }
 {
     let mut k = 0;
     while k < numbers.len() {
@@ -92,9 +91,9 @@ fn placed_in(word: usize, code: u32, n: u64) -> u64
 }
 
 // A word of a command: the numbers at their bit lines, all other bits zero.
-pub fn packed_word(table: &[u32; 203], first: usize, word: usize, numbers: &[u64]) -> u64
-    requires { ⌜ (length (now table) ≡ 203) × ((first + length (now numbers) ≤ 203) × (AllReadable (linesAt (now table) first (length (now numbers))) × (packed word (linesAt (now table) first (length (now numbers))) (now numbers) < 2 ^ 64))) ⌝ }
-    ensures { λ r. ⌜ r ≡ packed word (linesAt (now (table .entry)) first (length (now (numbers .entry)))) (now (numbers .entry)) ⌝ }
+pub fn packed(table: &[u32; 203], first: usize, word: usize, numbers: &[u64]) -> u64
+    requires { ⌜ Stand (now table) first (now numbers) × (packed word (linesFor (now table) first (now numbers)) (now numbers) < 2 ^ 64) ⌝ }
+    ensures { λ r. ⌜ r ≡ packed word (linesFor (now (table .entry)) first (now (numbers .entry))) (now (numbers .entry)) ⌝ }
 {
     let mut sum = 0u64;
     let mut k = 0;

@@ -10,7 +10,7 @@ use crate::words::number_in;
 use crate::*;
 
 // A two's complement number, where half is 2 to its bits less one.
-fn signed(raw: u32, half: u32) -> i16
+fn sign_extend(raw: u32, half: u32) -> i16
     requires { ⌜ (half ≤ 0x8000) × (raw < 2 * half) ⌝ }
     ensures { λ r. ⌜ r ≡ twosComplement half raw ⌝ }
 {
@@ -26,11 +26,11 @@ pub fn edge(w: u64) -> Edge
 {
     Edge {
         x: Fixed {
-            i: signed(((w >> 48) % 0x1000) as u32, 0x800),
+            i: sign_extend(((w >> 48) % 0x1000) as u32, 0x800),
             f: ((w >> 32) % 0x10000) as u16,
         },
         dxdy: Fixed {
-            i: signed(((w >> 16) % 0x4000) as u32, 0x2000),
+            i: sign_extend(((w >> 16) % 0x4000) as u32, 0x2000),
             f: (w % 0x10000) as u16,
         },
     }
@@ -46,9 +46,9 @@ pub fn triangle_base(w0: u64, w1: u64, w2: u64, w3: u64) -> TriangleBase
         lmajor: (w0 >> 55) % 0x2 == 1,
         level: ((w0 >> 51) % 0x8) as u8,
         tile: ((w0 >> 48) % 0x8) as u8,
-        yl: signed(((w0 >> 32) % 0x4000) as u32, 0x2000),
-        ym: signed(((w0 >> 16) % 0x4000) as u32, 0x2000),
-        yh: signed((w0 % 0x4000) as u32, 0x2000),
+        yl: sign_extend(((w0 >> 32) % 0x4000) as u32, 0x2000),
+        ym: sign_extend(((w0 >> 16) % 0x4000) as u32, 0x2000),
+        yh: sign_extend((w0 % 0x4000) as u32, 0x2000),
         l: edge(w1),
         h: edge(w2),
         m: edge(w3),
@@ -59,10 +59,10 @@ pub fn texture_step(w: u64) -> TextureStep
     ensures { λ r. ⌜ r ≡ textureStepOf (fieldsOf (textureStepLines 0) (w ∷ [])) ⌝ }
 {
     TextureStep {
-        s: signed(((w >> 48) % 0x10000) as u32, 0x8000),
-        t: signed(((w >> 32) % 0x10000) as u32, 0x8000),
-        dsdx: signed(((w >> 16) % 0x10000) as u32, 0x8000),
-        dtdy: signed((w % 0x10000) as u32, 0x8000),
+        s: sign_extend(((w >> 48) % 0x10000) as u32, 0x8000),
+        t: sign_extend(((w >> 32) % 0x10000) as u32, 0x8000),
+        dsdx: sign_extend(((w >> 16) % 0x10000) as u32, 0x8000),
+        dtdy: sign_extend((w % 0x10000) as u32, 0x8000),
     }
 }
 

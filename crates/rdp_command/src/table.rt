@@ -1,8 +1,8 @@
 // The layout of every command as numbers: the place and count of its bit lines, then the bit lines.
 ghost use Rattle.rdp_command.specs.Table.{Agrees};
 
-// Number n has table[n] % 64 bit lines, from index table[n] / 64 on. A bit line is, in decimal digits, 1 where it is signed, its word, its high bit and
-// its low bit.
+// Number n has table[n] % 64 bit lines, from index table[n] / 64 on. A bit line is, in decimal digits, 1 where it is signed, its word, its high bit
+// and its low bit.
 pub fn layout_table() -> [u32; 203]
     ensures { λ r. ⌜ Agrees r ⌝ }
 {

@@ -12,8 +12,8 @@ ghost use Rattle.rdp_command.specs.Layout.{edgeLines, textureStepLines, 
 ghost use Rattle.rdp_command.specs.Fields.{numberOfValue};
 ghost use Rattle.rdp_command.specs.declared.Command.the-variants.{FillTriangle};
 ghost use Rattle.rdp_command.specs.declared.Command.{Command};
-ghost use Rattle.rdp_command.specs.Numbers.{valuesFrom, fieldsAnswer, fieldsOut};
-ghost use Rattle.rdp_command.specs.Steps.{listed, numbered, Spread, Usable};
+ghost use Rattle.rdp_command.specs.Numbers.{fieldsAnswer, fieldsOut};
+ghost use Rattle.rdp_command.specs.Steps.{listed, GivenBack, numbered, numberedBy, Spread, Usable};
 ghost use Rattle.rdp_command.specs.Groups.{edgeValues, triangleBaseValues, textureStepValues, texturedRectangleValues, keyGbValues, keyRValues, convertValues, scissorValues, primitiveDepthValues, otherModesValues, tileAreaValues, blockValues, tileDescriptorValues, rectangleValues, colorValues, primitiveColorValues, imageValues};
 use crate::*;
 
@@ -84,7 +84,7 @@ pub struct Four {
 }
 
 fn edge(g: Edge) -> Four
-    ensures { λ r. ⌜ (listed r ≡ map numberOfValue (edgeValues g)) × (valuesFrom (edgeLines 0) (map numberOfValue (edgeValues g)) ≡ edgeValues g) ⌝ }
+    ensures { λ r. ⌜ (listed r ≡ map numberOfValue (edgeValues g)) × GivenBack (edgeLines 0) (edgeValues g) ⌝ }
 {
     Four {
         first: twos(g.x.i),
@@ -134,7 +134,7 @@ fn triangle_base(g: TriangleBase) -> Numbers
 }
 
 fn texture_step(g: TextureStep) -> Four
-    ensures { λ r. ⌜ (listed r ≡ map numberOfValue (textureStepValues g)) × (valuesFrom (textureStepLines 0) (map numberOfValue (textureStepValues g)) ≡ textureStepValues g) ⌝ }
+    ensures { λ r. ⌜ (listed r ≡ map numberOfValue (textureStepValues g)) × GivenBack (textureStepLines 0) (textureStepValues g) ⌝ }
 {
     Four {
         first: twos(g.s),
@@ -145,7 +145,7 @@ fn texture_step(g: TextureStep) -> Four
 }
 
 fn textured_rectangle(number: u8, g: TexturedRectangle) -> Numbers
-    ensures { λ r. ⌜ (r ≡ numbered number true (map numberOfValue (texturedRectangleValues g))) × (valuesFrom texturedRectangleLines (map numberOfValue (texturedRectangleValues g)) ≡ texturedRectangleValues g) ⌝ }
+    ensures { λ r. ⌜ (r ≡ numberedBy number (texturedRectangleValues g)) × GivenBack texturedRectangleLines (texturedRectangleValues g) ⌝ }
 {
     let step = texture_step(g.step);
     let values = [
@@ -163,7 +163,7 @@ fn textured_rectangle(number: u8, g: TexturedRectangle) -> Numbers
 }
 
 fn key_gb(g: KeyGb) -> Numbers
-    ensures { λ r. ⌜ r ≡ numbered 0x2A true (map numberOfValue (keyGbValues g)) ⌝ }
+    ensures { λ r. ⌜ r ≡ numberedBy 0x2A (keyGbValues g) ⌝ }
 {
     let values = [
         g.width_g as u64,
@@ -177,14 +177,14 @@ fn key_gb(g: KeyGb) -> Numbers
 }
 
 fn key_r(g: KeyR) -> Numbers
-    ensures { λ r. ⌜ r ≡ numbered 0x2B true (map numberOfValue (keyRValues g)) ⌝ }
+    ensures { λ r. ⌜ r ≡ numberedBy 0x2B (keyRValues g) ⌝ }
 {
     let values = [g.width_r as u64, g.center_r as u64, g.scale_r as u64];
     padded(0x2B, &values)
 }
 
 fn convert(g: Convert) -> Numbers
-    ensures { λ r. ⌜ r ≡ numbered 0x2C true (map numberOfValue (convertValues g)) ⌝ }
+    ensures { λ r. ⌜ r ≡ numberedBy 0x2C (convertValues g) ⌝ }
 {
     let values = [
         g.k0 as u64,
@@ -198,7 +198,7 @@ fn convert(g: Convert) -> Numbers
 }
 
 fn scissor(g: Scissor) -> Numbers
-    ensures { λ r. ⌜ r ≡ numbered 0x2D true (map numberOfValue (scissorValues g)) ⌝ }
+    ensures { λ r. ⌜ r ≡ numberedBy 0x2D (scissorValues g) ⌝ }
 {
     let values = [
         g.upper_left.x as u64,
@@ -212,14 +212,14 @@ fn scissor(g: Scissor) -> Numbers
 }
 
 fn primitive_depth(g: PrimitiveDepth) -> Numbers
-    ensures { λ r. ⌜ r ≡ numbered 0x2E true (map numberOfValue (primitiveDepthValues g)) ⌝ }
+    ensures { λ r. ⌜ r ≡ numberedBy 0x2E (primitiveDepthValues g) ⌝ }
 {
     let values = [g.z as u64, g.dz as u64];
     padded(0x2E, &values)
 }
 
 fn other_modes(g: OtherModes) -> Numbers
-    ensures { λ r. ⌜ r ≡ numbered 0x2F true (map numberOfValue (otherModesValues g)) ⌝ }
+    ensures { λ r. ⌜ r ≡ numberedBy 0x2F (otherModesValues g) ⌝ }
 {
     let values = [
         g.atomic_prim as u64,
@@ -264,7 +264,7 @@ fn other_modes(g: OtherModes) -> Numbers
 }
 
 fn tile_area(number: u8, g: TileArea) -> Numbers
-    ensures { λ r. ⌜ r ≡ numbered number true (map numberOfValue (tileAreaValues g)) ⌝ }
+    ensures { λ r. ⌜ r ≡ numberedBy number (tileAreaValues g) ⌝ }
 {
     let values = [
         g.upper_left.s as u64,
@@ -277,7 +277,7 @@ fn tile_area(number: u8, g: TileArea) -> Numbers
 }
 
 fn block(g: Block) -> Numbers
-    ensures { λ r. ⌜ r ≡ numbered 0x33 true (map numberOfValue (blockValues g)) ⌝ }
+    ensures { λ r. ⌜ r ≡ numberedBy 0x33 (blockValues g) ⌝ }
 {
     let values = [
         g.upper_left.s as u64,
@@ -290,7 +290,7 @@ fn block(g: Block) -> Numbers
 }
 
 fn tile_descriptor(g: TileDescriptor) -> Numbers
-    ensures { λ r. ⌜ r ≡ numbered 0x35 true (map numberOfValue (tileDescriptorValues g)) ⌝ }
+    ensures { λ r. ⌜ r ≡ numberedBy 0x35 (tileDescriptorValues g) ⌝ }
 {
     let values = [
         g.format as u64,
@@ -312,7 +312,7 @@ fn tile_descriptor(g: TileDescriptor) -> Numbers
 }
 
 fn rectangle(g: Rectangle) -> Numbers
-    ensures { λ r. ⌜ r ≡ numbered 0x36 true (map numberOfValue (rectangleValues g)) ⌝ }
+    ensures { λ r. ⌜ r ≡ numberedBy 0x36 (rectangleValues g) ⌝ }
 {
     let values = [
         g.lower_right.x as u64,
@@ -324,14 +324,14 @@ fn rectangle(g: Rectangle) -> Numbers
 }
 
 fn color(number: u8, g: Color) -> Numbers
-    ensures { λ r. ⌜ r ≡ numbered number true (map numberOfValue (colorValues g)) ⌝ }
+    ensures { λ r. ⌜ r ≡ numberedBy number (colorValues g) ⌝ }
 {
     let values = [g.red as u64, g.green as u64, g.blue as u64, g.alpha as u64];
     padded(number, &values)
 }
 
 fn primitive_color(g: PrimitiveColor) -> Numbers
-    ensures { λ r. ⌜ r ≡ numbered 0x3A true (map numberOfValue (primitiveColorValues g)) ⌝ }
+    ensures { λ r. ⌜ r ≡ numberedBy 0x3A (primitiveColorValues g) ⌝ }
 {
     let values = [
         g.min_level as u64,
@@ -345,7 +345,7 @@ fn primitive_color(g: PrimitiveColor) -> Numbers
 }
 
 fn image(number: u8, g: Image) -> Numbers
-    ensures { λ r. ⌜ r ≡ numbered number true (map numberOfValue (imageValues g)) ⌝ }
+    ensures { λ r. ⌜ r ≡ numberedBy number (imageValues g) ⌝ }
 {
     let values = [
         g.format as u64,
@@ -367,7 +367,7 @@ fn one(number: u8, n: u64) -> Numbers
 fn is_no_operation(number: u8) -> bool
     ensures { λ r. ⌜ r ≡ isNoOperation number ⌝ }
 {
-    (number < 0x08) | ((0x10 <= number) & (number < 0x24)) | (number == 0x31)
+    (number <= 0x07) | ((0x10 <= number) & (number <= 0x23)) | (number == 0x31)
 }
 
 // A command's number with the numbers of its fields.

@@ -8,7 +8,7 @@ use Rattle.rdp_command.specs.Layout.{layout}
 use Rattle.rdp_command.specs.Commands.{commandOf}
 use Rattle.rdp_command.specs.Decode.{commandIn}
 use Rattle.rdp_command.specs.Numbers.{flagsAgree}
-use Rattle.rdp_command.specs.Steps.{decodedFrom}
+use Rattle.rdp_command.specs.Steps.{Packable, decodedFrom}
 use Rattle.rdp_command.proofs.TableLaws.{layout-readable}
 use Rattle.rdp_command.proofs.LayoutLaws.{fields-back}
 use Rattle.rdp_command.proofs.AnswerLaws.{fit-parts, accepted, misfit, too-large}
@@ -28,20 +28,25 @@ numbers-fit-requires c κs = search needs
 counted : (c : tie.After-numbers-fit) → c .numbers-fit .result ≡ true → length (now (c .before .before .before .before .before .args .numbers)) ≡ length (layout (c .before .before .before .before .before .args .number))
 counted c e = fit-parts (c .before .before .before .before .before .args .number) (now (c .before .before .before .before .before .args .numbers)) (sym (c .numbers-fit .ensures) ∙ e) .0
 
+packable :
+    (c : tie.After-numbers-fit) → c .numbers-fit .result ≡ true →
+    Packable (c .before .before .layout-table .result) (c .before .before .before .before .before .args .number) (now (c .before .before .before .before .before .args .numbers))
+packable c e = record { agrees = c .before .before .layout-table .ensures; small = c .before .before .before .if1 .taken; long = counted c e }
+
 flags-agree-requires : tie.Need-flags-agree-requires
 flags-agree-requires c κs = counted (c .before) (c .if2 .taken)
 
 packed-word-requires : tie.Need-packed-word-requires
-packed-word-requires c κs = (c .before .before .before .before .before .before .layout-table .ensures, (c .before .before .before .before .before .before .before .if1 .taken, (counted (c .before .before .before .before) (c .before .before .before .if2 .taken), lit< tt)))
+packed-word-requires c κs = let at = c .before .before .before .before in (packable at (c .before .before .before .if2 .taken), lit< tt)
 
 packed-word-requires-2 : tie.Need-packed-word-requires-2
-packed-word-requires-2 c κs = (c .before .before .before .before .before .before .before .before .layout-table .ensures, (c .before .before .before .before .before .before .before .before .before .if1 .taken, (counted (c .before .before .before .before .before .before) (c .before .before .before .before .before .if2 .taken), lit< tt)))
+packed-word-requires-2 c κs = let at = c .before .before .before .before .before .before in (packable at (c .before .before .before .before .before .if2 .taken), lit< tt)
 
 packed-word-requires-3 : tie.Need-packed-word-requires-3
-packed-word-requires-3 c κs = (c .before .before .before .before .before .before .before .before .before .before .layout-table .ensures, (c .before .before .before .before .before .before .before .before .before .before .before .if1 .taken, (counted (c .before .before .before .before .before .before .before .before) (c .before .before .before .before .before .before .before .if2 .taken), lit< tt)))
+packed-word-requires-3 c κs = let at = c .before .before .before .before .before .before .before .before in (packable at (c .before .before .before .before .before .before .before .if2 .taken), lit< tt)
 
 packed-word-requires-4 : tie.Need-packed-word-requires-4
-packed-word-requires-4 c κs = (c .before .before .before .before .before .before .before .before .before .before .before .before .layout-table .ensures, (c .before .before .before .before .before .before .before .before .before .before .before .before .before .if1 .taken, (counted (c .before .before .before .before .before .before .before .before .before .before) (c .before .before .before .before .before .before .before .before .before .if2 .taken), lit< tt)))
+packed-word-requires-4 c κs = let at = c .before .before .before .before .before .before .before .before .before .before in (packable at (c .before .before .before .before .before .before .before .before .before .if2 .taken), lit< tt)
 
 returns : tie.Need-returns
 unfolding decodedFrom

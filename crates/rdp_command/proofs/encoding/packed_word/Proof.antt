@@ -30,27 +30,27 @@ module _ (c : tie.After-lines-of) where
   number = c .before .before .args .number
 
   small : number < 64
-  small = c .before .before .pre .1 .0
+  small = c .before .before .pre .0 .small
 
   abbrev first : ℕ
   first = c .lines-of .result .first
 
   lines : linesAt table first (length numbers) ≡ layout number
-  lines = row-lines table (c .before .before .pre .0) number small (c .lines-of .ensures .0) (c .lines-of .ensures .1) (length numbers) (c .before .before .pre .1 .1 .0)
+  lines = row-lines table (c .before .before .pre .0 .agrees) number small (c .lines-of .ensures .0) (c .lines-of .ensures .1) (length numbers) (c .before .before .pre .0 .long)
 
   room : first + length numbers ≤ 203
-  room = row-room table (c .before .before .pre .0) number small (c .lines-of .ensures .0) (c .lines-of .ensures .1) (length numbers) (c .before .before .pre .1 .1 .0)
+  room = row-room table (c .before .before .pre .0 .agrees) number small (c .lines-of .ensures .0) (c .lines-of .ensures .1) (length numbers) (c .before .before .pre .0 .long)
 
   readable : AllReadable (linesAt table first (length numbers))
-  readable = row-readable table (c .before .before .pre .0) number small (c .lines-of .ensures .0) (c .lines-of .ensures .1) (length numbers) (c .before .before .pre .1 .1 .0)
+  readable = row-readable table (c .before .before .pre .0 .agrees) number small (c .lines-of .ensures .0) (c .lines-of .ensures .1) (length numbers) (c .before .before .pre .0 .long)
 
   packed-as : {r : ℕ} → r ≡ packed (c .before .before .args .k) (linesAt table first (length numbers)) numbers → r ≡ packed (c .before .before .args .k) (layout number) numbers
   packed-as e = e ∙ ap (λ (ls : List Line). packed (c .before .before .args .k) ls numbers) lines
 
-packed-word-requires : tie.Need-packed-word-requires
-packed-word-requires c κs =
-    let r = lines (c) in
-    (c .before .before .pre .0 .long, (room c, (readable c, rw (r) (rest-lt (number c) (small c) (numbers c) (c .before .before .args .k) (c .before .before .pre .1 .1 .1)))))
+packed-requires : tie.Need-packed-requires
+packed-requires c κs =
+    let r = lines c in
+    ((c .before .before .pre .0 .agrees .long, (room c, readable c)), rw r (rest-lt (number c) (small c) (numbers c) (c .before .before .args .k) (c .before .before .pre .1)))
 
 fixed-bits-requires : tie.Need-fixed-bits-requires
 fixed-bits-requires c κs = search needs
@@ -65,25 +65,25 @@ add-result : tie.Need-add-result
 add-result c =
     let at = c .before .before .before in
     let w = word-lt (number at) (small at) (numbers at) 0 (lit< tt) in
-    let r = packed-as at (c .before .before .packed-word .ensures) ∙ ap (λ (k : ℕ). packed k (layout (number at)) (numbers at)) (c .before .if1 .taken) in
+    let r = packed-as at (c .before .before .packed .ensures) ∙ ap (λ (k : ℕ). packed k (layout (number at)) (numbers at)) (c .before .if1 .taken) in
     record { fits = rw (c .fixed-bits .ensures, r) w }
 
 returns : tie.Need-returns
 returns c =
     let at = c .before .before .before in
-    rw (eq-eqb _ _ (c .before .if1 .taken)) (λ i. c .fixed-bits .ensures i * 2 ^ 56 + packed-as at (c .before .before .packed-word .ensures) i)
+    rw (eq-eqb _ _ (c .before .if1 .taken)) (λ i. c .fixed-bits .ensures i * 2 ^ 56 + packed-as at (c .before .before .packed .ensures) i)
 
 returns-2 : tie.Need-returns-2
 returns-2 c =
     let at = c .before .before in
-    rw (ne-eqb _ _ (c .if1 .left)) (packed-as at (c .before .packed-word .ensures) ∙ sym (zero-add _))
+    rw (ne-eqb _ _ (c .if1 .left)) (packed-as at (c .before .packed .ensures) ∙ sym (zero-add _))
 
 pub packed-word-spec : {M : Type 1} → statement M
 packed-word-spec =
     tie.close
     (tie.spec
     lines-of-requires
-    packed-word-requires
+    packed-requires
     fixed-bits-requires
     cast-result
     mul-result

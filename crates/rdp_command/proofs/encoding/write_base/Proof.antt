@@ -31,19 +31,19 @@ module _ (c : tie.At-loop Inv-loop μ-loop) where
   long : length (c .loop .out) ≡ length out
   long =
       let e = packed-long number numbers (c .loop .k) in
-      ap length (c .loop .inv .1) ∙ length-overwrite (packedBytes number numbers (c .loop .k)) out (omega (arith, e, c .before .before .before .pre .1 .1 .1 .1))
+      ap length (c .loop .inv .1) ∙ length-overwrite (packedBytes number numbers (c .loop .k)) out (omega (arith, e, c .before .before .before .pre .1 .1))
 
 loop-holds : tie.Need-loop-holds Inv-loop μ-loop
 loop-holds c = (zero-le, sym (packed-none (c .before .before .args .number) (now (c .before .before .args .numbers)) (now (c .before .before .args .out))))
 
 packed-word-requires : tie.Need-packed-word-requires Inv-loop μ-loop
-packed-word-requires c κs = (c .before .before .before .before .pre .0, (c .before .before .before .before .pre .1 .0, (c .before .before .before .before .pre .1 .1 .0, omega arith)))
+packed-word-requires c κs = (c .before .before .before .before .pre .0, omega arith)
 
 mul-put-word : tie.Need-mul-put-word Inv-loop μ-loop
 mul-put-word c = search needs
 
 put-word-requires : tie.Need-put-word-requires Inv-loop μ-loop
-put-word-requires c κs = omega (arith, long (c .before .before .before), c .before .before .before .before .before .before .pre .1 .1 .1 .1)
+put-word-requires c κs = omega (arith, long (c .before .before .before), c .before .before .before .before .before .before .pre .1 .1)
 
 add-k : tie.Need-add-k Inv-loop μ-loop
 add-k c = search needs

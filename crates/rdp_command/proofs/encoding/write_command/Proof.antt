@@ -13,7 +13,8 @@ use Rattle.rdp_command.specs.Encode.{verdictOf, hasRoom, answerWith, out
 use Rattle.rdp_command.specs.Numbers.{numbersFit}
 use Rattle.rdp_command.specs.declared.Answer.{Answer}
 use Rattle.rdp_command.proofs.KindLaws.{words-most}
-use Rattle.rdp_command.proofs.AnswerLaws.{and-true, fit-parts}
+use Rattle.rdp_command.proofs.Tests.{and-true}
+use Rattle.rdp_command.proofs.AnswerLaws.{fit-parts}
 use borrow.Author.Needs.{needs}
 use Rattle.rdp_command.proofs.encoding.write_command.Statement.{statement}
 use Rattle.rdp_command.proofs.encoding.write_command.Tie as tie
@@ -88,8 +89,12 @@ write-whole-requires c κs =
     let parts = both-true at (c .before .before .if1 .taken) in
     let ok = and-true (numbersFit (number at) (numbers at)) (eqb (length (suffix at)) (8 * suffixWords (wordsOf (number at)))) (parts .0) in
     let n = fit-parts (number at) (numbers at) (ok .0) in (
-      c .before .before .before .before .before .before .before .before .layout-table .ensures,
-      (c .before .before .before .before .before .before .before .before .before .before .before .before .pre, (n .0, (words at, (omega (arith, words at, leb-true (wordsOf (number at)) (length (out at) / 8) (parts .1)), eqb-true (length (suffix at)) (8 * suffixWords (wordsOf (number at))) (ok .1) ∙ ap (λ (k : ℕ). 8 * suffixWords k) (sym (words at)))))),
+      record {
+        agrees = c .before .before .before .before .before .before .before .before .layout-table .ensures;
+        small = c .before .before .before .before .before .before .before .before .before .before .before .before .pre;
+        long = n .0;
+      },
+      (words at, (omega (arith, words at, leb-true (wordsOf (number at)) (length (out at) / 8) (parts .1)), eqb-true (length (suffix at)) (8 * suffixWords (wordsOf (number at))) (ok .1) ∙ ap (λ (k : ℕ). 8 * suffixWords k) (sym (words at)))),
     )
 
 same-length : tie.Need-same-length

@@ -51,9 +51,9 @@ module _ (c : tie.At-loop Inv-loop μ-loop) where
 
     -- what the test of one number says of the line of the layout
     tested :
-        {r : Bool} → r ≡ fitsLine (lineOf (getD table (first + c .loop .k) 0)) (valueFrom (lineOf (getD table (first + c .loop .k) 0) .signed) (getD numbers (c .loop .k) 0)) →
-        r ≡ fitsLine (getD ls (c .loop .k) (lineOf 0)) (valueFrom (getD ls (c .loop .k) (lineOf 0) .signed) (getD numbers (c .loop .k) 0))
-    tested e = e ∙ ap (λ (l : Line). fitsLine l (valueFrom (l .signed) (getD numbers (c .loop .k) 0))) (sym line)
+        {r : Bool} → r ≡ fitsLine (lineOf (getD table (first + c .loop .k) 0)) (valueFrom (lineOf (getD table (first + c .loop .k) 0) .isSigned) (getD numbers (c .loop .k) 0)) →
+        r ≡ fitsLine (getD ls (c .loop .k) (lineOf 0)) (valueFrom (getD ls (c .loop .k) (lineOf 0) .isSigned) (getD numbers (c .loop .k) 0))
+    tested e = e ∙ ap (λ (l : Line). fitsLine l (valueFrom (l .isSigned) (getD numbers (c .loop .k) 0))) (sym line)
 
 loop-holds : tie.Need-loop-holds Inv-loop μ-loop
 loop-holds c = (zero-le, refl)

@@ -27,10 +27,10 @@ shl-result-2 : tie.Need-shl-result-2
 shl-result-2 c = search needs
 
 returns : tie.Need-returns
-returns c = fits-signed (lineOf (c .before .before .before .args .code)) (c .before .before .before .pre) (c .before .before .before .args .n) (c .before .before .line-of .ensures .width) (sym (c .before .before .line-of .ensures .signed) ∙ c .before .if1 .taken) (c .magnitude .ensures)
+returns c = fits-signed (lineOf (c .before .before .before .args .code)) (c .before .before .before .pre) (c .before .before .before .args .n) (c .before .before .line-of .ensures .width) (sym (c .before .before .line-of .ensures .isSigned) ∙ c .before .if1 .taken) (c .magnitude .ensures)
 
 returns-2 : tie.Need-returns-2
-returns-2 c = fits-unsigned (lineOf (c .before .before .args .code)) (c .before .before .pre) (c .before .before .args .n) (c .before .line-of .ensures .width) (sym (c .before .line-of .ensures .signed) ∙ c .if1 .left)
+returns-2 c = fits-unsigned (lineOf (c .before .before .args .code)) (c .before .before .pre) (c .before .before .args .n) (c .before .line-of .ensures .width) (sym (c .before .line-of .ensures .isSigned) ∙ c .if1 .left)
 
 pub fits-line-spec : {M : Type 1} → statement M
 fits-line-spec =

@@ -13,23 +13,23 @@ cast-t19 c = search needs
 cast-t22 : tie.Need-cast-t22
 cast-t22 c = search needs
 
-cast-signed : tie.Need-cast-signed
-cast-signed c = search needs
+cast-sign-extend : tie.Need-cast-sign-extend
+cast-sign-extend c = search needs
 
-signed-requires : tie.Need-signed-requires
-signed-requires c κs = search needs
+sign-extend-requires : tie.Need-sign-extend-requires
+sign-extend-requires c κs = search needs
 
-cast-signed-2 : tie.Need-cast-signed-2
-cast-signed-2 c = search needs
+cast-sign-extend-2 : tie.Need-cast-sign-extend-2
+cast-sign-extend-2 c = search needs
 
-signed-requires-2 : tie.Need-signed-requires-2
-signed-requires-2 c κs = search needs
+sign-extend-requires-2 : tie.Need-sign-extend-requires-2
+sign-extend-requires-2 c κs = search needs
 
-cast-signed-3 : tie.Need-cast-signed-3
-cast-signed-3 c = search needs
+cast-sign-extend-3 : tie.Need-cast-sign-extend-3
+cast-sign-extend-3 c = search needs
 
-signed-requires-3 : tie.Need-signed-requires-3
-signed-requires-3 c κs = search needs
+sign-extend-requires-3 : tie.Need-sign-extend-requires-3
+sign-extend-requires-3 c κs = search needs
 
 edge-requires : tie.Need-edge-requires
 edge-requires c κs = search needs
@@ -50,9 +50,9 @@ returns c =
       lmajor = flagAt vs 3;
       level = natAt vs 4;
       tile = natAt vs 5;
-      yl = read-back (c .before .before .before .before .before .signed .ok) (c .before .before .before .before .before .signed .ensures) i;
-      ym = read-back (c .before .before .before .before .signed2 .ok) (c .before .before .before .before .signed2 .ensures) i;
-      yh = read-back (c .before .before .before .signed3 .ok) (c .before .before .before .signed3 .ensures) i;
+      yl = read-back (c .before .before .before .before .before .sign-extend .ok) (c .before .before .before .before .before .sign-extend .ensures) i;
+      ym = read-back (c .before .before .before .before .sign-extend2 .ok) (c .before .before .before .before .sign-extend2 .ensures) i;
+      yh = read-back (c .before .before .before .sign-extend3 .ok) (c .before .before .before .sign-extend3 .ensures) i;
       l = c .before .before .edge .ensures i;
       h = c .before .edge2 .ensures i;
       m = c .edge3 .ensures i;
@@ -64,12 +64,12 @@ triangle-base-spec =
     (tie.spec
     cast-t19
     cast-t22
-    cast-signed
-    signed-requires
-    cast-signed-2
-    signed-requires-2
-    cast-signed-3
-    signed-requires-3
+    cast-sign-extend
+    sign-extend-requires
+    cast-sign-extend-2
+    sign-extend-requires-2
+    cast-sign-extend-3
+    sign-extend-requires-3
     edge-requires
     edge-requires-2
     edge-requires-3

@@ -9,8 +9,8 @@ use borrow.Author.Tests.{lt-ltb, le-ltb}
 use Rattle.rdp_command.specs.Fields.{twosComplement}
 use Rattle.rdp_command.proofs.Signed.{minus-one}
 use borrow.Author.Needs.{needs}
-use Rattle.rdp_command.proofs.read.signed.Statement.{statement}
-use Rattle.rdp_command.proofs.read.signed.Tie as tie
+use Rattle.rdp_command.proofs.read.sign_extend.Statement.{statement}
+use Rattle.rdp_command.proofs.read.sign_extend.Tie as tie
 
 -- src/fields.rt:16:9
 cast-result : tie.Need-cast-result
@@ -52,8 +52,8 @@ returns-2 c =
     rw (low c, minus-one, le-ltb _ _ (c .if1 .left))
     (toZ-ofZ w16 (negsuc (2 * c .before .args .half - 1 - c .before .args .raw)) (record { sfits = omega arith }) ∙ ap negsuc (omega arith))
 
-pub signed-spec : {M : Type 1} → statement M
-signed-spec =
+pub sign-extend-spec : {M : Type 1} → statement M
+sign-extend-spec =
     tie.close
     (tie.spec
     cast-result

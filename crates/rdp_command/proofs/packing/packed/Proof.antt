@@ -13,8 +13,8 @@ use Rattle.rdp_command.specs.Table.{lineOf, linesAt, Readable}
 use Rattle.rdp_command.specs.Fields.{placed, packed}
 use Rattle.rdp_command.proofs.TableLaws.{lines-long, line-at, readable-line}
 use Rattle.rdp_command.proofs.PackLaws.{packedFrom, packed-step, packed-end}
-use Rattle.rdp_command.proofs.packing.packed_word.Statement.{statement}
-use Rattle.rdp_command.proofs.packing.packed_word.Tie as tie
+use Rattle.rdp_command.proofs.packing.packed.Statement.{statement}
+use Rattle.rdp_command.proofs.packing.packed.Tie as tie
 
 abbrev Inv-loop : tie.InvT-loop
 Inv-loop table first word numbers sum₀ k₀ sum k = let ls = linesAt table first (length numbers) in
@@ -35,7 +35,7 @@ module _ (c : tie.At-loop Inv-loop μ-loop) where
   first = c .before .before .args .first
 
   room : first + length numbers ≤ length table
-  room = rw (c .before .before .pre .0) (c .before .before .pre .1 .0)
+  room = rw (c .before .before .pre .0 .0) (c .before .before .pre .0 .1 .0)
 
   abbrev ls : List Line
   ls = linesAt table first (length numbers)
@@ -48,7 +48,7 @@ module _ (c : tie.At-loop Inv-loop μ-loop) where
     line = line-at table first (length numbers) room (c .loop .k) h
 
     readable : Readable (lineOf (getD table (first + c .loop .k) 0))
-    readable = readable-line table first (length numbers) room (c .before .before .pre .1 .1 .0) (c .loop .k) h
+    readable = readable-line table first (length numbers) room (c .before .before .pre .0 .1 .1) (c .loop .k) h
 
     abbrev word : ℕ
     word = c .before .before .args .word
@@ -84,7 +84,7 @@ placed-in-requires : tie.Need-placed-in-requires Inv-loop μ-loop
 placed-in-requires c κs = readable (c .before .before .before) (c .before .before .loop-test .taken)
 
 add-sum : tie.Need-add-sum Inv-loop μ-loop
-add-sum c = omega (arith, stepped (c .before .before .before .before) (c .before .before .before .loop-test .taken) (c .placed-in .ensures), c .before .before .before .before .loop .inv .1, c .before .before .before .before .before .before .pre .1 .1 .1)
+add-sum c = omega (arith, stepped (c .before .before .before .before) (c .before .before .before .loop-test .taken) (c .placed-in .ensures), c .before .before .before .before .loop .inv .1, c .before .before .before .before .before .before .pre .1)
 
 add-k : tie.Need-add-k Inv-loop μ-loop
 add-k c = search needs
@@ -105,8 +105,8 @@ returns c =
     let z = ap (packedFrom (ls at) (numbers at) (at .before .before .args .word)) e ∙ packed-end (ls at) (numbers at) (long at) (at .before .before .args .word) in
     omega (arith, z, at .loop .inv .1)
 
-pub packed-word-spec : {M : Type 1} → statement M
-packed-word-spec =
+pub packed-spec : {M : Type 1} → statement M
+packed-spec =
     tie.close
     (tie.spec
     Inv-loop
