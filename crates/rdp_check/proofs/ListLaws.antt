@@ -11,7 +11,7 @@ use Rattle.rdp_command.specs.Words.{wordAt, numberIn}
 use Rattle.rdp_command.specs.Kinds.{wordsOf}
 use Rattle.rdp_command.specs.Decode.{firstNumber, wholeWords, decodeOf}
 use Rattle.rdp_command.proofs.WordLaws.{word-front}
-use Rattle.rdp_command.proofs.Laws.{decode-later}
+use Rattle.rdp_command.proofs.WholeLaws.{decode-whole-later}
 use Rattle.rdp_check.specs.Commands.{commandsFrom, restFrom, commandsOf, restOf}
 use Rattle.rdp_command.proofs.PlaceLaws.{is-whole, word-drop, words-there, some-words, there-at, cut-at}
 
@@ -116,7 +116,7 @@ module _ (list : List ℕ) (at n : ℕ) (is : n ≡ numberIn (wordAt list at)) w
     -- decoding at the place gives the command
     pub decoded-at : decodeOf (drop (8 * at) list) ≡ decodeOf (commandAt list at n)
     decoded-at =
-        ap decodeOf (sym split-at) ∙ decode-later (commandAt list at n) command-there (drop (8 * (at + wordsOf n)) list)
+        ap decodeOf (sym split-at) ∙ decode-whole-later (commandAt list at n) command-there (drop (8 * (at + wordsOf n)) list)
 
     pub rest-at : restOf (drop (8 * at) list) ≡ restOf (drop (8 * (at + wordsOf n)) list)
     rest-at = rest-head (drop (8 * at) list) there ∙ rw onward

@@ -215,15 +215,15 @@ module _ (s : State) (c : List ℕ) (there : wholeWords c ≡ 0 → ⊥) where
 
   of-modes : n ≡ 0x2F → Result
   unfolding restAfter viewOf registersAfter
-  of-modes e = ap (λ (x : Command). viewWith (seen (registersAfter (s .registers) x))) (reads-other-modes c there e) ∙ rw e
+  of-modes e = ap (λ (x : Command). viewWith (seen (registersAfter (s .registers) x))) (reads-other-modes c (decodes c there) e) ∙ rw e
 
   of-image : n ≡ 0x3F → Result
   unfolding restAfter viewOf registersAfter
-  of-image e = ap (λ (x : Command). viewWith (seen (registersAfter (s .registers) x))) (reads-color-image c there e) ∙ rw e
+  of-image e = ap (λ (x : Command). viewWith (seen (registersAfter (s .registers) x))) (reads-color-image c (decodes c there) e) ∙ rw e
 
   of-scissor : n ≡ 0x2D → Result
   unfolding restAfter viewOf registersAfter
-  of-scissor e = ap (λ (x : Command). viewWith (seen (registersAfter (s .registers) x))) (reads-scissor c there e) ∙ rw e
+  of-scissor e = ap (λ (x : Command). viewWith (seen (registersAfter (s .registers) x))) (reads-scissor c (decodes c there) e) ∙ rw e
 
   of-others : (n ≡ 0x2F → ⊥) → (n ≡ 0x3F → ⊥) → (n ≡ 0x2D → ⊥) → Result
   unfolding restAfter viewOf

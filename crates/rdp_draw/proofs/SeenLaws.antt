@@ -126,19 +126,19 @@ module _ (file c : List ℕ) (there : wholeWords c ≡ 0 → ⊥) where
 
   of-triangle : n / 8 ≡ 1 → actOf r (decoded c there) ≡ actWith n fill
   unfolding actOf registersBy
-  of-triangle e = let g = reads-triangle c there e in others (λ z. omega arith) (FillTriangle (g .0)) (g .1) refl
+  of-triangle e = let g = reads-triangle c (decodes c there) e in others (λ z. omega arith) (FillTriangle (g .0)) (g .1) refl
 
   of-texture : n ≡ 0x24 → actOf r (decoded c there) ≡ actWith n fill
   unfolding actOf registersBy
-  of-texture e = let g = reads-texture-rectangle c there e in others (λ z. omega arith) (TextureRectangle (g .0)) (g .1) refl
+  of-texture e = let g = reads-texture-rectangle c (decodes c there) e in others (λ z. omega arith) (TextureRectangle (g .0)) (g .1) refl
 
   of-flip : n ≡ 0x25 → actOf r (decoded c there) ≡ actWith n fill
   unfolding actOf registersBy
-  of-flip e = let g = reads-texture-rectangle-flip c there e in others (λ z. omega arith) (TextureRectangleFlip (g .0)) (g .1) refl
+  of-flip e = let g = reads-texture-rectangle-flip c (decodes c there) e in others (λ z. omega arith) (TextureRectangleFlip (g .0)) (g .1) refl
 
   of-fill : n ≡ 0x36 → actOf r (decoded c there) ≡ actWith n fill
   unfolding actOf registersBy
-  of-fill e = ap (actOf r) (reads-rectangle c there e) ∙ rw e
+  of-fill e = ap (actOf r) (reads-rectangle c (decodes c there) e) ∙ rw e
 
   pub draws-act : draws n ≡ true → actOfDecoded r (decodeOf c) ≡ actWith n fill
   draws-act e =
