@@ -1,24 +1,25 @@
 -- The judgement of commands by structural recursion, what 7 to 9 add to it, and what inserted syncs do to it. Assumes nothing.
-use mathlib.Core.Path.{_≡_, refl, sym, subst}
-use mathlib.Core.Bool.{false}
+use mathlib.Core.Path.{_≡_, refl, sym, ap, _∙_, subst}
+use mathlib.Core.Bool.{false, _||_}
 use mathlib.Core.List.{List, [], _∷_}
 use Prim.Native.Nat.{ℕ, zero, suc, _+_}
 use native.Mathlib.Omega.{arith}
 use borrow.Author.Tests.{eqb-false}
+use lib.Dec.{eqb}
 use Rattle.rdp_command.proofs.Tests.{false-of}
-use Rattle.rdp_command.specs.Words.{halfOf, wordAt}
-use Rattle.rdp_command.specs.Kinds.{kindOf, wordsOf}
-use Rattle.rdp_command.specs.Layout.{layout}
-use Rattle.rdp_command.specs.Commands.{commandOf}
-use Rattle.rdp_command.specs.Decode.{firstNumber, wholeWords, decodeOf}
+use Rattle.rdp_command.specs.Words.{wordAt}
+use Rattle.rdp_command.specs.Kinds.{wordsOf}
+use Rattle.rdp_command.specs.Decode.{firstNumber, decodeOf}
 use Rattle.rdp_check.specs.Hazards.{nextOf, requiredOf}
-use Rattle.rdp_check.specs.Registers.{registersAfter}
-use Rattle.rdp_check.specs.Check.{State, afterCommand, draws, Refusals, ownRefusals, syncRefusals, checkRefusals, repairRefusals, refusalAt, Outcome, settle, judge}
+use Rattle.rdp_check.specs.Registers.{registersAfter, afterDecoded}
+use Rattle.rdp_check.specs.declared.Registers.{Registers}
+use Rattle.rdp_check.specs.Check.{State, afterCommand, Refusals, ownRefusals, syncRefusals, checkRefusals, repairRefusals, refusalAt, Outcome, settle, judge}
 use Rattle.rdp_check.specs.Order.{None}
 use Rattle.rdp_check.specs.Syncs.{Sync, loadSync, tileSync, pipeSync, syncNumber, syncWord}
 use Rattle.rdp_check.specs.Plan.{syncAt, withOption, applied}
 use Rattle.rdp_command.proofs.PlaceLaws.{number-small}
 use Rattle.rdp_check.proofs.HazardLaws.{required-most}
+use Rattle.rdp_check.proofs.SyncLaws.{syncCommand, sync-word, sync-number, sync-draws}
 use Rattle.rdp_check.proofs.OrderLaws.{none-parts, none-both, none-first, first-none}
 use Rattle.rdp_check.proofs.FirstLaws.{Numbered}
 use Rattle.rdp_check.proofs.LeastLaws.{Passes}
@@ -89,17 +90,24 @@ abbrev withHazards : ℕ → State → State
 withHazards m s = record { hazards = m; ended = s .ended; registers = s .registers }
 
 -- a sync changes nothing but the hazards
-after-sync : (y : Sync) (s : State) → afterCommand s (syncWord y) ≡ withHazards (nextOf (s .hazards) (syncNumber y)) s
-unfolding afterCommand decodeOf wholeWords wordAt halfOf wordsOf kindOf layout commandOf registersAfter
-after-sync loadSync s = refl
-after-sync tileSync s = refl
-after-sync pipeSync s = refl
+command-keeps : (y : Sync) (r : Registers) → registersAfter r (syncCommand y) ≡ r
+unfolding registersAfter
+command-keeps loadSync r = refl
+command-keeps tileSync r = refl
+command-keeps pipeSync r = refl
 
-sync-draws : (y : Sync) → draws (firstNumber (syncWord y)) ≡ false
-unfolding draws wordAt halfOf kindOf
-sync-draws loadSync = refl
-sync-draws tileSync = refl
-sync-draws pipeSync = refl
+not-full : (y : Sync) → eqb (syncNumber y) 0x29 ≡ false
+not-full loadSync = refl
+not-full tileSync = refl
+not-full pipeSync = refl
+
+after-sync : (y : Sync) (s : State) → afterCommand s (syncWord y) ≡ withHazards (nextOf (s .hazards) (syncNumber y)) s
+unfolding afterCommand
+after-sync y s =
+    let registers : afterDecoded (s .registers) (decodeOf (syncWord y)) ≡ s .registers =
+    ap (afterDecoded (s .registers)) (sync-word y .decoded) ∙ command-keeps y (s .registers) in
+    let ended : eqb (firstNumber (syncWord y)) 0x29 || s .ended ≡ s .ended = rw (sync-number y, not-full y) in
+    λ i. record { hazards = nextOf (s .hazards) (sync-number y i); ended = ended i; registers = registers i }
 
 -- 7 to 9 passed over, the hazards do not count
 any-hazards : (m : ℕ) (s : State) (cs : List (List ℕ)) → Accepted repairRefusals s cs → Accepted repairRefusals (withHazards m s) cs

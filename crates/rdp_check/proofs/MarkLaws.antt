@@ -95,7 +95,7 @@ abbrev ruled : (ℕ → Bool) → (ℕ → Bool) → ℕ → ℕ → ℕ → Boo
 ruled these those bit m n = same (hasBit bit (nextOf m n)) (these n || (not (those n) && hasBit bit m))
 
 pipe-step : (m n : ℕ) → m < 16 → n < 64 → hasBit 1 (nextOf m n) ≡ draws n || (not (pipeOrFull n) && hasBit 1 m)
-unfolding nextOf kindOf draws
+unfolding nextOf kindOf
 pipe-step m n hm hn = same-bool _ _ (at-state (ruled draws pipeOrFull 1) tt m n hm hn)
 
 tile-step : (m n : ℕ) → m < 16 → n < 64 → hasBit 2 (nextOf m n) ≡ textured n || (not (tilePipeOrFull n) && hasBit 2 m)
@@ -103,7 +103,7 @@ unfolding nextOf kindOf
 tile-step m n hm hn = same-bool _ _ (at-state (ruled textured tilePipeOrFull 2) tt m n hm hn)
 
 drawn-step : (m n : ℕ) → m < 16 → n < 64 → hasBit 4 (nextOf m n) ≡ draws n || (not (anySync n) && hasBit 4 m)
-unfolding nextOf kindOf draws
+unfolding nextOf kindOf
 drawn-step m n hm hn = same-bool _ _ (at-state (ruled draws anySync 4) tt m n hm hn)
 
 loaded-step : (m n : ℕ) → m < 16 → n < 64 → hasBit 8 (nextOf m n) ≡ loads n || (not (anySync n) && hasBit 8 m)

@@ -7,20 +7,18 @@ use native.Mathlib.Omega.{arith}
 use lib.Dec.{eqb, ltb}
 use lib.ListN.{length, length-append, length-map}
 use borrow.Author.Tests.{le-ltb, ltb-false, eq-eqb, eqb-true}
-use Rattle.rdp_command.specs.Words.{halfOf, wordAt}
-use Rattle.rdp_command.specs.Kinds.{kindOf, wordsOf}
 use Rattle.rdp_command.specs.Decode.{firstNumber}
 use Rattle.rdp_command.proofs.Tests.{by-test}
 use Rattle.rdp_check.specs.Commands.{commandsOf, restOf, joined}
 use Rattle.rdp_check.specs.Check.{start, Refusals, checkRefusals, repairRefusals, judgeList, outcomeWithin, outcomeOf}
 use Rattle.rdp_check.specs.Refusals.{ofCommands, Free}
 use Rattle.rdp_check.specs.Inserted.{Inserted, end, keep, insert, MadeByInserting}
-use Rattle.rdp_check.specs.Syncs.{Sync, loadSync, tileSync, pipeSync, syncWord}
+use Rattle.rdp_check.specs.Syncs.{Sync, syncWord}
 use Rattle.rdp_check.specs.Plan.{syncAt, withOption, applied, waitOf, cyclesOf}
 use Rattle.rdp_check.specs.Best.{best, plan, numbersOf, planned, repairedBytes, leastCycles}
 use Rattle.rdp_check.specs.Work.{insertsOf}
 use Rattle.rdp_check.specs.Repair.{Makes, LeastRepair}
-use Rattle.rdp_check.proofs.SyncLaws.{wait-some}
+use Rattle.rdp_check.proofs.SyncLaws.{sync-word, sync-number, wait-some}
 use Rattle.rdp_check.proofs.LeastLaws.{Passes, length-plan, cycles-plan, applied-inserted, planned-inserted, planned-passes, planned-least, plan-first, Single, least-single, first-unique}
 use Rattle.rdp_check.proofs.JoinLaws.{Alone, AllAlone, commands-joined, rest-joined, length-joined, count-joined, parsed, joined-whole}
 use Rattle.rdp_check.proofs.FirstLaws.{Numbered, check-numbered, judge-free, check-first}
@@ -48,10 +46,7 @@ sound refusals known s e =
 -- ---- inserting keeps commands whole
 
 sync-alone : (y : Sync) → Alone (syncWord y)
-unfolding wordAt halfOf wordsOf kindOf
-sync-alone loadSync = refl
-sync-alone tileSync = refl
-sync-alone pipeSync = refl
+sync-alone y = rw (sync-number y, sync-word y .words)
 
 pub alone-inserted : {cs ds : List (List ℕ)} {k : ℕ} → Inserted cs ds k → AllAlone cs → AllAlone ds
 alone-inserted end h = tt

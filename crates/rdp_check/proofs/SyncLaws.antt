@@ -1,15 +1,19 @@
 -- What the repair uses of the synchronisation rule: with no hazard nothing is required, a sync requires nothing and clears its hazards, and two syncs
 -- clear what the longer clears. Assumes nothing.
+use mathlib.Core.Bool.{false}
 use mathlib.Core.Path.{_≡_, refl, sym, ap, _∙_}
 use Prim.Native.Nat.{ℕ, zero, suc, max, _%_, _≤_}
 use native.Mathlib.Nat.{mod-lt}
 use native.Mathlib.Omega.{arith}
 use lib.Dec.{eqb, eqb→eq, lit<}
-use Rattle.rdp_command.specs.Kinds.{Kind, noOperation, triangle, textureRectangle, fillRectangle, syncLoad, syncTile, syncPipe, syncFull, load, setTile, attribute, free, kindOf}
-use Rattle.rdp_command.specs.Words.{halfOf, wordAt}
+use Rattle.rdp_command.specs.Kinds.{Kind, isDraw, noOperation, triangle, textureRectangle, fillRectangle, syncLoad, syncTile, syncPipe, syncFull, load, setTile, attribute, free, kindOf}
 use Rattle.rdp_command.specs.Decode.{firstNumber}
+use Rattle.rdp_command.specs.declared.Command.{Command}
+use Rattle.rdp_command.specs.declared.Command.the-variants.{SyncLoad, SyncTile, SyncPipe}
 use Rattle.rdp_command.proofs.Tests.{below}
-use Rattle.rdp_check.specs.Hazards.{hazardsOf, requiredBy, nextOf, requiredOf}
+use Rattle.rdp_command.proofs.SyncWordLaws.{SyncWord, sync-words}
+use Rattle.rdp_check.specs.Check.{draws}
+use Rattle.rdp_check.specs.Hazards.{Hazards, hazardsOf, codeOf, hazardsAfter, requiredBy, nextOf, requiredOf}
 use Rattle.rdp_check.specs.Syncs.{Sync, loadSync, tileSync, pipeSync, syncNumber, syncWait, syncWord}
 use Rattle.rdp_check.specs.Plan.{waitOf, syncAt}
 use Rattle.rdp_check.specs.Best.{clearedBy}
@@ -33,18 +37,48 @@ pub required-idle : (n : ℕ) → requiredOf 0 n ≡ 0
 unfolding requiredOf
 required-idle n = idle-requires-none (kindOf n)
 
--- a sync has its number and requires nothing
+-- the kind and the decoded command of a sync
+abbrev syncKind : Sync → Kind
+syncKind loadSync = syncLoad
+syncKind tileSync = syncTile
+syncKind pipeSync = syncPipe
+
+abbrev pub syncCommand : Sync → Command
+syncCommand loadSync = SyncLoad
+syncCommand tileSync = SyncTile
+syncCommand pipeSync = SyncPipe
+
+-- its word is whole, has one word and its number, and decodes to its command
+pub sync-word : (s : Sync) → SyncWord (syncNumber s) (syncKind s) (syncCommand s)
+sync-word loadSync = sync-words .0
+sync-word tileSync = sync-words .1 .0
+sync-word pipeSync = sync-words .1 .1
+
 pub sync-number : (s : Sync) → firstNumber (syncWord s) ≡ syncNumber s
-unfolding wordAt halfOf
-sync-number loadSync = refl
-sync-number tileSync = refl
-sync-number pipeSync = refl
+sync-number s = sync-word s .number
+
+-- a sync requires nothing, and is no draw
+kind-requires : (s : Sync) (h : Hazards) → requiredBy (syncKind s) h ≡ 0
+kind-requires loadSync h = refl
+kind-requires tileSync h = refl
+kind-requires pipeSync h = refl
 
 pub sync-requires : (s : Sync) (m : ℕ) → requiredOf m (syncNumber s) ≡ 0
-unfolding requiredOf kindOf
-sync-requires loadSync m = refl
-sync-requires tileSync m = refl
-sync-requires pipeSync m = refl
+unfolding requiredOf
+sync-requires s m = ap (λ (k : Kind). requiredBy k (hazardsOf m)) (sync-word s .kind) ∙ kind-requires s (hazardsOf m)
+
+kind-draws : (s : Sync) → isDraw (syncKind s) ≡ false
+kind-draws loadSync = refl
+kind-draws tileSync = refl
+kind-draws pipeSync = refl
+
+pub sync-draws : (s : Sync) → draws (firstNumber (syncWord s)) ≡ false
+sync-draws s = ap draws (sync-number s) ∙ ap isDraw (sync-word s .kind) ∙ kind-draws s
+
+-- the hazards after a sync, by its kind
+sync-next : (s : Sync) (m : ℕ) → nextOf m (syncNumber s) ≡ codeOf (hazardsAfter (syncKind s) (syncNumber s) (hazardsOf m))
+unfolding nextOf
+sync-next s m = ap (λ (k : Kind). codeOf (hazardsAfter k (syncNumber s) (hazardsOf m))) (sync-word s .kind)
 
 -- what holds of the sync of every option holds of every sync
 pub by-option : (P : Sync → Type 0) → ((a : ℕ) → P (syncAt a)) → (s : Sync) → P s
@@ -55,20 +89,22 @@ by-option P at pipeSync = at 2
 
 -- what a sync leaves of the hazards: a Load P and T, a Tile P, a Pipe none
 pub cleared-load : (m : ℕ) → clearedBy 1 m ≡ m % 4
-unfolding nextOf kindOf clearedBy syncAt
+unfolding clearedBy syncAt
 cleared-load m =
     let e : m % 16 % 4 ≡ m % 4 = omega arith in
-    sym (next-low m 0x26) ∙ eqb→eq _ _ (below 16 (λ k. eqb (nextOf k 0x26) (k % 4)) tt (m % 16) (mod-lt m (lit< tt))) ∙ e
+    let after : ℕ → ℕ = λ k. codeOf (hazardsAfter syncLoad 0x26 (hazardsOf k)) in
+    sym (next-low m 0x26) ∙ sync-next loadSync (m % 16) ∙ eqb→eq _ _ (below 16 (λ k. eqb (after k) (k % 4)) tt (m % 16) (mod-lt m (lit< tt))) ∙ e
 
 pub cleared-tile : (m : ℕ) → clearedBy 2 m ≡ m % 2
-unfolding nextOf kindOf clearedBy syncAt
+unfolding clearedBy syncAt
 cleared-tile m =
     let e : m % 16 % 2 ≡ m % 2 = omega arith in
-    sym (next-low m 0x28) ∙ eqb→eq _ _ (below 16 (λ k. eqb (nextOf k 0x28) (k % 2)) tt (m % 16) (mod-lt m (lit< tt))) ∙ e
+    let after : ℕ → ℕ = λ k. codeOf (hazardsAfter syncTile 0x28 (hazardsOf k)) in
+    sym (next-low m 0x28) ∙ sync-next tileSync (m % 16) ∙ eqb→eq _ _ (below 16 (λ k. eqb (after k) (k % 2)) tt (m % 16) (mod-lt m (lit< tt))) ∙ e
 
 pub cleared-pipe : (a m : ℕ) → clearedBy (suc (suc (suc a))) m ≡ 0
-unfolding nextOf kindOf clearedBy syncAt
-cleared-pipe a m = refl
+unfolding clearedBy syncAt
+cleared-pipe a m = sync-next pipeSync m
 
 pub pipe-serves : (a m n : ℕ) → requiredOf (clearedBy (suc (suc (suc a))) m) n ≡ 0
 pipe-serves a m n = ap (λ (k : ℕ). requiredOf k n) (cleared-pipe a m) ∙ required-idle n

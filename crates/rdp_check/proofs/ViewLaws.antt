@@ -2,12 +2,12 @@
 use mathlib.Core.Bool.{Bool, true, false, cond, not, _&&_, _||_, true≢false, and-true, and-false, or-false, Bool·not-not}
 use mathlib.Core.List.{List, [], _∷_}
 use mathlib.Core.Path.{_≡_, refl, sym, _∙_, ap}
-use Prim.Native.Nat.{ℕ, zero, suc, _/_, _%_, _^_, _≤_, _<_}
+use Prim.Native.Nat.{ℕ, zero, suc, _/_, _%_, _≤_, _<_}
 use native.Mathlib.Omega.{arith}
 use borrow.Author.Tests.{ne-eqb, eqb-true, eqb-false}
 use lib.Dec.{eqb}
 use Rattle.rdp_command.specs.Words.{wordAt}
-use Rattle.rdp_command.specs.Kinds.{kindOf, hasBit, wordsOf}
+use Rattle.rdp_command.specs.Kinds.{kindOf, isAmong, wordsOf}
 use Rattle.rdp_command.specs.Commands.{numberOf}
 use Rattle.rdp_command.specs.Decode.{firstNumber, wholeWords, decodeOf}
 use Rattle.rdp_command.specs.Reads.{headOf}
@@ -17,14 +17,14 @@ use Rattle.rdp_check.specs.Hazards.{nextOf, requiredOf, entryOf}
 use Rattle.rdp_check.specs.Registers.{registersAfter, afterDecoded}
 use Rattle.rdp_check.specs.Check.{State, afterCommand, draws, ready, fourBitFill, ownRefusals, syncRefusals, refusalAt}
 use Rattle.rdp_check.specs.Order.{ground, firstOf}
-use Rattle.rdp_check.specs.View.{code, drawRefusal, view, viewOf, restAfter, viewAfter, orElse, missing, refusalWith, refusalsBy, restRefusal, viewRefusal, sets, isWatched, Watches, AdvancedIs}
+use Rattle.rdp_check.specs.View.{code, codeRefusal, view, viewOf, restAfter, viewAfter, orElse, missing, refusalWith, refusalsBy, restRefusal, viewRefusal, setsRest, isWatched, Watches, AdvancedIs}
 use Rattle.rdp_check.specs.declared.Registers.{Registers}
 use Rattle.rdp_command.specs.declared.Head.{Head}
 use Rattle.rdp_check.specs.declared.walk.Rest.{Rest}
 use Rattle.rdp_check.specs.declared.walk.View.{View}
 use Rattle.rdp_check.proofs.KeptLaws.{keeps}
 use Rattle.rdp_check.proofs.HazardLaws.{EntryParts, entry-parts, required-most}
-use Rattle.rdp_command.proofs.KindLaws.{bits-by}
+use Rattle.rdp_command.proofs.KindLaws.{among-by, long-among}
 use Rattle.rdp_command.proofs.PlaceLaws.{number-small}
 use Rattle.rdp_command.proofs.ReadLaws.{decoded, decodes, decoded-number, reads-other-modes, reads-scissor, reads-color-image}
 
@@ -34,36 +34,27 @@ use Rattle.rdp_command.proofs.ReadLaws.{decoded, decodes, decoded-number, reads
 abbrev pub setterBits : ℕ
 setterBits = 0x8000_A200_0000_0000
 
-abbrev pub drawBits : ℕ
-drawBits = 0x0040_0030_0000_FF00
-
 abbrev pub setterAndDrawBits : ℕ
 setterAndDrawBits = 0x8040_A230_0000_FF00
 
 abbrev pub allBits : ℕ
 allBits = 0xFFFF_FFFF_FFFF_FFFF
 
-abbrev pub longBits : ℕ
-longBits = 0x0000_0030_0000_FF00
+pub setters-by : (n : ℕ) → n < 64 → isAmong setterBits n ≡ setsRest n
+unfolding setsRest
+setters-by = among-by _ setsRest tt
 
-pub setters-by : (n : ℕ) → n < 64 → hasBit (2 ^ n) setterBits ≡ sets n
-unfolding sets
-setters-by = bits-by _ sets tt
+setters-and-draws-by : (n : ℕ) → n < 64 → isAmong setterAndDrawBits n ≡ setsRest n || draws n
+unfolding setsRest kindOf
+setters-and-draws-by = among-by _ (λ n. setsRest n || draws n) tt
 
-pub draws-by : (n : ℕ) → n < 64 → hasBit (2 ^ n) drawBits ≡ draws n
-unfolding draws kindOf
-draws-by = bits-by _ draws tt
+all-by : (n : ℕ) → n < 64 → isAmong allBits n ≡ true
+all-by = among-by _ (λ n. true) tt
 
-setters-and-draws-by : (n : ℕ) → n < 64 → hasBit (2 ^ n) setterAndDrawBits ≡ sets n || draws n
-unfolding sets draws kindOf
-setters-and-draws-by = bits-by _ (λ n. sets n || draws n) tt
-
-all-by : (n : ℕ) → n < 64 → hasBit (2 ^ n) allBits ≡ true
-all-by = bits-by _ (λ n. true) tt
-
-pub one-word : (n : ℕ) → n < 64 → not (hasBit (2 ^ n) longBits) ≡ true → 1 ≡ wordsOf n
-unfolding wordsOf kindOf
-one-word n h e = sym (eqb-true _ _ (sym (Bool·not-not (eqb (wordsOf n) 1)) ∙ ap not (sym (bits-by longBits (λ k. not (eqb (wordsOf k) 1)) tt n h)) ∙ e))
+pub one-word : (n : ℕ) → n < 64 → (b : Bool) → b ≡ isAmong 0x0000_0030_0000_FF00 n → not b ≡ true → 1 ≡ wordsOf n
+one-word n h b is-b e =
+    let none : eqb (wordsOf n) 1 ≡ true = sym (Bool·not-not (eqb (wordsOf n) 1)) ∙ ap not (sym (is-b ∙ long-among n h)) ∙ e in
+    sym (eqb-true _ _ none)
 
 -- which of the four a setter is
 pub record SetsNone (n : ℕ) : Type 0 where
@@ -72,8 +63,8 @@ pub record SetsNone (n : ℕ) : Type 0 where
   pub modes : eqb n 0x2F ≡ false
   pub image : eqb n 0x3F ≡ false
 
-pub sets-none : (n : ℕ) → sets n ≡ false → SetsNone n
-unfolding sets
+pub sets-none : (n : ℕ) → setsRest n ≡ false → SetsNone n
+unfolding setsRest
 sets-none n e =
     let a = neither (eqb n 0x29) _ e in
     let b = neither (eqb n 0x2D) _ (a .1) in
@@ -87,7 +78,7 @@ pub watches-all : (r : Rest) → r .ended ≡ true → Watches allBits r
 watches-all r e n h = rw e (all-by n h)
 
 pub watches-setters : (r : Rest) → r .ended ≡ false → restRefusal r ≡ 0 → Watches setterBits r
-watches-setters r e z n h = rw (e, z, and-false (draws n), or-false (sets n)) (setters-by n h)
+watches-setters r e z n h = rw (e, z, and-false (draws n), or-false (setsRest n)) (setters-by n h)
 
 pub watches-draws : (r : Rest) → r .ended ≡ false → (restRefusal r ≡ 0 → ⊥) → Watches setterAndDrawBits r
 watches-draws r e ne n h = rw (e, ne-eqb _ _ ne, and-true (draws n)) (setters-and-draws-by n h)
@@ -95,13 +86,13 @@ watches-draws r e ne n h = rw (e, ne-eqb _ _ ne, and-true (draws n)) (setters-an
 -- a command that is not watched is refused by a missing sync alone, and changes the hazards alone
 pub record Unwatched (r : Rest) (n : ℕ) : Type 0 where
   pub before-end : r .ended ≡ false
-  pub keeps : sets n ≡ false
+  pub keeps : setsRest n ≡ false
   pub drawable : cond (draws n) (restRefusal r) 0 ≡ 0
 
 pub unwatched : (r : Rest) (n : ℕ) → isWatched r n ≡ false → Unwatched r n
 unwatched r n e =
     let a = neither (r .ended) _ e in
-    let b = neither (sets n) _ (a .1) in
+    let b = neither (setsRest n) _ (a .1) in
     record { before-end = a .0; keeps = b .0; drawable = none (draws n) (restRefusal r) (eqb (restRefusal r) 0) refl (b .1) }
   where
     none : (d : Bool) (f : ℕ) (t : Bool) → eqb f 0 ≡ t → d && not t ≡ false → cond d f 0 ≡ 0
@@ -116,7 +107,7 @@ or-else zero g h = absurd (h refl)
 or-else (suc f) g h = refl
 
 -- a command that sets nothing changes the hazards alone
-pub rest-kept : (r : Rest) (h : Head) → sets (h .number) ≡ false → r ≡ restAfter r h
+pub rest-kept : (r : Rest) (h : Head) → setsRest (h .number) ≡ false → r ≡ restAfter r h
 unfolding restAfter
 rest-kept r h s = let k = sets-none (h .number) s in rw (k .full, k .modes, k .image, k .scissor)
 
@@ -157,7 +148,7 @@ ownFirst ended draw ready fill g = cond ended 4 (cond (draw && not ready) 5 (con
 -- modes, image and scissor set (m, i, s), FILL mode (f) and an image of 4 bits (b)
 refused :
     (ended draw m f i b s : Bool) (g : ℕ) →
-    cond ended 4 (orElse (cond draw (drawRefusal (code m f) (code i b) s) 0) g) ≡ ownFirst ended draw ((m && i) && s) (f && b) g
+    cond ended 4 (orElse (cond draw (codeRefusal (code m f) (code i b) s) 0) g) ≡ ownFirst ended draw ((m && i) && s) (f && b) g
 refused true draw m f i b s g = refl
 refused false false m f i b s g = refl
 refused false true false f i b s g = refl

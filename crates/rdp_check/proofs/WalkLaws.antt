@@ -2,7 +2,7 @@
 use mathlib.Core.Path.{_≡_, refl, sym, _∙_, ap}
 use mathlib.Core.Bool.{Bool, true, false, cond, not, _&&_, false≢true}
 use mathlib.Core.List.{List, [], _∷_}
-use Prim.Native.Nat.{ℕ, zero, suc, _+_, _*_, _-_, _/_, _^_, _≤_, _<_}
+use Prim.Native.Nat.{ℕ, zero, suc, _+_, _*_, _-_, _/_, _≤_, _<_}
 use native.Mathlib.Nat.{mod-eq-of-lt}
 use native.Mathlib.Omega.{arith}
 use borrow.Author.Tests.{ltb-true}
@@ -10,7 +10,7 @@ use lib.Dec.{ltb}
 use lib.ListN.{length, getD, drop, drop-of-length-le}
 use lib.Seq.{drop-cons}
 use Rattle.rdp_command.specs.Words.{wordAt, numberIn}
-use Rattle.rdp_command.specs.Kinds.{hasBit, wordsOf}
+use Rattle.rdp_command.specs.Kinds.{isAmong, wordsOf}
 use Rattle.rdp_command.specs.Reads.{headOf}
 use Rattle.rdp_check.specs.Hazards.{nextOf, requiredOf, entryOf}
 use Rattle.rdp_check.specs.Commands.{commandsFrom, restFrom}
@@ -21,7 +21,7 @@ use Rattle.rdp_check.specs.declared.walk.Stop.{Stop}
 use Rattle.rdp_check.proofs.HazardLaws.{next-small, EntryParts, entry-parts}
 use Rattle.rdp_command.proofs.PlaceLaws.{number-small, some-words}
 use Rattle.rdp_check.proofs.ListLaws.{commands-at, rest-at, command-word, commands-past, rest-past}
-use Rattle.rdp_check.proofs.ViewLaws.{longBits, one-word, Unwatched, unwatched, rest-kept}
+use Rattle.rdp_check.proofs.ViewLaws.{one-word, Unwatched, unwatched, rest-kept}
 
 judged-none : (strict : Bool) (v : View) (at : ℕ) → judgedView strict v at [] ≡ stopAt 0 at v
 unfolding judgeView commandsFrom restFrom
@@ -128,7 +128,7 @@ small h w is-h = rw (number-is h w is-h) (number-small w)
 module _ {strict : Bool} {list : List ℕ} {words : ℕ} {goal : Stop} {v : View} {at : ℕ} where
   pub turn :
       (w : Walked strict list words goal v at) (numbers : ℕ) → Watches numbers (v .rest) → at < words → (h : Head) → h ≡ headOf (wordAt list at) → (e : ℕ) →
-      e ≡ entryOf (v .hazards) (h .number) → (b : Bool) → b ≡ hasBit (2 ^ h .number) numbers → ltb e 16 && not b ≡ true → Quick w h e
+      e ≡ entryOf (v .hazards) (h .number) → (b : Bool) → b ≡ isAmong numbers (h .number) → ltb e 16 && not b ≡ true → Quick w h e
   turn w numbers watches more h is-h e is-e b is-b t =
       let k = and-not (ltb e 16) b t in
       record {
@@ -159,5 +159,5 @@ module _ {strict : Bool} {list : List ℕ} {words : ℕ} {goal : Stop} {v : View
           again w (q .more) (h .number) (number-is h _ (q .is-h)) count long fits 0 unrefused refl _
           ((λ i. record { hazards = is-next i; rest = rest-kept (v .rest) h (q .still .keeps) i }) ∙ ap (viewAfter v) (q .is-h))
 
-      pub quick-one : (l : Bool) → l ≡ hasBit (2 ^ h .number) longBits → not l ≡ true → Walked strict list words goal (record { hazards = next; rest = v .rest }) (at + 1)
-      quick-one l is-l f = quick 1 (one-word (h .number) (small h _ (q .is-h)) (ap not (sym is-l) ∙ f)) (omega (arith, q .more))
+      pub quick-one : (l : Bool) → l ≡ isAmong 0x0000_0030_0000_FF00 (h .number) → not l ≡ true → Walked strict list words goal (record { hazards = next; rest = v .rest }) (at + 1)
+      quick-one l is-l f = quick 1 (one-word (h .number) (small h _ (q .is-h)) l is-l f) (omega (arith, q .more))

@@ -34,7 +34,7 @@ afterCommand s c =
     }
 
 -- a number is a draw's
-unfoldable pub draws : ℕ → Bool
+abbrev pub draws : ℕ → Bool
 draws n = isDraw (kindOf n)
 
 -- modes, colour image and scissor are set in this list

@@ -1,6 +1,7 @@
 -- Document 01, "Four marks" and "Repair": the syncs that a repair inserts. Their command numbers and their waits stand here alone.
 use Prim.Native.Nat.{ℕ}
-use mathlib.Core.List.{List, [], _∷_}
+use mathlib.Core.List.{List}
+use Rattle.rdp_command.specs.Words.{bareWord}
 
 pub data Sync : Type 0 where
   loadSync : Sync
@@ -20,4 +21,4 @@ syncWait pipeSync = 50
 
 -- the bytes of its word: its number in bits 61:56, all other bits 0
 abbrev pub syncWord : Sync → List ℕ
-syncWord s = syncNumber s ∷ 0 ∷ 0 ∷ 0 ∷ 0 ∷ 0 ∷ 0 ∷ 0 ∷ []
+syncWord s = bareWord (syncNumber s)

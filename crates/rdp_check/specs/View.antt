@@ -1,11 +1,11 @@
 -- What the check's loop carries and reads, as a view of the state and of a command. No public contract cites this.
-use Prim.Native.Nat.{ℕ, zero, suc, _+_, _^_, _<_}
+use Prim.Native.Nat.{ℕ, zero, suc, _+_, _<_}
 use mathlib.Core.Bool.{Bool, true, false, cond, not, _&&_, _||_}
 use mathlib.Core.List.{List, [], _∷_}
 use mathlib.Core.Path.{_≡_}
 use lib.Dec.{eqb}
 use Rattle.rdp_command.specs.Words.{wordAt}
-use Rattle.rdp_command.specs.Kinds.{among, hasBit, wordsOf}
+use Rattle.rdp_command.specs.Kinds.{among, isAmong, wordsOf}
 use Rattle.rdp_command.specs.declared.Head.{Head}
 use Rattle.rdp_command.specs.Reads.{headOf}
 use Rattle.rdp_check.specs.Hazards.{nextOf, requiredOf}
@@ -23,8 +23,8 @@ code true false = 1
 code true true = 2
 
 -- the refusal of a draw, or 0, by the codes of modes (2 is FILL) and colour image (2 is 4 bits), and whether the scissor is set
-abbrev pub drawRefusal : ℕ → ℕ → Bool → ℕ
-drawRefusal modes image scissor =
+abbrev pub codeRefusal : ℕ → ℕ → Bool → ℕ
+codeRefusal modes image scissor =
     cond (not ((not (eqb modes 0) && not (eqb image 0)) && scissor)) 5 (cond (eqb modes 2 && eqb image 2) 6 0)
 
 -- what is carried: the hazards, whether a Sync Full has come, and these three
@@ -76,22 +76,22 @@ refusalsBy false = repairRefusals
 
 -- the refusal of a draw by what is carried
 abbrev pub restRefusal : Rest → ℕ
-restRefusal r = drawRefusal (r .modes) (r .image) (r .scissor)
+restRefusal r = codeRefusal (r .modes) (r .image) (r .scissor)
 
 abbrev pub viewRefusal : Bool → View → ℕ → ℕ
 viewRefusal strict v n = refusalWith (v .rest .ended) (cond (draws n) (restRefusal (v .rest)) 0) (cond strict (requiredOf (v .hazards) n) 0)
 
 -- a Sync Full, or a command that sets a register of which something is carried
-unfoldable pub sets : ℕ → Bool
-sets n = among n (0x29 ∷ 0x2D ∷ 0x2F ∷ 0x3F ∷ [])
+unfoldable pub setsRest : ℕ → Bool
+setsRest n = among n (0x29 ∷ 0x2D ∷ 0x2F ∷ 0x3F ∷ [])
 
 -- a command that the walk has to look into: it changes more than the hazards, or something but a missing sync refuses it
 abbrev pub isWatched : Rest → ℕ → Bool
-isWatched r n = r .ended || (sets n || (draws n && not (eqb (restRefusal r) 0)))
+isWatched r n = r .ended || (setsRest n || (draws n && not (eqb (restRefusal r) 0)))
 
 -- the bits of a number are the command numbers that are watched
 abbrev pub Watches : ℕ → Rest → Type 0
-Watches numbers r = (n : ℕ) → n < 64 → hasBit (2 ^ n) numbers ≡ isWatched r n
+Watches numbers r = (n : ℕ) → n < 64 → isAmong numbers n ≡ isWatched r n
 
 -- what one step of the walk gives
 pub record AdvancedIs (strict : Bool) (v : View) (h : Head) (r : Advanced) : Type 0 where

@@ -1,10 +1,10 @@
 // The walk over a list's commands that finds the first refusal.
 ghost use mathlib.Core.Bool.{cond, true};
 ghost use mathlib.Core.Path.{_≡_};
-ghost use Prim.Native.Nat.{_*_, _^_, _<_, _≤_};
+ghost use Prim.Native.Nat.{_*_, _<_, _≤_};
 ghost use lib.ListN.{length};
 ghost use Rattle.rdp_command.specs.Words.{wordAt, numberIn};
-ghost use Rattle.rdp_command.specs.Kinds.{hasBit, wordsOf};
+ghost use Rattle.rdp_command.specs.Kinds.{wordsOf};
 ghost use Rattle.rdp_check.specs.Hazards.{Agrees, entryOf};
 ghost use Rattle.rdp_check.specs.Check.{start, draws, outcomeWithin, checked};
 ghost use Rattle.rdp_check.specs.View.{refusalsBy, code, viewOf, restAfter, restRefusal, refusalWith, Watches, AdvancedIs, stopAt, judgedView};
@@ -14,16 +14,12 @@ use crate::table;
 use rdp_command::Head;
 
 // Command numbers, a bit for each: the commands that set what the walk carries beside the hazards (Sync Full, Set Scissor, Set Other Modes, Set Color
-// Image), the draws, both of these, all commands, and those of more than one word.
+// Image), these and the draws, and all commands.
 const SETTERS: u64 = 0x8000_A200_0000_0000;
 
-const DRAWS: u64 = 0x0040_0030_0000_FF00;
-
-const SETTERS_AND_DRAWS: u64 = 0x8040_A230_0000_FF00;
+const SETTERS_AND_DRAWS: u64 = SETTERS | rdp_command::DRAWS;
 
 const ALL: u64 = 0xFFFF_FFFF_FFFF_FFFF;
-
-const LONG: u64 = 0x0000_0030_0000_FF00;
 
 // What few commands change of what the walk carries: whether a Sync Full has come; modes (0 not set, 1 set, 2 set to FILL); colour image (0 not set, 1
 // set, 2 set to 4 bits); and whether the scissor is set.
@@ -62,20 +58,12 @@ pub fn words_at(list: &[u8], place: usize) -> usize
     rdp_command::words_of(head.number)
 }
 
-// Whether a command number is among those whose bits are set.
-fn has_bit(numbers: u64, number: u8) -> bool
-    requires { ⌜ number < 64 ⌝ }
-    ensures { λ r. ⌜ r ≡ hasBit (2 ^ number) numbers ⌝ }
-{
-    (numbers >> number) % 2 == 1
-}
-
 // The words of a command. Nearly all have one word; by the branch the place after such a command need not wait for its number.
 pub fn count_of(number: u8) -> usize
     requires { ⌜ number < 64 ⌝ }
     ensures { λ r. ⌜ r ≡ wordsOf number ⌝ }
 {
-    if !has_bit(LONG, number) {
+    if !rdp_command::is_among(rdp_command::LONG, number) {
         return 1;
     }
     rdp_command::words_of(number)
@@ -188,7 +176,7 @@ fn own_refusal(rest: Rest, number: u8) -> u8
     requires { ⌜ number < 64 ⌝ }
     ensures { λ r. ⌜ r ≡ cond (draws number) (restRefusal rest) 0 ⌝ }
 {
-    if has_bit(DRAWS, number) {
+    if rdp_command::is_among(rdp_command::DRAWS, number) {
         return draw_refusal(rest);
     }
     0
@@ -242,8 +230,8 @@ pub fn walk(table: &[u8; 1024], list: &[u8], words: usize, view: View, strict: b
         let head = rdp_command::head_at(list, at);
         let number = head.number;
         let e = hazards::entry(table, hazards, number);
-        if (e < 16) & !has_bit(watched, number) {
-            if !has_bit(LONG, number) {
+        if (e < 16) & !rdp_command::is_among(watched, number) {
+            if !rdp_command::is_among(rdp_command::LONG, number) {
                 at += 1;
                 if e == hazards {
                     continue;

@@ -8,7 +8,7 @@ use native.Mathlib.Omega.{arith}
 use lib.ListN.{length, getD, replicate}
 use borrow.Author.Tests.{leb-true, eqb-true}
 use lib.Dec.{T, eqb, leb, eqb→eq, leb→le}
-use Rattle.rdp_command.specs.Kinds.{Kind, noOperation, triangle, textureRectangle, fillRectangle, syncLoad, syncTile, syncPipe, syncFull, load, setTile, attribute, free, between, kindOf, isNoOperation, hasBit, isAmong, wordsOfKind, wordsOf}
+use Rattle.rdp_command.specs.Kinds.{Kind, noOperation, triangle, textureRectangle, fillRectangle, syncLoad, syncTile, syncPipe, syncFull, load, setTile, attribute, free, between, among, kindOf, isNoOperation, isDraw, hasBit, isAmong, wordsOfKind, wordsOf}
 use Rattle.rdp_command.specs.Layout.{layout}
 use Rattle.rdp_command.proofs.Tests.{each, below, both, and-true, or-cases, same, same-bool}
 
@@ -18,6 +18,20 @@ bits-by numbers f t n h = same-bool _ _ (below 64 (λ k. same (hasBit (2 ^ k) nu
 
 pub among-by : (numbers : ℕ) (f : ℕ → Bool) → T (each (λ k. same (hasBit (2 ^ k) numbers) (f k)) 64) → (n : ℕ) → n < 64 → isAmong numbers n ≡ f n
 among-by numbers f t n h = ap (λ (k : ℕ). hasBit (2 ^ k) numbers) (mod-eq-of-lt h) ∙ bits-by numbers f t n h
+
+-- the constants of the code: the draws, and the commands of more than one word
+pub draws-among : (n : ℕ) → n < 64 → isAmong 0x0040_0030_0000_FF00 n ≡ isDraw (kindOf n)
+unfolding kindOf
+draws-among = among-by _ (λ n. isDraw (kindOf n)) tt
+
+pub long-among : (n : ℕ) → n < 64 → isAmong 0x0000_0030_0000_FF00 n ≡ not (eqb (wordsOf n) 1)
+unfolding wordsOf kindOf
+long-among = among-by _ (λ n. not (eqb (wordsOf n) 1)) tt
+
+-- the numbers of the draws: triangles, texture rectangles and the fill rectangle
+pub draw-numbers : (n : ℕ) → n < 64 → isDraw (kindOf n) ≡ eqb (n / 8) 1 || among n (0x24 ∷ 0x25 ∷ 0x36 ∷ [])
+unfolding kindOf
+draw-numbers n h = same-bool _ _ (below 64 (λ k. same (isDraw (kindOf k)) (eqb (k / 8) 1 || among k (0x24 ∷ 0x25 ∷ 0x36 ∷ []))) tt n h)
 
 -- ---- the table by number
 

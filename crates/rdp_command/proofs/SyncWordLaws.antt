@@ -1,9 +1,8 @@
 -- A word with a command number in bits 61:56 and all other bits 0, and the syncs that are such words. Assumes nothing.
 use Prim.Native.Nat.{ℕ, _<_}
-use mathlib.Core.List.{List, [], _∷_}
 use mathlib.Core.Path.{_≡_, refl, ap, _∙_}
 use native.Mathlib.Omega.{arith}
-use Rattle.rdp_command.specs.Words.{halfOf, wordAt}
+use Rattle.rdp_command.specs.Words.{halfOf, wordAt, bareWord}
 use Rattle.rdp_command.specs.Kinds.{Kind, syncLoad, syncTile, syncPipe, kindOf, wordsOf}
 use Rattle.rdp_command.specs.Layout.{layout}
 use Rattle.rdp_command.specs.Commands.{commandOf}
@@ -12,10 +11,6 @@ use Rattle.rdp_command.specs.declared.Command.{Command}
 use Rattle.rdp_command.specs.declared.Command.the-variants.{SyncLoad, SyncTile, SyncPipe}
 use Rattle.rdp_command.specs.declared.Decoded.the-variants.{Whole}
 use Rattle.rdp_command.proofs.PlaceLaws.{words-there}
-
--- the bytes of the word
-abbrev pub bareWord : ℕ → List ℕ
-bareWord n = n ∷ 0 ∷ 0 ∷ 0 ∷ 0 ∷ 0 ∷ 0 ∷ 0 ∷ []
 
 -- its number is first
 pub bare-number : (n : ℕ) → n < 64 → firstNumber (bareWord n) ≡ n
@@ -29,14 +24,14 @@ bare-whole n h e =
     words-there (bareWord n) (omega (arith, w)) ∙ w
 
 -- a sync by its number, kind and command: its word is whole, of one word, with the number first, and decodes to the command
-pub record Sync (n : ℕ) (k : Kind) (c : Command) : Type 0 where
+pub record SyncWord (n : ℕ) (k : Kind) (c : Command) : Type 0 where
   pub number : firstNumber (bareWord n) ≡ n
   pub kind : kindOf n ≡ k
   pub words : wordsOf n ≡ 1
   pub whole : wholeWords (bareWord n) ≡ 1
   pub decoded : decodeOf (bareWord n) ≡ Whole c
 
-pub sync-words : Sync 0x26 syncLoad SyncLoad × (Sync 0x28 syncTile SyncTile × Sync 0x27 syncPipe SyncPipe)
+pub sync-words : SyncWord 0x26 syncLoad SyncLoad × (SyncWord 0x28 syncTile SyncTile × SyncWord 0x27 syncPipe SyncPipe)
 unfolding halfOf wordAt kindOf wordsOf layout commandOf wholeWords decodeOf
 sync-words = (
   record { number = refl; kind = refl; words = refl; whole = refl; decoded = refl },

@@ -26,6 +26,10 @@ bytesOf w =
 abbrev pub numberIn : ℕ → ℕ
 numberIn w = w / 2 ^ 56 % 64
 
+-- the bytes of a word with a number in bits 61:56 and all other bits 0
+abbrev pub bareWord : ℕ → List ℕ
+bareWord n = n ∷ 0 ∷ 0 ∷ 0 ∷ 0 ∷ 0 ∷ 0 ∷ 0 ∷ []
+
 -- a list with elements written at its front
 unfoldable pub overwrite : List ℕ → List ℕ → List ℕ
 overwrite new old = new ++ drop (length new) old

@@ -458,6 +458,11 @@ pub fn tile_fields(descriptor: u64, size: u64) -> TileFields
     }
 }
 
+// Command numbers, a bit for each: the draws, and the commands of more than one word.
+pub const DRAWS: u64 = 0x0040_0030_0000_FF00;
+
+pub const LONG: u64 = 0x0000_0030_0000_FF00;
+
 // Whether a command number is among those whose bits are set; its low six bits count.
 pub fn is_among(numbers: u64, number: u8) -> bool
     ensures { λ r. ⌜ r ≡ isAmong numbers number ⌝ }

@@ -29,11 +29,11 @@ head-at-requires c κs = search needs
 entry-requires : tie.Need-entry-requires Inv-loop μ-loop
 entry-requires c κs = let t = c in (t .before .before .before .before .before .before .pre .0, (t .before .before .loop .inv .0 .low, rw (t .head-at .ensures) (number-small _)))
 
-has-bit-requires : tie.Need-has-bit-requires Inv-loop μ-loop
-has-bit-requires c κs = rw (c .before .head-at .ensures) (number-small _)
+is-among-requires : tie.Need-is-among-requires Inv-loop μ-loop
+is-among-requires c κs = search needs
 
-has-bit-requires-2 : tie.Need-has-bit-requires-2 Inv-loop μ-loop
-has-bit-requires-2 c κs = rw (c .before .before .before .head-at .ensures) (number-small _)
+is-among-requires-2 : tie.Need-is-among-requires-2 Inv-loop μ-loop
+is-among-requires-2 c κs = search needs
 
 add-at : tie.Need-add-at Inv-loop μ-loop
 add-at c = let w = c .before .before .before .before .before .before .before .loop .inv .0 in omega (arith, c .before .before .before .before .before .before .loop-test .taken, w .few)
@@ -45,8 +45,8 @@ loop-again : tie.Need-loop-again Inv-loop μ-loop
 loop-again c =
     let t = c .before .before .before in
     let l = t .before .before .before .before .before .loop in
-    let q = turn (l .inv .0) _ (l .inv .1) (t .before .before .before .before .loop-test .taken) _ (t .before .before .before .head-at .ensures) _ (t .before .before .entry .ensures) _ (t .before .has-bit .ensures) (t .if1 .taken) in
-    (quick-one q (stays q (c .if3 .taken)) _ (c .before .before .has-bit2 .ensures) (c .before .if2 .taken), l .inv .1)
+    let q = turn (l .inv .0) _ (l .inv .1) (t .before .before .before .before .loop-test .taken) _ (t .before .before .before .head-at .ensures) _ (t .before .before .entry .ensures) _ (t .before .is-among .ensures) (t .if1 .taken) in
+    (quick-one q (stays q (c .if3 .taken)) _ (c .before .before .is-among2 .ensures) (c .before .if2 .taken), l .inv .1)
 
 next-requires : tie.Need-next-requires Inv-loop μ-loop
 next-requires c κs = let t = c .before .before .before .before .before .before in (t .before .before .before .before .before .before .pre .0, (t .before .before .loop .inv .0 .low, rw (t .head-at .ensures) (number-small _)))
@@ -58,8 +58,8 @@ loop-again-2 : tie.Need-loop-again-2 Inv-loop μ-loop
 loop-again-2 c =
     let t = c .before .before .before .before in
     let l = t .before .before .before .before .before .loop in
-    let q = turn (l .inv .0) _ (l .inv .1) (t .before .before .before .before .loop-test .taken) _ (t .before .before .before .head-at .ensures) _ (t .before .before .entry .ensures) _ (t .before .has-bit .ensures) (t .if1 .taken) in
-    (quick-one q (c .next .ensures) _ (c .before .before .before .has-bit2 .ensures) (c .before .before .if2 .taken), l .inv .1)
+    let q = turn (l .inv .0) _ (l .inv .1) (t .before .before .before .before .loop-test .taken) _ (t .before .before .before .head-at .ensures) _ (t .before .before .entry .ensures) _ (t .before .is-among .ensures) (t .if1 .taken) in
+    (quick-one q (c .next .ensures) _ (c .before .before .before .is-among2 .ensures) (c .before .before .if2 .taken), l .inv .1)
 
 words-of-requires : tie.Need-words-of-requires Inv-loop μ-loop
 words-of-requires c κs = search needs
@@ -91,7 +91,7 @@ loop-again-3 : tie.Need-loop-again-3 Inv-loop μ-loop
 loop-again-3 c =
     let t = c .before .before .before .before .before in
     let l = t .before .before .before .before .before .loop in
-    let q = turn (l .inv .0) _ (l .inv .1) (t .before .before .before .before .loop-test .taken) _ (t .before .before .before .head-at .ensures) _ (t .before .before .entry .ensures) _ (t .before .has-bit .ensures) (t .if1 .taken) in
+    let q = turn (l .inv .0) _ (l .inv .1) (t .before .before .before .before .loop-test .taken) _ (t .before .before .before .head-at .ensures) _ (t .before .before .entry .ensures) _ (t .before .is-among .ensures) (t .if1 .taken) in
     (quick q (c .next2 .ensures) _ (c .before .before .words-of .ensures) (c .before .if4 .left), l .inv .1)
 
 advance-requires : tie.Need-advance-requires Inv-loop μ-loop
@@ -155,8 +155,8 @@ walk-spec =
     loop-holds
     head-at-requires
     entry-requires
-    has-bit-requires
-    has-bit-requires-2
+    is-among-requires
+    is-among-requires-2
     add-at
     loop-less
     loop-again
