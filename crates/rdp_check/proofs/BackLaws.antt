@@ -4,8 +4,9 @@ use mathlib.Core.List.{List, [], _∷_, _++_, append-assoc}
 use Prim.Native.Nat.{ℕ, suc, _+_, _*_, _<_, _≤_}
 use native.Mathlib.Omega.{arith}
 use lib.ListN.{length, getD, take, drop, length-append, length-take, length-drop, List·getD-append, take-append-drop}
-use lib.Seq.{drop-cons, take-append-le, take-take, drop-at, drop-drop, drop-length, getD-take}
+use lib.Seq.{drop-cons, take-append-le, take-take, drop-at, drop-length, getD-take}
 use Rattle.rdp_command.specs.Words.{overwrite, pasted}
+use Rattle.rdp_command.proofs.Bytes.{overwrite-is, pasted-is}
 use Rattle.rdp_check.specs.Hazards.{nextOf}
 use Rattle.rdp_check.specs.Plan.{syncAt, waitOf}
 use Rattle.rdp_check.specs.Best.{Choice, clearedBy, totalWith, choiceOf, prefer, chosen, best}
@@ -95,7 +96,7 @@ module _ (work : List ℕ) (count : ℕ) (room : 16 * count ≤ length work) whe
 
   pub back-step : (i : ℕ) → i < count
       → pasted (16 * i) (choicesOf (getD (notedIn work count) i 0) (best (drop (suc i) (notedIn work count)))) (backTo work count (suc i)) ≡ backTo work count i
-  unfolding pasted overwrite workOf
+  unfolding workOf
   back-step i h =
       let ns : List ℕ = notedIn work count in
       let s : List ℕ = choicesOf (getD ns i 0) (best (drop (suc i) ns)) in
@@ -107,15 +108,15 @@ module _ (work : List ℕ) (count : ℕ) (room : 16 * count ≤ length work) whe
       let front : take (16 * i) (head ++ rest) ≡ take (16 * i) work =
       take-append-le (16 * i) head rest (omega arith) ∙ take-take (16 * i) (16 * suc i) work (omega arith)
       in
-      ap₂ (λ (x y : List ℕ). x ++ (s ++ y)) front (drop-drop (length s) (16 * i) (head ++ rest) ∙ drop-at head rest (16 * i + length s) l) ∙
+      pasted-is (16 * i) s (head ++ rest) _ refl ∙
+      ap₂ (λ (x y : List ℕ). x ++ (s ++ y)) front (drop-at head rest (16 * i + length s) l) ∙
       ap (λ (x : List ℕ). take (16 * i) work ++ x) (sym (append-assoc s (workOf (drop (suc i) ns)) tail)) ∙
       ap (λ (x : List ℕ). take (16 * i) work ++ (workOf x ++ tail)) (sym (drop-cons ns i 0 (omega (arith, length-noted work count))))
 
   pub back-end : backTo work count 0 ≡ overwrite (workOf (notedIn work count)) work
-  unfolding overwrite
   back-end =
-      let e : 16 * count ≡ length (workOf (notedIn work count)) = omega (arith, length-work (notedIn work count), length-noted work count) in
-      ap (λ (k : ℕ). workOf (notedIn work count) ++ drop k work) e
+      let e : length (workOf (notedIn work count)) ≡ 16 * count = omega (arith, length-work (notedIn work count), length-noted work count) in
+      sym (overwrite-is (workOf (notedIn work count)) work _ e)
 
   -- one turn: the buffer now and the totals now, at command i, give those at i
   module _ (i : ℕ) (in-range : i < count) (now : List ℕ) (is-now : now ≡ backTo work count (suc i))

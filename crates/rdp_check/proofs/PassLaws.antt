@@ -9,7 +9,7 @@ use lib.ListN.{length, getD, take, drop, set, length-append, length-take, length
 use lib.Seq.{append-snoc, drop-set-lt}
 use Rattle.rdp_command.specs.Words.{wordAt, numberIn, overwrite, pasted}
 use Rattle.rdp_command.specs.Kinds.{wordsOf}
-use Rattle.rdp_command.proofs.Bytes.{length-overwrite, pasted-after}
+use Rattle.rdp_command.proofs.Bytes.{overwrite-none, length-overwrite, pasted-after}
 use Rattle.rdp_check.specs.Commands.{commandsFrom, commandsOf, restOf, joined}
 use Rattle.rdp_check.specs.Plan.{applied}
 use Rattle.rdp_check.specs.Best.{numbersOf}
@@ -156,7 +156,6 @@ pub record Writing (list : List ℕ) (words : ℕ) (work out₀ out : List ℕ) 
 pub writing-first :
     (list : List ℕ) (words : ℕ) (work out : List ℕ) → WholeList list words → 16 * length (commandsOf list) ≤ length work →
     Below 64 work (16 * length (commandsOf list)) → length (dueBytes list work) ≤ length out → Writing list words work out out 0 0 0 0
-unfolding overwrite
 writing-first list words work out w choices below room =
     record {
       reached = reached-first list words w;
@@ -165,7 +164,7 @@ writing-first list words work out w choices below room =
       below = below;
       room = room;
       done = [];
-      output = refl;
+      output = sym (overwrite-none out);
       index = refl;
       due = refl;
     }

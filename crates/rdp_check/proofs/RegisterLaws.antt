@@ -14,7 +14,7 @@ use Rattle.rdp_command.specs.Kinds.{among, wordsOf}
 use Rattle.rdp_command.specs.Layout.{layout, tileAreaLines, tileDescriptorLines}
 use Rattle.rdp_command.specs.Groups.{tileAreaOf, tileDescriptorOf}
 use Rattle.rdp_command.specs.Commands.{commandOf, numberOf}
-use Rattle.rdp_command.specs.Reads.{fieldsIn}
+use Rattle.rdp_command.specs.Reads.{fieldsIn, cycleTypeIn, scissorIn, fillColorIn, colorImageIn}
 use Rattle.rdp_command.specs.Decode.{firstNumber, wholeWords, ownWords, commandIn, decodeOf}
 use Rattle.rdp_command.specs.declared.TileDescriptor.{TileDescriptor}
 use Rattle.rdp_command.specs.declared.TexelCorner.{TexelCorner}
@@ -337,6 +337,19 @@ module _ (ws : List ℕ) (long : length ws ≡ 32) (c : List ℕ) (there : whole
   -- a word is stored: its registers are those after its command
   pub registers-stored : registersIn (wordsAfter ws n w) ≡ afterDecoded (registersIn ws) (decodeOf c)
   registers-stored = result ∙ ap (afterDecoded (registersIn ws)) (sym (decodes c there))
+
+-- ---- what is read of a register is read of its word
+
+-- of the registers that a fill is drawn under
+pub record FillReads (ws : List ℕ) : Type 0 where
+  pub mode : registersIn ws .modes .other .modes .«cycle_type» ≡ cycleTypeIn (word ws 5)
+  pub scissor : registersIn ws .modes .scissor .scissor ≡ scissorIn (word ws 3)
+  pub image : registersIn ws .images .color .image ≡ colorImageIn (word ws 14)
+  pub color : registersIn ws .colors .fill .color ≡ fillColorIn (word ws 6)
+
+pub fill-reads : (ws : List ℕ) → FillReads ws
+unfolding registersBy
+fill-reads ws = record { mode = refl; scissor = refl; image = refl; color = refl }
 
 -- ---- a list
 

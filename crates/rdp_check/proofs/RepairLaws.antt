@@ -6,7 +6,7 @@ use Prim.Native.Nat.{ℕ, zero, suc, _+_, _*_, _/_, _<_, _≤_}
 use native.Mathlib.Omega.{arith}
 use lib.Dec.{T, eqb}
 use lib.ListN.{length, getD, take, drop, replicate, length-map, length-replicate}
-use lib.Seq.{take-at, drop-at}
+use Rattle.rdp_command.proofs.Bytes.{overwrite-is, take-overwrite, overwrite-twice}
 use borrow.Author.Tests.{eqb-true, eqb-false, lt-ltb, le-ltb, ne-eqb}
 use Rattle.rdp_command.specs.Words.{wordAt, overwrite}
 use Rattle.rdp_command.specs.Decode.{firstNumber}
@@ -29,12 +29,6 @@ use Rattle.rdp_check.proofs.RoomLaws.{judged, repairable-judged, roomed
 
 -- ---- the work buffer from pass to pass
 
--- what is written over at the front does not count
-over-twice : (a b xs : List ℕ) → length a ≡ length b → overwrite a (overwrite b xs) ≡ overwrite a xs
-unfolding overwrite
-over-twice a b xs e =
-    ap (λ (l : List ℕ). a ++ l) (drop-at b (drop (length b) xs) (length a) (sym e) ∙ ap (λ (k : ℕ). drop k xs) (sym e))
-
 numbers-small : (cs : List (List ℕ)) (k : ℕ) → getD (numbersOf cs) k 0 < 64
 numbers-small [] k = omega arith
 numbers-small (c ∷ cs) zero = number-small (wordAt c 0)
@@ -55,15 +49,14 @@ module _ (list work noted : List ℕ) (count : ℕ) (is-noted : NotedIs list wor
     cycles-are = back .least ∙ ap (λ (ns : List ℕ). best ns 0) noted-are
 
     pub choices-are : work′ ≡ overwrite (workOf (numbersOf (commandsOf list))) work
-    unfolding overwrite
     choices-are =
         let ns : List ℕ = numbersOf (commandsOf list) in
         let long : length (workOf ns) ≡ 16 * length (commandsOf list) = work-long (commandsOf list) in
         back .choices ∙
         ap (λ (l : List ℕ). overwrite (workOf l) noted) noted-are ∙
-        ap (λ (k : ℕ). workOf ns ++ drop k noted) long ∙
+        overwrite-is (workOf ns) noted _ long ∙
         ap (λ (l : List ℕ). workOf ns ++ l) (is-noted .beyond) ∙
-        ap (λ (k : ℕ). workOf ns ++ drop k work) (sym long)
+        sym (overwrite-is (workOf ns) work _ long)
 
 -- ---- the plan that the work buffer holds
 
@@ -75,8 +68,7 @@ module _ (list work work′ : List ℕ) (held : work′ ≡ overwrite (workOf (n
   beyond = drop (length (workOf ns)) work
 
   held-is : work′ ≡ workOf ns ++ beyond
-  unfolding overwrite
-  held-is = held
+  held-is = held ∙ overwrite-is (workOf ns) work _ refl
 
   pub choices-below : Below 64 work′ (16 * length (commandsOf list))
   choices-below =
@@ -97,7 +89,7 @@ module _ (list work work′ : List ℕ) (held : work′ ≡ overwrite (workOf (n
       let k : ℕ = 16 * length (commandsOf list) in
       ap (λ (n : ℕ). overwrite (replicate (16 * n) 0) work′) e ∙
       ap (overwrite (replicate k 0)) held ∙
-      over-twice (replicate k 0) (workOf ns) work (length-replicate k 0 ∙ sym (work-long (commandsOf list)))
+      overwrite-twice (replicate k 0) (workOf ns) work (length-replicate k 0 ∙ sym (work-long (commandsOf list)))
 
 -- ---- a list that none of refusals 1 to 6 holds for
 
@@ -206,11 +198,11 @@ module _ (list work out : List ℕ) where
       pub repaired-is :
           words ≤ length out / 8 → (cycles : ℕ) → cycles ≡ leastCycles list → (out′ : List ℕ) → out′ ≡ overwrite (repairedBytes list) out →
           RepairIs list work out (repairAnswer 0 words cycles) work′ out′
-      unfolding roomed outAfter workAfter overwrite
+      unfolding roomed outAfter workAfter
       repaired-is h cycles are-cycles out′ are-bytes =
           let fits : length (repairedBytes list) ≤ length out = omega arith in
           let start : take (8 * words) out′ ≡ repairedBytes list =
-          ap (take (8 * words)) are-bytes ∙ take-at (repairedBytes list) (drop (length (repairedBytes list)) out) (8 * words) long in
+          ap (take (8 * words)) are-bytes ∙ take-overwrite (repairedBytes list) out (8 * words) long in
           record {
             least = repairedBytes list;
             cycles = leastCycles list;

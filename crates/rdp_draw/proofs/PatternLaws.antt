@@ -8,7 +8,7 @@ use lib.ListN.{length, getD, set}
 use lib.Seq.{getD-set-same, getD-set-other}
 use Rattle.rdp_draw.specs.Fill.{colorByte}
 use Rattle.rdp_draw.specs.Overlay.{overlay, within}
-use Rattle.rdp_draw.specs.Pattern.{Holds, Written}
+use Rattle.rdp_draw.specs.Pattern.{Repeats, Written}
 use Rattle.rdp_draw.proofs.ColorLaws.{color-same}
 use Rattle.rdp_draw.proofs.OverlayLaws.{split, within-true, within-false, getD-overlay-0, overlay-none, overlay-adjacent, overlay-more}
 
@@ -17,7 +17,7 @@ use Rattle.rdp_draw.proofs.OverlayLaws.{split, within-true, within-fals
 -- the colour's four bytes before a pattern
 module _ (color : ℕ) {a b c d : ℕ} (first : a ≡ colorByte color 0) (second : b ≡ colorByte color 1) (third : c ≡ colorByte color 2)
     (fourth : d ≡ colorByte color 3) where
-  pub holds-four : {n : ℕ} {p : List ℕ} → Holds color n p → Holds color (suc (suc (suc (suc n)))) (a ∷ b ∷ c ∷ d ∷ p)
+  pub holds-four : {n : ℕ} {p : List ℕ} → Repeats color n p → Repeats color (suc (suc (suc (suc n)))) (a ∷ b ∷ c ∷ d ∷ p)
   holds-four {n} {p} h = record { byte = at }
     where
       at : (k : ℕ) → k < suc (suc (suc (suc n))) → getD (a ∷ b ∷ c ∷ d ∷ p) k 0 ≡ colorByte color k
@@ -27,11 +27,11 @@ module _ (color : ℕ) {a b c d : ℕ} (first : a ≡ colorByte color 0) (second
       at (suc (suc (suc zero))) l = fourth
       at (suc (suc (suc (suc k)))) l = h .byte k (omega arith) ∙ color-same color k (suc (suc (suc (suc k)))) (omega arith)
 
-  pub holds-twenty : Holds color 20 (a ∷ b ∷ c ∷ d ∷ a ∷ b ∷ c ∷ d ∷ a ∷ b ∷ c ∷ d ∷ a ∷ b ∷ c ∷ d ∷ a ∷ b ∷ c ∷ d ∷ [])
+  pub holds-twenty : Repeats color 20 (a ∷ b ∷ c ∷ d ∷ a ∷ b ∷ c ∷ d ∷ a ∷ b ∷ c ∷ d ∷ a ∷ b ∷ c ∷ d ∷ a ∷ b ∷ c ∷ d ∷ [])
   holds-twenty = holds-four (holds-four (holds-four (holds-four (holds-four (record { byte = λ k l. absurd (not-suc-le-zero l) })))))
 
 -- a pattern that grows by the byte 16 before its end
-pub holds-more : {color k : ℕ} {p : List ℕ} → Holds color k p → 16 ≤ k → k < length p → Holds color (k + 1) (set p k (getD p (k - 16) 0))
+pub holds-more : {color k : ℕ} {p : List ℕ} → Repeats color k p → 16 ≤ k → k < length p → Repeats color (k + 1) (set p k (getD p (k - 16) 0))
 holds-more {color} {k} {p} h l n = record { byte = at }
   where
     at : (j : ℕ) → j < k + 1 → getD (set p k (getD p (k - 16) 0)) j 0 ≡ colorByte color j
@@ -58,7 +58,7 @@ module _ (at k : ℕ) {pattern before after : List ℕ} where
       → Written (within at (at + (k + 1))) pattern before (set after (at + k) (getD pattern (at % 4 + k) 0))
   written-more w inside there = record { is = more }
     where
-      more : (color : ℕ) → Holds color (length pattern) pattern
+      more : (color : ℕ) → Repeats color (length pattern) pattern
           → set after (at + k) (getD pattern (at % 4 + k) 0) ≡ overlay (within at (at + (k + 1))) (colorByte color) 0 before
       more color h =
           ap₂ (λ (l : List ℕ) (b : ℕ). set l (at + k) b) (w .is color h)
@@ -87,8 +87,8 @@ written-rest first mid end w w′ l h =
     written-joined first mid end w (rw e at w′) l h
 
 -- the first n bytes are the pattern's
-pub written-holds : (color n : ℕ) {pattern before after : List ℕ} → Written (within 0 n) pattern before after → Holds color (length pattern) pattern
-    → n ≤ length before → Holds color n after
+pub written-holds : (color n : ℕ) {pattern before after : List ℕ} → Written (within 0 n) pattern before after → Repeats color (length pattern) pattern
+    → n ≤ length before → Repeats color n after
 written-holds color n {before = before} w h l =
     record {
       byte =

@@ -8,7 +8,7 @@ use native.Mathlib.Omega.{arith}
 use lib.ListN.{length}
 use Rattle.rdp_draw.specs.Fill.{colorByte}
 use Rattle.rdp_draw.specs.Overlay.{overlay, within}
-use Rattle.rdp_draw.specs.Pattern.{rotated, Holds, Written}
+use Rattle.rdp_draw.specs.Pattern.{rotated, Repeats, Written}
 use Rattle.rdp_draw.specs.Runs.{inRuns}
 use Rattle.rdp_draw.proofs.ColorLaws.{rotated-byte}
 use Rattle.rdp_draw.proofs.OverlayLaws.{within-false, within-joined, length-overlay, overlay-none, overlay-cong, overlay-values, overlay-overlay}
@@ -74,7 +74,7 @@ module _ {before : List ℕ} {from size stride rows color : ℕ} {memory : List 
     run-inside = omega (arith, r .fits more)
 
     -- after the first is written from a pattern that holds the colour, the others are left
-    pub runs-next : {n : ℕ} {pattern next : List ℕ} → Holds color n pattern → length pattern ≡ n → Written (within at (at + size)) pattern memory next
+    pub runs-next : {n : ℕ} {pattern next : List ℕ} → Repeats color n pattern → length pattern ≡ n → Written (within at (at + size)) pattern memory next
         → RunsLeft before from size stride rows color next (at + stride) (left - 1)
     runs-next {next = next} holds whole written =
         let w : next ≡ overlay (within at (at + size)) v 0 memory = written .is color (rw whole holds) in

@@ -1,83 +1,77 @@
 -- The register file that the drawing's loops carry leads them from draw to draw. Assumes nothing.
-use mathlib.Core.Bool.{Bool, true, false, cond, not, _&&_, _||_, true≢false}
+use mathlib.Core.Bool.{Bool, true, false, cond, not, _&&_, _||_, true≢false, false≢true}
 use mathlib.Core.List.{List, [], _∷_}
 use mathlib.Core.Path.{_≡_, refl, sym, _∙_, ap, subst}
-use Prim.Native.Nat.{ℕ, _+_, _*_, _/_, _%_, _^_, _≤_, _<_}
+use Prim.Native.Nat.{ℕ, _+_, _*_, _/_, _%_, _≤_, _<_}
 use native.Mathlib.Nat.{le-refl, mod-eq-of-lt}
 use native.Mathlib.Omega.{arith}
 use borrow.Author.Tests.{ne-eqb, eqb-true, ltb-true, ltb-false}
-use lib.Dec.{T, eqb, ltb, eqb→eq}
+use lib.Dec.{T, eqb, ltb, eqb→eq, lit<}
 use lib.ListN.{length, drop, replicate, length-drop}
 use mir.Val.{boolByte}
 use Rattle.rdp_command.specs.Words.{wordAt, numberIn}
-use Rattle.rdp_command.specs.Kinds.{among, kindOf, hasBit, wordsOf}
+use Rattle.rdp_command.specs.Kinds.{Kind, among, kindOf, isDraw, isAmong, wordsOfKind, wordsOf}
 use Rattle.rdp_command.specs.Commands.{numberOf}
 use Rattle.rdp_command.specs.Decode.{firstNumber, wholeWords, decodeOf}
-use Rattle.rdp_command.specs.Reads.{fillFields}
+use Rattle.rdp_command.specs.Reads.{rectangleIn, fillFields}
 use Rattle.rdp_command.specs.declared.FillFields.{FillFields}
 use Rattle.rdp_command.specs.declared.Command.{Command}
 use Rattle.rdp_command.specs.declared.Command.the-variants.{NoOperation, FillTriangle, TextureRectangle, TextureRectangleFlip, SyncLoad, SyncPipe, SyncTile, SyncFull, SetKeyGb, SetKeyR, SetConvert, SetScissor, SetPrimitiveDepth, SetOtherModes, LoadTlut, SetTileSize, LoadBlock, LoadTile, SetTile, FillRectangle, SetFillColor, SetFogColor, SetBlendColor, SetPrimitiveColor, SetEnvironmentColor, SetCombineMode, SetTextureImage, SetDepthImage, SetColorImage}
-use Rattle.rdp_command.proofs.Tests.{below, by-test, false-of}
-use Rattle.rdp_command.proofs.KindLaws.{bits-by}
+use Rattle.rdp_command.proofs.Tests.{by-test, false-of}
+use Rattle.rdp_command.proofs.KindLaws.{among-by, draws-among, draw-numbers, by-kinds, words-of-kind}
 use Rattle.rdp_command.proofs.PlaceLaws.{number-small, some-words}
 use Rattle.rdp_command.proofs.ReadLaws.{decoded, decodes, decoded-number, reads-triangle, reads-texture-rectangle, reads-texture-rectangle-flip, reads-rectangle}
 use Rattle.rdp_check.specs.Commands.{commandsOf, restOf}
 use Rattle.rdp_check.specs.Registers.{afterDecoded}
-use Rattle.rdp_check.specs.RegisterWords.{slotOf, tileIn, setters, wordsAfter, registersBy, registersIn}
+use Rattle.rdp_check.specs.RegisterWords.{slotOf, tileIn, setters, wordsAfter, registersIn}
 use Rattle.rdp_check.specs.Check.{draws}
 use Rattle.rdp_check.specs.declared.Registers.{Registers}
-use Rattle.rdp_check.proofs.RegisterLaws.{none-set, length-stored, words-kept, registers-stored}
+use Rattle.rdp_check.proofs.RegisterLaws.{none-set, length-stored, words-kept, registers-stored, FillReads, fill-reads}
 use Rattle.rdp_check.proofs.ListLaws.{commandAt, commands-at, rest-at, commands-past, rest-past, command-word, command-number, command-there}
-use Rattle.rdp_draw.specs.Draw.{Act, nothing, otherDraw, filling, actOf, actOfDecoded, Draw, withAct, drawsFrom, drawsOf}
+use Rattle.rdp_draw.specs.Draw.{Act, nothing, otherDraw, filling, fillOf, actOf, actOfDecoded, Draw, withAct, drawsFrom, drawsOf}
 use Rattle.rdp_draw.specs.Seen.{fillWords, actWith, Due, Next, Reaches}
 
 -- ---- the kinds of steps
 
 -- the constant of the code
-pub sets-by : (n : ℕ) → n < 64 → hasBit (2 ^ n) 0xFFBD_FC00_0000_0000 ≡ among n setters
-sets-by = bits-by _ (λ n. among n setters) tt
+sets-by : (n : ℕ) → n < 64 → isAmong 0xFFBD_FC00_0000_0000 n ≡ among n setters
+sets-by = among-by _ (λ n. among n setters) tt
 
 -- a command that is no draw has one word; a draw sets no register
-abbrev stepTest : ℕ → Bool
-stepTest n = cond (draws n) (not (among n setters)) (eqb (wordsOf n) 1)
+abbrev stepTest : Kind → ℕ → Bool
+stepTest k n = cond (isDraw k) (not (among n setters)) (eqb (wordsOfKind k n) 1)
 
-step-test : (n : ℕ) → n < 64 → T (stepTest n)
-unfolding draws kindOf wordsOf
-step-test n h = below 64 stepTest tt n h
+step-test : (n : ℕ) → n < 64 → T (stepTest (kindOf n) n)
+step-test n h = by-kinds stepTest tt n h
 
 one-word : (n : ℕ) → n < 64 → draws n ≡ false → wordsOf n ≡ 1
-one-word n h e = eqb→eq (wordsOf n) 1 (rw e at (step-test n h))
+one-word n h e = words-of-kind n ∙ eqb→eq (wordsOfKind (kindOf n) n) 1 (rw e at (step-test n h))
 
 draw-keeps : (n : ℕ) → n < 64 → draws n ≡ true → among n setters ≡ false
 draw-keeps n h e = false-of (among n setters) (rw e at (step-test n h))
 
--- a draw is a triangle, a texture rectangle or a fill rectangle
-abbrev drawTest : ℕ → Bool
-drawTest n = not (draws n) || (eqb (n / 8) 1 || (eqb n 0x24 || (eqb n 0x25 || eqb n 0x36)))
-
-draw-test : (n : ℕ) → n < 64 → draws n ≡ true → T (eqb (n / 8) 1 || (eqb n 0x24 || (eqb n 0x25 || eqb n 0x36)))
-unfolding draws kindOf
-draw-test n h e = let t : T (drawTest n) = below 64 drawTest tt n h in rw e at t
-
 -- ---- what a command draws
 
-triangle-draws : (s t z : Bool) → draws (0x08 + boolByte s * 4 + boolByte t * 2 + boolByte z) ≡ true
-unfolding draws kindOf
-triangle-draws true true true = refl
-triangle-draws true true false = refl
-triangle-draws true false true = refl
-triangle-draws true false false = refl
-triangle-draws false true true = refl
-triangle-draws false true false = refl
-triangle-draws false false true = refl
-triangle-draws false false false = refl
+-- the number of a triangle, by its flags
+abbrev triangleNumber : Bool → Bool → Bool → ℕ
+triangleNumber s t z = 0x08 + boolByte s * 4 + boolByte t * 2 + boolByte z
+
+triangle-draws : (s t z : Bool) → draws (triangleNumber s t z) ≡ true
+triangle-draws true true true = draw-numbers 0x0F (lit< tt)
+triangle-draws true true false = draw-numbers 0x0E (lit< tt)
+triangle-draws true false true = draw-numbers 0x0D (lit< tt)
+triangle-draws true false false = draw-numbers 0x0C (lit< tt)
+triangle-draws false true true = draw-numbers 0x0B (lit< tt)
+triangle-draws false true false = draw-numbers 0x0A (lit< tt)
+triangle-draws false false true = draw-numbers 0x09 (lit< tt)
+triangle-draws false false false = draw-numbers 0x08 (lit< tt)
 
 no-act : (r : Registers) (x : Command) → draws (numberOf x) ≡ false → actOf r x ≡ nothing
-unfolding actOf draws kindOf
+unfolding actOf
 no-act r (NoOperation g) e = refl
 no-act r (FillTriangle g) e = absurd (true≢false (sym (triangle-draws (g .shade) (g .texture) (g .zbuffer)) ∙ e))
-no-act r (TextureRectangle g) e = absurd (true≢false e)
-no-act r (TextureRectangleFlip g) e = absurd (true≢false e)
+no-act r (TextureRectangle g) e = absurd (true≢false (sym (draw-numbers 0x24 (lit< tt)) ∙ e))
+no-act r (TextureRectangleFlip g) e = absurd (true≢false (sym (draw-numbers 0x25 (lit< tt)) ∙ e))
 no-act r SyncLoad e = refl
 no-act r SyncPipe e = refl
 no-act r SyncTile e = refl
@@ -93,7 +87,7 @@ no-act r (SetTileSize g) e = refl
 no-act r (LoadBlock g) e = refl
 no-act r (LoadTile g) e = refl
 no-act r (SetTile g) e = refl
-no-act r (FillRectangle g) e = absurd (true≢false e)
+no-act r (FillRectangle g) e = absurd (true≢false (sym (draw-numbers 0x36 (lit< tt)) ∙ e))
 no-act r (SetFillColor g) e = refl
 no-act r (SetFogColor g) e = refl
 no-act r (SetBlendColor g) e = refl
@@ -117,38 +111,52 @@ module _ (file c : List ℕ) (there : wholeWords c ≡ 0 → ⊥) where
   pub draws-none : draws n ≡ false → actOfDecoded r (decodeOf c) ≡ nothing
   draws-none e = ap (actOfDecoded r) (decodes c there) ∙ no-act r (decoded c there) (rw (decoded-number c there) e)
 
-  -- a draw but a fill rectangle
-  others : (n ≡ 0x36 → ⊥) → (x : Command) → decoded c there ≡ x → actOf r x ≡ otherDraw (fill .image) → actOf r (decoded c there) ≡ actWith n fill
-  others h x e q = ap (actOf r) e ∙ q ∙ rw (ne-eqb _ _ h)
+  abbrev reads : FillReads file
+  reads = fill-reads file
 
-  apart : (k : ℕ) → n ≡ k → (k ≡ 0x36 → ⊥) → n ≡ 0x36 → ⊥
-  apart k e h z = h (sym e ∙ z)
+  -- a draw but a fill rectangle
+  others : (x : Command) → decoded c there ≡ x → actOf r x ≡ otherDraw (r .images .color .image) → (n ≡ 0x36 → ⊥) → actOf r (decoded c there) ≡ actWith n fill
+  others x e q h = ap (actOf r) e ∙ q ∙ ap otherDraw (reads .image) ∙ rw (ne-eqb _ _ h)
 
   of-triangle : n / 8 ≡ 1 → actOf r (decoded c there) ≡ actWith n fill
-  unfolding actOf registersBy
-  of-triangle e = let g = reads-triangle c (decodes c there) e in others (λ z. omega arith) (FillTriangle (g .0)) (g .1) refl
+  unfolding actOf
+  of-triangle e = let g = reads-triangle c (decodes c there) e in others (FillTriangle (g .0)) (g .1) refl (λ z. omega arith)
 
   of-texture : n ≡ 0x24 → actOf r (decoded c there) ≡ actWith n fill
-  unfolding actOf registersBy
-  of-texture e = let g = reads-texture-rectangle c (decodes c there) e in others (λ z. omega arith) (TextureRectangle (g .0)) (g .1) refl
+  unfolding actOf
+  of-texture e = let g = reads-texture-rectangle c (decodes c there) e in others (TextureRectangle (g .0)) (g .1) refl (λ z. omega arith)
 
   of-flip : n ≡ 0x25 → actOf r (decoded c there) ≡ actWith n fill
-  unfolding actOf registersBy
-  of-flip e = let g = reads-texture-rectangle-flip c (decodes c there) e in others (λ z. omega arith) (TextureRectangleFlip (g .0)) (g .1) refl
+  unfolding actOf
+  of-flip e = let g = reads-texture-rectangle-flip c (decodes c there) e in others (TextureRectangleFlip (g .0)) (g .1) refl (λ z. omega arith)
+
+  -- a fill rectangle
+  fill-is : fillOf r (rectangleIn (wordAt c 0)) ≡ fill
+  fill-is =
+      λ i. record {
+        «cycle_type» = reads .mode i;
+        rectangle = rectangleIn (wordAt c 0);
+        scissor = reads .scissor i;
+        image = reads .image i;
+        color = reads .color i;
+      }
 
   of-fill : n ≡ 0x36 → actOf r (decoded c there) ≡ actWith n fill
-  unfolding actOf registersBy
-  of-fill e = ap (actOf r) (reads-rectangle c (decodes c there) e) ∙ rw e
+  unfolding actOf
+  of-fill e =
+      ap (actOf r) (reads-rectangle c (decodes c there) e) ∙
+      ap (λ (f : FillFields). cond (eqb (f .«cycle_type») 3) (filling f) (otherDraw (f .image))) fill-is ∙
+      rw e
 
   pub draws-act : draws n ≡ true → actOfDecoded r (decodeOf c) ≡ actWith n fill
   draws-act e =
-      let t = draw-test n (number-small (wordAt c 0)) e in
+      let t : eqb (n / 8) 1 || among n (0x24 ∷ 0x25 ∷ 0x36 ∷ []) ≡ true = sym (draw-numbers n (number-small (wordAt c 0))) ∙ e in
       ap (actOfDecoded r) (decodes c there) ∙
       by-test (eqb (n / 8) 1) (λ y. of-triangle (eqb-true _ _ y))
       (λ f.
       by-test (eqb n 0x24) (λ y. of-texture (eqb-true _ _ y))
       (λ g.
-      by-test (eqb n 0x25) (λ y. of-flip (eqb-true _ _ y)) (λ h. by-test (eqb n 0x36) (λ y. of-fill (eqb-true _ _ y)) (λ i. absurd (rw (f, g, h, i) at t)))))
+      by-test (eqb n 0x25) (λ y. of-flip (eqb-true _ _ y)) (λ h. by-test (eqb n 0x36) (λ y. of-fill (eqb-true _ _ y)) (λ i. absurd (false≢true (rw (f, g, h, i) at t))))))
 
 with-drawn : (n at : ℕ) (f : FillFields) (ds : List Draw) → withAct at (actWith n f) ds ≡ record { place = at; act = actWith n f } ∷ ds
 with-drawn n at f ds = either (eqb n 0x36 && eqb (f .«cycle_type») 3)
@@ -258,7 +266,13 @@ module _ {list : List ℕ} {from : ℕ} {before : List ℕ} {words : ℕ} {file 
   pub walk-none : words ≤ at → (n : ℕ) → Reaches list from before (record { place = at; number = n }) file
   walk-none h n = (w .onward, λ ds d. record { some = λ l. absurd (omega (arith, w .count)); none = λ l. due-none (w .due ds d) l })
 
-  module _ (more : at < words) (n : ℕ) (is : n ≡ numberIn (wordAt list at)) (b : Bool) (is-b : b ≡ draws n) where
+  module _ (more : at < words) (n : ℕ) (is : n ≡ numberIn (wordAt list at)) (b : Bool) (is-among : b ≡ isAmong 0x0040_0030_0000_FF00 n) where
+    low : n < 64
+    low = rw is (number-small (wordAt list at))
+
+    is-b : b ≡ draws n
+    is-b = is-among ∙ draws-among n low
+
     inside : at < length list / 8
     inside = omega (arith, w .count)
 
@@ -267,13 +281,13 @@ module _ {list : List ℕ} {from : ℕ} {before : List ℕ} {words : ℕ} {file 
         (w .onward, λ ds d. record { some = λ l. reached (w .due ds d) inside n is (sym is-b ∙ t); none = λ l. absurd (omega arith) })
 
     module _ (f : b ≡ false) where
-      pub walk-skip : (s : Bool) → s ≡ among n setters → s ≡ false → Walks list from before words file (at + 1)
-      walk-skip s is-s e = record { count = w .count; onward = omega (arith, w .onward); due = λ ds d. skip (w .due ds d) inside n is (sym is-b ∙ f) (sym is-s ∙ e) }
+      pub walk-skip : (s : Bool) → s ≡ isAmong 0xFFBD_FC00_0000_0000 n → s ≡ false → Walks list from before words file (at + 1)
+      walk-skip s is-s e = record { count = w .count; onward = omega (arith, w .onward); due = λ ds d. skip (w .due ds d) inside n is (sym is-b ∙ f) (sym (is-s ∙ sets-by n low) ∙ e) }
 
       pub walk-set : (v : ℕ) → v ≡ wordAt list at → (stored : List ℕ) → stored ≡ wordsAfter file (n % 64) v → Walks list from before words stored (at + 1)
       walk-set v is-v stored is-stored =
-          let low : n % 64 ≡ n = mod-eq-of-lt (rw is (number-small (wordAt list at))) in
-          let same : wordsAfter file n (wordAt list at) ≡ stored = sym (is-stored ∙ (λ i. wordsAfter file (low i) (is-v i))) in
+          let same-number : n % 64 ≡ n = mod-eq-of-lt low in
+          let same : wordsAfter file n (wordAt list at) ≡ stored = sym (is-stored ∙ (λ i. wordsAfter file (same-number i) (is-v i))) in
           record {
             count = w .count;
             onward = omega (arith, w .onward);

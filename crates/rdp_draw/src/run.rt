@@ -4,7 +4,7 @@ ghost use Prim.Native.Nat.{_+_, _-_, _*_, _%_, _<_, _≤_};
 ghost use lib.ListN.{length};
 ghost use Rattle.rdp_draw.specs.Fill.{colorByte};
 ghost use Rattle.rdp_draw.specs.Overlay.{overlay, within};
-ghost use Rattle.rdp_draw.specs.Pattern.{rotated, Holds, Written, ChunksAre};
+ghost use Rattle.rdp_draw.specs.Pattern.{rotated, Repeats, Written, ChunksAre};
 ghost use Rattle.rdp_draw.specs.Runs.{inRuns};
 
 // Copies n bytes of the pattern to index `at` and those after it, from the byte that belongs at `at` on.
@@ -67,7 +67,7 @@ fn long_run(memory: &mut [u8], from: usize, to: usize, pattern: &[u8])
 
 // The colour's four bytes, five times.
 fn short_pattern(color: u32) -> [u8; 20]
-    ensures { λ r. ⌜ Holds color 20 r ⌝ }
+    ensures { λ r. ⌜ Repeats color 20 r ⌝ }
 {
     let a = (color >> 24) as u8;
     let b = ((color >> 16) % 256) as u8;
@@ -78,7 +78,7 @@ fn short_pattern(color: u32) -> [u8; 20]
 
 // The colour's four bytes, 513 times.
 fn long_pattern(color: u32) -> [u8; 2052]
-    ensures { λ r. ⌜ Holds color 2052 r ⌝ }
+    ensures { λ r. ⌜ Repeats color 2052 r ⌝ }
 {
     let short = short_pattern(color);
     let mut pattern = [0u8; 2052];

@@ -1,33 +1,18 @@
 // The walk over the draws of a list, with the words that last set the registers.
 ghost use mathlib.Core.Path.{_≡_};
-ghost use Prim.Native.Nat.{_<_};
 ghost use Rattle.rdp_command.specs.Words.{wordAt};
-ghost use Rattle.rdp_command.specs.Kinds.{among};
 ghost use Rattle.rdp_command.specs.Reads.{fillFields};
-ghost use Rattle.rdp_check.specs.Check.{draws};
-ghost use Rattle.rdp_check.specs.RegisterWords.{setters};
 ghost use Rattle.rdp_draw.specs.Seen.{fillWords, Reaches};
 use rdp_command::FillFields;
 use rdp_command::FillWords;
+
+// The commands that set a register, a bit for each number.
+const SETTERS: u64 = 0xFFBD_FC00_0000_0000;
 
 // A draw: its place and its number. Where there is none, the place is the number of words.
 pub struct Reached {
     pub place: usize,
     pub number: u8,
-}
-
-fn is_draw(number: u8) -> bool
-    requires { ⌜ number < 64 ⌝ }
-    ensures { λ r. ⌜ r ≡ draws number ⌝ }
-{
-    (0x0040_0030_0000_FF00u64 >> number) % 2 == 1
-}
-
-fn is_setter(number: u8) -> bool
-    requires { ⌜ number < 64 ⌝ }
-    ensures { λ r. ⌜ r ≡ among number setters ⌝ }
-{
-    (0xFFBD_FC00_0000_0000u64 >> number) % 2 == 1
 }
 
 // The first draw from a place on; the words before it are stored in the file. Every other command has one word.
@@ -39,10 +24,10 @@ pub fn next_draw(list: &[u8], from: usize, file: &mut [u64; 32]) -> Reached
     while at < words {
         let head = rdp_command::head_at(list, at);
         let number = head.number;
-        if is_draw(number) {
+        if rdp_command::is_among(rdp_command::DRAWS, number) {
             return Reached { place: at, number };
         }
-        if is_setter(number) {
+        if rdp_command::is_among(SETTERS, number) {
             rdp_check::store(file, number, rdp_command::word_at(list, at));
             at += 1;
             continue;

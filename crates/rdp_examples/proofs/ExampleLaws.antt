@@ -8,16 +8,16 @@ use Rattle.rdp_command.specs.Decode.{wholeWords, decodeOf}
 use Rattle.rdp_check.specs.Hazards.{nextOf, requiredOf}
 use Rattle.rdp_check.specs.Commands.{commandsFrom, restFrom}
 use Rattle.rdp_check.specs.Registers.{noRegisters, registersAfter}
-use Rattle.rdp_check.specs.Check.{afterCommand, draws, ownRefusals, syncRefusals, judge, outcomeWithin}
+use Rattle.rdp_check.specs.Check.{afterCommand, ownRefusals, syncRefusals, judge, outcomeWithin}
 use Rattle.rdp_check.specs.Refusals.{commandGrounds, groundsOf}
 use Rattle.rdp_check.specs.Plan.{syncAt, waitOf, withOption, applied}
 use Rattle.rdp_check.specs.Best.{clearedBy, totalWith, choiceOf, prefer, chosen, best, plan, planned, repairedBytes}
 use Rattle.rdp_check.specs.Repair.{repairOf, outAfter, workAfter}
 use Rattle.rdp_draw.specs.Overlay.{overlay}
 use Rattle.rdp_draw.specs.Fill.{colorByte, bytesPerPixel, pixelAddress, rowKept, kept, oneOf, someByte}
-use Rattle.rdp_draw.specs.Draw.{drawsFrom, drawRefusals, drawGrounds, drawAnswer, paintedAll, drawMemory}
+use Rattle.rdp_draw.specs.Draw.{actOf, drawsFrom, drawRefusals, drawGrounds, drawAnswer, paintedAll, drawMemory}
 use Rattle.rdp_examples.specs.Examples.{examples, allRight}
 
 pub examples-right : T (allRight examples)
-unfolding examples halfOf wordAt overwrite kindOf wordsOf layout commandOf wholeWords decodeOf nextOf requiredOf commandsFrom restFrom noRegisters registersAfter afterCommand draws ownRefusals syncRefusals judge outcomeWithin syncAt waitOf clearedBy withOption totalWith choiceOf prefer chosen best plan applied planned repairedBytes commandGrounds groundsOf repairOf outAfter workAfter overlay colorByte bytesPerPixel pixelAddress rowKept kept oneOf someByte drawsFrom drawRefusals drawGrounds drawAnswer paintedAll drawMemory
+unfolding examples halfOf wordAt overwrite kindOf wordsOf layout commandOf wholeWords decodeOf nextOf requiredOf commandsFrom restFrom noRegisters registersAfter afterCommand ownRefusals syncRefusals judge outcomeWithin syncAt waitOf clearedBy withOption totalWith choiceOf prefer chosen best plan applied planned repairedBytes commandGrounds groundsOf repairOf outAfter workAfter overlay colorByte bytesPerPixel pixelAddress rowKept kept oneOf someByte actOf drawsFrom drawRefusals drawGrounds drawAnswer paintedAll drawMemory
 examples-right = tt

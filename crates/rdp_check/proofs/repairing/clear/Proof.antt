@@ -5,7 +5,7 @@ use Prim.Native.Nat.{ℕ, _-_, _≤_}
 use native.Mathlib.Omega.{arith}
 use borrow.Author.Fill.{fill-more}
 use lib.ListN.{length, set, drop, replicate, length-set, length-replicate}
-use Rattle.rdp_command.specs.Words.{overwrite}
+use Rattle.rdp_command.proofs.Bytes.{overwrite-is}
 use Rattle.rdp_check.proofs.repairing.clear.Statement.{statement}
 use Rattle.rdp_check.proofs.repairing.clear.Tie as tie
 
@@ -40,12 +40,11 @@ same-length : tie.Need-same-length Inv-loop μ-loop
 same-length c = c .before .loop .inv .2
 
 returns : tie.Need-returns Inv-loop μ-loop
-unfolding overwrite
 returns c =
     let t = c .before in
     let full : t .loop .i ≡ t .before .args .n = omega arith in
     let n : ℕ = t .before .args .n in
-    rw full at (t .loop .inv .1) ∙ ap (λ (k : ℕ). replicate n 0 ++ drop k (t .before .args .work .now)) (sym (length-replicate n 0))
+    rw full at (t .loop .inv .1) ∙ sym (overwrite-is (replicate n 0) (t .before .args .work .now) n (length-replicate n 0))
 
 pub clear-spec : {M : Type 1} → statement M
 clear-spec =

@@ -6,8 +6,8 @@ use native.Mathlib.Omega.{arith}
 use native.Mathlib.Numerals.{add-one}
 use borrow.Author.Needs.{needs}
 use lib.ListN.{length, getD, set, take, drop, length-set}
-use lib.Seq.{paste, paste-zero, paste-suc, take-length, drop-drop}
-use Rattle.rdp_command.specs.Words.{overwrite, pasted}
+use lib.Seq.{paste, paste-zero, paste-suc, take-length}
+use Rattle.rdp_command.proofs.Bytes.{pasted-is}
 use Rattle.rdp_check.proofs.repairing.copy_to.Statement.{statement}
 use Rattle.rdp_check.proofs.repairing.copy_to.Tie as tie
 
@@ -53,7 +53,6 @@ same-length : tie.Need-same-length Inv-loop μ-loop
 same-length c = c .before .loop .inv .2
 
 returns : tie.Need-returns Inv-loop μ-loop
-unfolding pasted overwrite
 returns c =
     let t = c .before in
     let at : ℕ = t .before .args .at in
@@ -64,7 +63,7 @@ returns c =
     ap (paste out at src) full ∙
     ap (λ (l : List ℕ). (take at out ++ l) ++ drop (at + length src) out) (take-length src) ∙
     append-assoc (take at out) src (drop (at + length src) out) ∙
-    ap (λ (l : List ℕ). take at out ++ (src ++ l)) (sym (drop-drop (length src) at out))
+    sym (pasted-is at src out _ refl)
 
 pub copy-to-spec : {M : Type 1} → statement M
 copy-to-spec =

@@ -7,7 +7,8 @@ use borrow.Author.Needs.{needs}
 use lib.ListN.{length}
 use Rattle.rdp_command.specs.Words.{pasted}
 use Rattle.rdp_check.specs.Work.{optionBytes}
-use Rattle.rdp_check.proofs.WriteLaws.{option-none, option-word, pasted-none}
+use Rattle.rdp_command.proofs.Bytes.{pasted-none}
+use Rattle.rdp_check.proofs.WriteLaws.{option-none, option-word}
 use Rattle.rdp_check.proofs.repairing.put_option.Statement.{statement}
 use Rattle.rdp_check.proofs.repairing.put_option.Tie as tie
 
@@ -17,7 +18,7 @@ returns c =
     let e : optionBytes (a .option) ≡ [] = option-none (a .option) (c .if1 .taken) in
     record {
       after = omega (arith, ap length e);
-      output = pasted-none (a .to) _ ∙ ap (λ (b : List ℕ). pasted (a .to) b (a .out .now)) (sym e);
+      output = sym (pasted-none (a .to) _) ∙ ap (λ (b : List ℕ). pasted (a .to) b (a .out .now)) (sym e);
     }
 
 sync-of-requires : tie.Need-sync-of-requires

@@ -4,13 +4,13 @@ use Prim.Native.Nat.{_-_, _≤_}
 use native.Mathlib.Omega.{arith}
 use borrow.Author.Needs.{needs}
 use lib.ListN.{length, length-set}
-use Rattle.rdp_draw.specs.Pattern.{Holds}
+use Rattle.rdp_draw.specs.Pattern.{Repeats}
 use Rattle.rdp_draw.proofs.PatternLaws.{holds-more, written-holds}
 use Rattle.rdp_draw.proofs.run.long_pattern.Statement.{statement}
 use Rattle.rdp_draw.proofs.run.long_pattern.Tie as tie
 
 abbrev Inv-loop : tie.InvT-loop
-Inv-loop color pattern₀ k₀ pattern k = (16 ≤ k) × (k ≤ 2052) × (length pattern ≡ 2052) × Holds color k pattern
+Inv-loop color pattern₀ k₀ pattern k = (16 ≤ k) × (k ≤ 2052) × (length pattern ≡ 2052) × Repeats color k pattern
 
 abbrev μ-loop : tie.MeasureT-loop
 μ-loop color pattern₀ k₀ pattern k = 2052 - k

@@ -4,7 +4,6 @@ use mathlib.Core.Path.{refl, ap}
 use Prim.Native.Nat.{_-_}
 use native.Mathlib.Omega.{arith}
 use borrow.Author.Needs.{needs}
-use Rattle.rdp_command.proofs.PlaceLaws.{number-small}
 use Rattle.rdp_draw.proofs.SeenLaws.{Walks, walk-first, walk-none, walk-found, walk-skip, walk-set}
 use Rattle.rdp_draw.proofs.walk.next_draw.Statement.{statement}
 use Rattle.rdp_draw.proofs.walk.next_draw.Tie as tie
@@ -21,17 +20,17 @@ loop-holds c = walk-first _ _ _ _ refl
 head-at-requires : tie.Need-head-at-requires Inv-loop μ-loop
 head-at-requires c κs = search needs
 
-is-draw-requires : tie.Need-is-draw-requires Inv-loop μ-loop
-is-draw-requires c κs = rw (c .head-at .ensures) (number-small _)
+is-among-requires : tie.Need-is-among-requires Inv-loop μ-loop
+is-among-requires c κs = search needs
 
 returns : tie.Need-returns Inv-loop μ-loop
 returns c =
     let d = c .before in
     let l = d .before .before in
-    walk-found (l .before .loop .inv) (l .loop-test .taken) _ (ap (λ x. x .number) (d .before .head-at .ensures)) _ (d .is-draw .ensures) (c .if1 .taken)
+    walk-found (l .before .loop .inv) (l .loop-test .taken) _ (ap (λ x. x .number) (d .before .head-at .ensures)) _ (d .is-among .ensures) (c .if1 .taken)
 
-is-setter-requires : tie.Need-is-setter-requires Inv-loop μ-loop
-is-setter-requires c κs = rw (c .before .before .head-at .ensures) (number-small _)
+is-among-requires-2 : tie.Need-is-among-requires-2 Inv-loop μ-loop
+is-among-requires-2 c κs = search needs
 
 word-at-requires : tie.Need-word-at-requires Inv-loop μ-loop
 word-at-requires c κs = search needs
@@ -52,7 +51,7 @@ loop-again c =
     let n = c .before .before .before .before .before in
     let d = n .before in
     let l = d .before .before in
-    walk-set (l .before .loop .inv) (l .loop-test .taken) _ (ap (λ x. x .number) (d .before .head-at .ensures)) _ (d .is-draw .ensures) (n .if1 .left) _
+    walk-set (l .before .loop .inv) (l .loop-test .taken) _ (ap (λ x. x .number) (d .before .head-at .ensures)) _ (d .is-among .ensures) (n .if1 .left) _
     (c .before .word-at .ensures) _ (c .store .ensures)
 
 add-at-2 : tie.Need-add-at-2 Inv-loop μ-loop
@@ -66,8 +65,8 @@ loop-again-2 c =
     let s = c .before in
     let d = s .before .before in
     let l = d .before .before in
-    walk-skip (l .before .loop .inv) (l .loop-test .taken) _ (ap (λ x. x .number) (d .before .head-at .ensures)) _ (d .is-draw .ensures) (s .before .if1 .left) _
-    (s .is-setter .ensures) (c .if2 .left)
+    walk-skip (l .before .loop .inv) (l .loop-test .taken) _ (ap (λ x. x .number) (d .before .head-at .ensures)) _ (d .is-among .ensures) (s .before .if1 .left) _
+    (s .is-among2 .ensures) (c .if2 .left)
 
 returns-2 : tie.Need-returns-2 Inv-loop μ-loop
 returns-2 c = walk-none (c .before .loop .inv) (c .loop-test .left) _
@@ -80,9 +79,9 @@ next-draw-spec =
     μ-loop
     loop-holds
     head-at-requires
-    is-draw-requires
+    is-among-requires
     returns
-    is-setter-requires
+    is-among-requires-2
     word-at-requires
     store-requires
     add-at
