@@ -400,6 +400,8 @@ REFUSALS = [
     from_fields(0x36, [1, 2, 3, 4, 5]),
     from_fields(0x36, [1, 2, 3, 4096]),
     from_fields(0x36, [1, 2, 3, 1 << 63]),
+    from_fields(0x2A, [4096, 0, 0, 0, 0, 0]),
+    from_fields(0x32, [4096, 0, 0, 0, 0]),
     from_fields(0x40, []),
     from_fields(0xFFFFFFFF, []),
     from_fields(0x24, [1, 2, 3, 4, 5, -32768, 32767, -1, 0]),
@@ -433,9 +435,54 @@ def bytes_of(words, length):
     return (whole + bytes(length))[:length]
 
 
+def some(values):
+    """A comma, and the values that are not 0, each after its index."""
+    return ',' + ''.join(f' {i}: {value}' for i, value in enumerate(values) if value)
+
+
+def single_bits(number, place):
+    """The fields of a command with one bit set in a word of its base, for each bit from the lowest."""
+    shown = []
+    for bit in range(64):
+        words = [number << 56] + [0] * 23
+        words[place] |= 1 << bit
+        shown.append(some(decoded(words[0] >> 56 & 63, words)))
+    return f'{number:02x} {place}' + ''.join(shown)
+
+
 def every_number():
-    """A list for each number, zeros after it, long enough for every command."""
-    return [([number << 56], 192) for number in range(64)]
+    """For each number: all other bits 0, all other bits set, and each bit of its base alone."""
+    shown = []
+    for number in range(64):
+        shown.append(printed([number << 56], 192))
+        shown.append(printed([(192 | number) << 56 | (1 << 56) - 1] + [(1 << 64) - 1] * 23, 192))
+        shown += [single_bits(number, place) for place in range(min(4, words_of(number)))]
+    return shown
+
+
+def fields(number, w):
+    """The fields of a command of one word by their names."""
+    return dict(zip((name for *_, name in LAYOUT[number]), decoded(number, [w])))
+
+
+def heads():
+    """What the check reads of each bit alone: the number, the cycle type and the size of an image."""
+    return 'head' + ''.join(some([w >> 56 & 63, fields(0x2F, w)['cycle_type'], fields(0x3F, w)['size']]) for w in (1 << bit for bit in range(64)))
+
+
+def fills():
+    """What the drawing reads of each bit alone."""
+    shown = []
+    for w in (1 << bit for bit in range(64)):
+        rectangle, scissor, image = decoded(0x36, [w]), decoded(0x2D, [w]), decoded(0x3F, [w])
+        parts = [[fields(0x2F, w)['cycle_type'], fields(0x37, w)['color']], rectangle[:2], rectangle[2:], scissor[:2], scissor[2:4], scissor[4:], image]
+        shown.append('fill' + ''.join(map(some, parts)))
+    return shown
+
+
+def counts():
+    """The words of the numbers, also of those that no word has."""
+    return 'words' + ''.join(f' {words_of(number)}' for number in range(255))
 
 
 def vectors():
@@ -461,8 +508,9 @@ def printed(words, length):
 
 
 def stdout():
-    shown = [printed(words, length) for words, length in [vector[1:] for vector in vectors()] + every_number()]
-    return ''.join(line + '\n' for line in shown + [f'{number} {place}' for number, place in REFUSALS] + [WORDS_BEYOND])
+    shown = [printed(words, length) for _, words, length in vectors()] + every_number()
+    refusals = [f'{number} {place}' for number, place in REFUSALS]
+    return ''.join(line + '\n' for line in shown + refusals + [WORDS_BEYOND, heads(), *fills(), counts()])
 
 
 def unused(number):

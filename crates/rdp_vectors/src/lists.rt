@@ -256,8 +256,6 @@ fn keys_and_convert() {
     show_words(&[0x2AFE_DCBA_9876_5432], 8);
     // G_SETKEYR.
     show_words(&[0xEB00_0000_01C0_80FF], 8);
-    // 0x2B, every unused bit set.
-    show_words(&[0xEBFF_FFFF_FABC_1234], 8);
     // G_SETCONVERT: 175, -43, -89, 222, 114, 42 in 9 bits. Document 01 reads them as unsigned.
     show_words(&[0xEC15_FD5D_3B78_E42A], 8);
     // 0x2C, all bits set.
@@ -269,14 +267,10 @@ fn scissor_and_depth() {
     show_words(&[0xED00_0000_0050_03C0], 8);
     // G_SETSCISSOR, odd lines.
     show_words(&[0xED02_8034_034D_837C], 8);
-    // 0x2D, even lines, every unused bit set.
-    show_words(&[0xEDFF_F800_FE80_07FF], 8);
     // The scissor of document 01, 8 by 4.
     show_words(&[0x2D00_0000_0002_0010], 8);
     // G_SETPRIMDEPTH. Document 01 reads both as unsigned.
     show_words(&[0xEE00_0000_8000_FFFF], 8);
-    // 0x2E, every unused bit set.
-    show_words(&[0xEEFF_FFFF_1234_5678], 8);
 }
 
 fn other_modes() {
@@ -298,19 +292,13 @@ fn other_modes() {
 fn loads() {
     // G_LOADTLUT, 256 colours.
     show_words(&[0xF000_0000_073F_C000], 8);
-    // 0x30, every unused bit set.
-    show_words(&[0xF012_3456_FD78_9ABC], 8);
     // G_LOADBLOCK, the four examples of document 003.
     show_words(&[0xF300_0000_077F_F100], 8);
     show_words(&[0xF300_0000_077F_F080], 8);
     show_words(&[0xF300_0000_073F_F100], 8);
     show_words(&[0xF300_0000_07FF_F100], 8);
-    // 0x33, every unused bit set.
-    show_words(&[0xF3AB_CDEF_FA98_7654], 8);
     // G_LOADTILE.
     show_words(&[0xF401_0020_0507_C0FC], 8);
-    // 0x34, every unused bit set.
-    show_words(&[0xF4FF_E001_FE80_1FFF], 8);
 }
 
 fn tile_sizes() {
@@ -318,8 +306,6 @@ fn tile_sizes() {
     show_words(&[0xF200_0000_0007_C07C], 8);
     show_words(&[0xF200_0000_000F_C07C], 8);
     show_words(&[0xF200_0000_0007_C0FC], 8);
-    // 0x32, every unused bit set.
-    show_words(&[0xF265_4321_FBFE_DCBA], 8);
 }
 
 fn tiles() {
@@ -331,8 +317,6 @@ fn tiles() {
     show_words(&[0xF570_1000_0001_4050], 8);
     show_words(&[0xF500_0100_0100_0000], 8);
     show_words(&[0xF540_0800_0009_8060], 8);
-    // 0x35, every unused bit set.
-    show_words(&[0xF5B6_AB55_FEA5_9A5C], 8);
     // 0x35, all bits set.
     show_words(&[0xF5FF_FFFF_FFFF_FFFF], 8);
 }
@@ -342,8 +326,6 @@ fn fills() {
     show_words(&[0xF64F_C3BC_0000_0000], 8);
     // R of document 01: pixels (1,1) to (2,2).
     show_words(&[0x3600_8008_0000_4004], 8);
-    // 0x36, every unused bit set.
-    show_words(&[0xF612_3456_FF78_9ABC], 8);
     // G_SETFILLCOLOR.
     show_words(&[0xF700_0000_0001_0001], 8);
     // C of document 01.
@@ -355,20 +337,12 @@ fn fills() {
 fn colors() {
     // G_SETFOGCOLOR, the example of document 003.
     show_words(&[0xF800_0000_00FF_00FF], 8);
-    // 0x38, every unused bit set.
-    show_words(&[0xF8FF_FFFF_1234_5678], 8);
     // G_SETBLENDCOLOR.
     show_words(&[0xF900_0000_00FF_00FF], 8);
-    // 0x39, every unused bit set.
-    show_words(&[0xF9FF_FFFF_89AB_CDEF], 8);
     // G_SETPRIMCOLOR.
     show_words(&[0xFA00_8040_1234_5678], 8);
-    // 0x3A, every unused bit set.
-    show_words(&[0xFAFF_0180_FEDC_BA98], 8);
     // G_SETENVCOLOR, the example of document 003.
     show_words(&[0xFB00_0000_FF00_008C], 8);
-    // 0x3B, every unused bit set.
-    show_words(&[0xFBFF_FFFF_1357_9BDF], 8);
     // G_SETCOMBINE, the two examples of document 003.
     show_words(&[0xFC12_7FFF_FFFF_F838], 8);
     show_words(&[0xFC12_1824_FF33_FFFF], 8);
@@ -379,18 +353,12 @@ fn colors() {
 fn images() {
     // G_SETTIMG, the example of document 003. Its segment is in unused bits.
     show_words(&[0xFD10_0000_0400_0090], 8);
-    // 0x3D, every unused bit set.
-    show_words(&[0xFDBF_FE34_FF56_789A], 8);
     // G_SETZIMG.
     show_words(&[0xFE00_0000_0E02_5800], 8);
-    // 0x3E, every unused bit set.
-    show_words(&[0xFEFF_FFFF_FF12_3456], 8);
     // G_SETCIMG, 16 bits, 320 wide.
     show_words(&[0xFF10_013F_003D_A800], 8);
     // The colour image of document 01.
     show_words(&[0x3F10_0007_0000_0000], 8);
-    // 0x3F, every unused bit set. Its address has two bits more than the others.
-    show_words(&[0xFF4F_FDCB_FEDC_BA98], 8);
 }
 
 fn refused_lists() {

@@ -195,6 +195,8 @@ fn wrong_numbers() {
     show_made(0x36, &[1, 2, 3, 4, 5]);
     show_made(0x36, &[1, 2, 3, 4096]);
     show_made(0x36, &[1, 2, 3, 0x8000_0000_0000_0000]);
+    show_made(0x2A, &[4096, 0, 0, 0, 0, 0]);
+    show_made(0x32, &[4096, 0, 0, 0, 0]);
     show_made(0x40, &[]);
     show_made(0xFFFF_FFFF, &[]);
 }

@@ -12,7 +12,7 @@ fn byte_of(words: &[u64], i: usize) -> u8 {
     0
 }
 
-fn fill(words: &[u64], out: &mut [u8]) {
+pub fn fill(words: &[u64], out: &mut [u8]) {
     let mut i = 0;
     while i < out.len() {
         out[i] = byte_of(words, i);
@@ -29,7 +29,7 @@ pub fn front(bytes: &[u8], n: usize) -> &[u8] {
 }
 
 // The first n of numbers; all where there are fewer.
-fn front_numbers(numbers: &[u64], n: usize) -> &[u64] {
+pub fn front_numbers(numbers: &[u64], n: usize) -> &[u64] {
     if n <= numbers.len() {
         return &numbers[0..n];
     }
@@ -57,41 +57,60 @@ pub fn show_words(words: &[u64], length: usize) {
     show(front(&list, length));
 }
 
-fn show(list: &[u8]) {
+// Shows the list of a command number with all other bits set.
+pub fn show_ones(number: u8) {
+    let mut list = [255u8; 192];
+    list[0] = 0xC0 | number;
+    show(&list);
+}
+
+// The fields of the first command of a list, and their count; or the refusal.
+pub fn fields_in(list: &[u8], numbers: &mut [u64]) -> Answer {
     match rdp_command::decode(list) {
-        Decoded::Whole(command) => {
-            show_command(list, command);
-        }
-        Decoded::Refused(answer) => {
-            text::print(b"refused");
-            // A list that is refused has no suffix, so that this prints nothing.
-            text::words(rdp_command::suffix(list));
-            text::print(b" ");
-            text::answer(answer);
-        }
+        Decoded::Whole(command) => rdp_command::fields(command, numbers),
+        Decoded::Refused(answer) => answer,
     }
 }
 
-fn show_command(list: &[u8], command: Command) {
-    let first = rdp_command::head_at(list, 0);
-    let number = first.number;
-    text::hex(number as u64, 2);
-    let mut numbers = [0u64; 37];
-    let count = rdp_command::fields(command, &mut numbers).place;
-    show_numbers(
-        number,
-        front_numbers(&numbers, count as usize),
-        list,
-        command,
-    );
+// Encodes the first command of a list.
+fn encode_again(list: &[u8], out: &mut [u8]) -> Answer {
+    match rdp_command::decode(list) {
+        Decoded::Whole(command) => rdp_command::encode(command, rdp_command::suffix(list), out),
+        Decoded::Refused(answer) => answer,
+    }
 }
 
-// The fields, the words with the one after them, and whether the fields give the words back. The output starts with all bits set: it shows that unused
-// bits are cleared and that what follows the command is left.
-fn show_numbers(number: u8, numbers: &[u64], list: &[u8], command: Command) {
+// Encodes the command of a number and its fields.
+fn encode_made(number: u8, numbers: &[u64], suffix: &[u8], out: &mut [u8]) -> Answer {
+    match rdp_command::from_fields(number as u32, numbers) {
+        Decoded::Whole(command) => rdp_command::encode(command, suffix, out),
+        Decoded::Refused(answer) => answer,
+    }
+}
+
+fn show(list: &[u8]) {
+    let mut numbers = [0u64; 37];
+    let read = fields_in(list, &mut numbers);
+    if read.number != 0 {
+        text::print(b"refused");
+        // A list that is refused has no suffix, so that this prints nothing.
+        text::words(rdp_command::suffix(list));
+        text::print(b" ");
+        text::answer(read);
+        return;
+    }
+    show_numbers(list, front_numbers(&numbers, read.place as usize));
+}
+
+// The number and the fields, the words with the one after them, and whether the fields give the words back. The output starts with all bits set: it
+// shows that unused bits are cleared and that what follows the command is left.
+fn show_numbers(list: &[u8], numbers: &[u64]) {
+    let head = rdp_command::head_at(list, 0);
+    let number = head.number;
+    text::hex(number as u64, 2);
     text::numbers(numbers);
     let mut out = [255u8; 184];
-    let answer = rdp_command::encode(command, rdp_command::suffix(list), &mut out);
+    let answer = encode_again(list, &mut out);
     if answer.number != 0 {
         text::print(b" refused ");
         text::answer(answer);
@@ -99,25 +118,16 @@ fn show_numbers(number: u8, numbers: &[u64], list: &[u8], command: Command) {
     }
     text::print(b" =");
     text::words(front(&out, 8 * (answer.place as usize) + 8));
-    show_same(number, numbers, list, &out);
-}
-
-fn show_same(number: u8, numbers: &[u64], list: &[u8], out: &[u8]) {
-    if comes_back(number, numbers, list, out) {
-        text::print(b" same\n");
-    } else {
-        text::print(b" other\n");
-    }
+    show_same(number, numbers, rdp_command::suffix(list), &out);
 }
 
 // Whether the command of a number and its fields is encoded to the same bytes.
-fn comes_back(number: u8, numbers: &[u64], list: &[u8], out: &[u8]) -> bool {
-    match rdp_command::from_fields(number as u32, numbers) {
-        Decoded::Whole(command) => {
-            let mut again = [255u8; 184];
-            rdp_command::encode(command, rdp_command::suffix(list), &mut again);
-            same(out, &again)
-        }
-        Decoded::Refused(_) => false,
+fn show_same(number: u8, numbers: &[u64], suffix: &[u8], out: &[u8]) {
+    let mut again = [255u8; 184];
+    let answer = encode_made(number, numbers, suffix, &mut again);
+    if (answer.number == 0) & same(out, &again) {
+        text::print(b" same\n");
+    } else {
+        text::print(b" other\n");
     }
 }

@@ -30,6 +30,20 @@ pub fn numbers(all: &[u64]) {
     }
 }
 
+// A comma, and the numbers that are not 0, each after its index.
+pub fn some(all: &[u64]) {
+    print(b",");
+    let mut i = 0;
+    while i < all.len() {
+        if all[i] != 0 {
+            number(i as u64);
+            print(b":");
+            number(all[i]);
+        }
+        i += 1;
+    }
+}
+
 // A word, after a space.
 pub fn word(w: u64) {
     print(b" ");

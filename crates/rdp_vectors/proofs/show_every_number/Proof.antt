@@ -13,11 +13,20 @@ abbrev μ-loop : tie.MeasureT-loop
 loop-holds : tie.Need-loop-holds Inv-loop μ-loop
 loop-holds c = search needs
 
+cast-t5 : tie.Need-cast-t5 Inv-loop μ-loop
+cast-t5 c = search needs
+
 slice-aggregate-show-words : tie.Need-slice-aggregate-show-words Inv-loop μ-loop
 slice-aggregate-show-words c = search needs
 
 show-words-requires : tie.Need-show-words-requires Inv-loop μ-loop
 show-words-requires c κs = search needs
+
+show-ones-requires : tie.Need-show-ones-requires Inv-loop μ-loop
+show-ones-requires c κs = search needs
+
+show-base-requires : tie.Need-show-base-requires Inv-loop μ-loop
+show-base-requires c κs = search needs
 
 add-number : tie.Need-add-number Inv-loop μ-loop
 add-number c = search needs
@@ -33,4 +42,17 @@ returns c = search needs
 
 pub show-every-number-spec : {M : Type 1} → statement M
 show-every-number-spec =
-    tie.close (tie.spec Inv-loop μ-loop loop-holds slice-aggregate-show-words show-words-requires add-number loop-less loop-again returns)
+    tie.close
+    (tie.spec
+    Inv-loop
+    μ-loop
+    loop-holds
+    cast-t5
+    slice-aggregate-show-words
+    show-words-requires
+    show-ones-requires
+    show-base-requires
+    add-number
+    loop-less
+    loop-again
+    returns)
