@@ -28,7 +28,10 @@ extern "C" {
 #endif
 
 /* The version of this header: major, minor and patch number, eight bits each. The archive and the header belong together
-   where this equals what lanyardrove_version() answers: compare the two once, before the first call. */
+   where this equals what lanyardrove_version() answers: compare the two once, before the first call.
+   A release steps the major number where a function of the last release is gone, takes other parameters, or answers or
+   writes anything else for some input; else the minor number where a function is added; else the patch number. The numbers
+   after the one that steps become 0. */
 #define LANYARDROVE_VERSION 0x010000
 
 uint32_t lanyardrove_version(void);
@@ -147,7 +150,8 @@ uint64_t lanyardrove_encode(uint32_t number,
  * 0x3E  Set Depth Image          address 24
  * 0x3F  Set Color Image          format 3, size 2, width minus one 10, address 26
  *
- * A command has one word where nothing else is said. x and y are in quarter pixels.
+ * A command has one word where nothing else is said. The x and y of rectangles and of the scissor, and a triangle's yl, ym
+ * and yh, are in quarter pixels. A triangle's x is in pixels: its integer part and its fraction, in parts of 65,536.
  */
 
 #ifdef __cplusplus

@@ -80,7 +80,7 @@ halves = 0x00 ∷ 0x3F ∷ 0xF8 ∷ 0x01 ∷ []
 abbrev pub zeros : ℕ → List ℕ
 zeros n = replicate n 0
 
--- H and I have the paper's two cases each. In I bytes 18-21 and 34-37 become 00 3F F8 01
+-- H has the paper's two cases. In I bytes 18-21 and 34-37 become 00 3F F8 01
 unfoldable pub examples : List Case
 examples =
     -- A, B, C1
