@@ -472,3 +472,368 @@ uint64_t plain_draw(const uint8_t *list, size_t list_length, uint8_t *memory, si
         paint_fills(list, words, &target);
     return judged;
 }
+
+/* All registers: their fields are stored at each command that sets them. */
+
+struct color {
+    bool set;
+    uint8_t red, green, blue, alpha;
+};
+
+struct primitive_color {
+    struct color color;
+    uint8_t min_level, prim_lod_frac;
+};
+
+struct key_gb {
+    bool set;
+    uint16_t width_g, width_b;
+    uint8_t center_g, scale_g, center_b, scale_b;
+};
+
+struct key_r {
+    bool set;
+    uint16_t width_r;
+    uint8_t center_r, scale_r;
+};
+
+struct convert {
+    bool set;
+    uint16_t k0, k1, k2, k3, k4, k5;
+};
+
+struct other_modes {
+    bool set;
+    bool atomic_prim;
+    uint8_t cycle_type;
+    bool persp_tex_en, detail_tex_en, sharpen_tex_en, tex_lod_en, tlut_en, tlut_type, sample_type, mid_texel, bi_lerp_0, bi_lerp_1, convert_one;
+    bool key_en;
+    uint8_t rgb_dither_sel, alpha_dither_sel;
+    uint8_t bl_m1a_0, bl_m1a_1, bl_m1b_0, bl_m1b_1, bl_m2a_0, bl_m2a_1, bl_m2b_0, bl_m2b_1;
+    bool force_blend, alpha_cvg_select, cvg_x_alpha;
+    uint8_t z_mode, cvg_dest;
+    bool color_on_cvg, image_read_en, z_update_en, z_compare_en, antialias_en, z_source_sel, dither_alpha_en, alpha_compare_en;
+};
+
+struct depth {
+    bool set;
+    uint16_t z, dz;
+};
+
+struct scissor {
+    bool set;
+    uint16_t left, top, right, bottom;
+    bool field, odd;
+};
+
+struct image {
+    bool set;
+    uint8_t format, size;
+    uint16_t width;
+    uint32_t address;
+};
+
+struct tile {
+    bool set;
+    uint8_t format, size;
+    uint16_t line, address;
+    uint8_t index, palette;
+    bool clamp_t, mirror_t;
+    uint8_t mask_t, shift_t;
+    bool clamp_s, mirror_s;
+    uint8_t mask_s, shift_s;
+    bool sized;
+    uint16_t left, top, right, bottom;
+};
+
+struct all_registers {
+    bool fill_set;
+    uint32_t fill;
+    struct color fog, blend, environment;
+    struct primitive_color primitive;
+    bool combine_set;
+    uint64_t combine;
+    struct key_gb key_gb;
+    struct key_r key_r;
+    struct convert convert;
+    struct other_modes modes;
+    struct depth depth;
+    struct scissor scissor;
+    struct image color_image, texture_image;
+    bool depth_image_set;
+    uint32_t depth_image;
+    struct tile tiles[8];
+};
+
+static bool bit(uint64_t word, unsigned at)
+{
+    return bits(word, at, at);
+}
+
+static struct color color_of(uint64_t w)
+{
+    return (struct color){true, bits(w, 31, 24), bits(w, 23, 16), bits(w, 15, 8), bits(w, 7, 0)};
+}
+
+static struct image image_of(uint64_t w, unsigned address_high)
+{
+    return (struct image){true, bits(w, 55, 53), bits(w, 52, 51), bits(w, 41, 32), bits(w, address_high, 0)};
+}
+
+static struct other_modes modes_of(uint64_t w)
+{
+    return (struct other_modes){
+        .set = true,
+        .atomic_prim = bit(w, 55),
+        .cycle_type = bits(w, 53, 52),
+        .persp_tex_en = bit(w, 51),
+        .detail_tex_en = bit(w, 50),
+        .sharpen_tex_en = bit(w, 49),
+        .tex_lod_en = bit(w, 48),
+        .tlut_en = bit(w, 47),
+        .tlut_type = bit(w, 46),
+        .sample_type = bit(w, 45),
+        .mid_texel = bit(w, 44),
+        .bi_lerp_0 = bit(w, 43),
+        .bi_lerp_1 = bit(w, 42),
+        .convert_one = bit(w, 41),
+        .key_en = bit(w, 40),
+        .rgb_dither_sel = bits(w, 39, 38),
+        .alpha_dither_sel = bits(w, 37, 36),
+        .bl_m1a_0 = bits(w, 31, 30),
+        .bl_m1a_1 = bits(w, 29, 28),
+        .bl_m1b_0 = bits(w, 27, 26),
+        .bl_m1b_1 = bits(w, 25, 24),
+        .bl_m2a_0 = bits(w, 23, 22),
+        .bl_m2a_1 = bits(w, 21, 20),
+        .bl_m2b_0 = bits(w, 19, 18),
+        .bl_m2b_1 = bits(w, 17, 16),
+        .force_blend = bit(w, 14),
+        .alpha_cvg_select = bit(w, 13),
+        .cvg_x_alpha = bit(w, 12),
+        .z_mode = bits(w, 11, 10),
+        .cvg_dest = bits(w, 9, 8),
+        .color_on_cvg = bit(w, 7),
+        .image_read_en = bit(w, 6),
+        .z_update_en = bit(w, 5),
+        .z_compare_en = bit(w, 4),
+        .antialias_en = bit(w, 3),
+        .z_source_sel = bit(w, 2),
+        .dither_alpha_en = bit(w, 1),
+        .alpha_compare_en = bit(w, 0),
+    };
+}
+
+static void describe(struct tile *tile, uint64_t w)
+{
+    tile->set = true;
+    tile->format = bits(w, 55, 53);
+    tile->size = bits(w, 52, 51);
+    tile->line = bits(w, 49, 41);
+    tile->address = bits(w, 40, 32);
+    tile->index = bits(w, 26, 24);
+    tile->palette = bits(w, 23, 20);
+    tile->clamp_t = bit(w, 19);
+    tile->mirror_t = bit(w, 18);
+    tile->mask_t = bits(w, 17, 14);
+    tile->shift_t = bits(w, 13, 10);
+    tile->clamp_s = bit(w, 9);
+    tile->mirror_s = bit(w, 8);
+    tile->mask_s = bits(w, 7, 4);
+    tile->shift_s = bits(w, 3, 0);
+}
+
+static void resize(struct tile *tile, uint64_t w)
+{
+    tile->sized = true;
+    tile->left = bits(w, 55, 44);
+    tile->top = bits(w, 43, 32);
+    tile->right = bits(w, 23, 12);
+    tile->bottom = bits(w, 11, 0);
+}
+
+static void set(struct all_registers *all, unsigned number, uint64_t w)
+{
+    switch (number) {
+    case 0x2A:
+        all->key_gb = (struct key_gb){true, bits(w, 55, 44), bits(w, 43, 32), bits(w, 31, 24), bits(w, 23, 16), bits(w, 15, 8), bits(w, 7, 0)};
+        break;
+    case 0x2B:
+        all->key_r = (struct key_r){true, bits(w, 27, 16), bits(w, 15, 8), bits(w, 7, 0)};
+        break;
+    case 0x2C:
+        all->convert = (struct convert){true, bits(w, 53, 45), bits(w, 44, 36), bits(w, 35, 27), bits(w, 26, 18), bits(w, 17, 9), bits(w, 8, 0)};
+        break;
+    case 0x2D:
+        all->scissor = (struct scissor){true, bits(w, 55, 44), bits(w, 43, 32), bits(w, 23, 12), bits(w, 11, 0), bit(w, 25), bit(w, 24)};
+        break;
+    case 0x2E:
+        all->depth = (struct depth){true, bits(w, 31, 16), bits(w, 15, 0)};
+        break;
+    case 0x2F:
+        all->modes = modes_of(w);
+        break;
+    case 0x30: case 0x32: case 0x33: case 0x34:
+        resize(&all->tiles[bits(w, 26, 24)], w);
+        break;
+    case 0x35:
+        describe(&all->tiles[bits(w, 26, 24)], w);
+        break;
+    case 0x37:
+        all->fill_set = true;
+        all->fill = bits(w, 31, 0);
+        break;
+    case 0x38:
+        all->fog = color_of(w);
+        break;
+    case 0x39:
+        all->blend = color_of(w);
+        break;
+    case 0x3A:
+        all->primitive = (struct primitive_color){color_of(w), bits(w, 47, 40), bits(w, 39, 32)};
+        break;
+    case 0x3B:
+        all->environment = color_of(w);
+        break;
+    case 0x3C:
+        all->combine_set = true;
+        all->combine = bits(w, 55, 0);
+        break;
+    case 0x3D:
+        all->texture_image = image_of(w, 23);
+        break;
+    case 0x3E:
+        all->depth_image_set = true;
+        all->depth_image = bits(w, 23, 0);
+        break;
+    case 0x3F:
+        all->color_image = image_of(w, 25);
+        break;
+    }
+}
+
+/* The registers after the commands before a place. */
+static struct all_registers replay(const uint8_t *list, size_t end)
+{
+    struct all_registers all = {0};
+    for (size_t at = 0; at < end;) {
+        const uint8_t *command = list + 8 * at;
+        unsigned number = number_at(command);
+        set(&all, number, word_at(command));
+        at += words_in(number);
+    }
+    return all;
+}
+
+/* All registers as one number, as crates/rdp_bench/specs/Mixed.antt says: values side by side, and these joined. */
+
+static uint64_t flags(bool a, bool b, bool c, bool d)
+{
+    return (uint64_t)a ^ (uint64_t)b << 1 ^ (uint64_t)c << 2 ^ (uint64_t)d << 3;
+}
+
+static uint64_t bytes(uint8_t a, uint8_t b, uint8_t c, uint8_t d)
+{
+    return (uint64_t)a ^ (uint64_t)b << 8 ^ (uint64_t)c << 16 ^ (uint64_t)d << 24;
+}
+
+static uint64_t halves(uint16_t a, uint16_t b, uint16_t c, uint16_t d)
+{
+    return (uint64_t)a ^ (uint64_t)b << 16 ^ (uint64_t)c << 32 ^ (uint64_t)d << 48;
+}
+
+static uint64_t turned(uint64_t x, unsigned left)
+{
+    return x << left | x >> (64 - left);
+}
+
+static uint64_t join(uint64_t a, uint64_t b, uint64_t c, uint64_t d, uint64_t e)
+{
+    return a ^ turned(b, 13) ^ turned(c, 26) ^ turned(d, 39) ^ turned(e, 52);
+}
+
+static uint64_t mixed_color(const struct color *c)
+{
+    return join(c->set, bytes(c->red, c->green, c->blue, c->alpha), 0, 0, 0);
+}
+
+static uint64_t mixed_colors(const struct all_registers *all)
+{
+    const struct primitive_color *p = &all->primitive;
+    const struct color *c = &p->color;
+    uint64_t primitive = join(c->set, bytes(p->min_level, p->prim_lod_frac, 0, 0), bytes(c->red, c->green, c->blue, c->alpha), 0, 0);
+    uint64_t fill = all->fill_set ^ (uint64_t)all->fill << 8;
+    return join(fill, mixed_color(&all->fog), mixed_color(&all->blend), primitive, mixed_color(&all->environment));
+}
+
+static uint64_t mixed_combiner(const struct all_registers *all)
+{
+    const struct key_gb *gb = &all->key_gb;
+    const struct key_r *r = &all->key_r;
+    const struct convert *k = &all->convert;
+    uint64_t key_gb = join(gb->set, halves(gb->width_g, gb->width_b, 0, 0), bytes(gb->center_g, gb->scale_g, gb->center_b, gb->scale_b), 0, 0);
+    uint64_t key_r = join(r->set, halves(r->width_r, 0, 0, 0), bytes(r->center_r, r->scale_r, 0, 0), 0, 0);
+    uint64_t convert = join(k->set, halves(k->k0, k->k1, k->k2, k->k3), halves(k->k4, k->k5, 0, 0), 0, 0);
+    return join(all->combine_set ^ all->combine << 8, key_gb, key_r, convert, 0);
+}
+
+static uint64_t mixed_other_modes(const struct other_modes *m)
+{
+    uint64_t own = flags(m->set, m->atomic_prim, m->key_en, false);
+    uint64_t types = bytes(m->cycle_type, m->rgb_dither_sel, m->alpha_dither_sel, 0);
+    uint64_t texture = join(
+        flags(m->persp_tex_en, m->detail_tex_en, m->sharpen_tex_en, m->tex_lod_en),
+        flags(m->tlut_en, m->tlut_type, m->sample_type, m->mid_texel),
+        flags(m->bi_lerp_0, m->bi_lerp_1, m->convert_one, false), 0, 0);
+    uint64_t blender = join(
+        bytes(m->bl_m1a_0, m->bl_m1a_1, m->bl_m1b_0, m->bl_m1b_1),
+        bytes(m->bl_m2a_0, m->bl_m2a_1, m->bl_m2b_0, m->bl_m2b_1), 0, 0, 0);
+    uint64_t pixel = join(
+        flags(m->force_blend, m->alpha_cvg_select, m->cvg_x_alpha, m->color_on_cvg),
+        flags(m->image_read_en, m->z_update_en, m->z_compare_en, m->antialias_en),
+        flags(m->z_source_sel, m->dither_alpha_en, m->alpha_compare_en, false),
+        bytes(m->z_mode, m->cvg_dest, 0, 0), 0);
+    return join(own, types, texture, blender, pixel);
+}
+
+static uint64_t mixed_modes(const struct all_registers *all)
+{
+    const struct depth *d = &all->depth;
+    const struct scissor *s = &all->scissor;
+    uint64_t depth = join(d->set, halves(d->z, d->dz, 0, 0), 0, 0, 0);
+    uint64_t scissor = join(flags(s->set, s->field, s->odd, false), halves(s->left, s->top, s->right, s->bottom), 0, 0, 0);
+    return join(mixed_other_modes(&all->modes), depth, scissor, 0, 0);
+}
+
+static uint64_t mixed_image(const struct image *i)
+{
+    return i->set ^ (uint64_t)i->format << 9 ^ (uint64_t)i->size << 18 ^ (uint64_t)i->width << 27 ^ (uint64_t)i->address << 36;
+}
+
+static uint64_t mixed_images(const struct all_registers *all)
+{
+    uint64_t depth = all->depth_image_set ^ (uint64_t)all->depth_image << 8;
+    return join(mixed_image(&all->color_image), mixed_image(&all->texture_image), depth, 0, 0);
+}
+
+static uint64_t mixed_tile(uint64_t before, const struct tile *t)
+{
+    uint64_t descriptor = join(
+        bytes(t->format, t->size, t->index, t->palette),
+        halves(t->line, t->address, 0, 0),
+        flags(t->clamp_t, t->mirror_t, t->clamp_s, t->mirror_s),
+        bytes(t->mask_t, t->shift_t, t->mask_s, t->shift_s), 0);
+    return join(flags(t->set, t->sized, false, false), descriptor, halves(t->left, t->top, t->right, t->bottom), before, 0);
+}
+
+uint64_t plain_registers(const uint8_t *list, size_t list_length)
+{
+    uint64_t checked = plain_check(list, list_length);
+    uint64_t number = checked >> 56;
+    uint64_t place = (uint32_t)checked;
+    struct all_registers all = replay(list, number == 1 || number == 2 ? 0 : place);
+    uint64_t mixed = 0;
+    for (size_t i = 0; i < 8; i++)
+        mixed = mixed_tile(mixed, &all.tiles[i]);
+    return join(number ^ place << 32 ^ mixed, mixed_colors(&all), mixed_combiner(&all), mixed_modes(&all), mixed_images(&all));
+}

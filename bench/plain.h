@@ -1,4 +1,4 @@
-/* The plain C version of check, repair and draw, against which the library is measured. The functions take and answer what the library's do. */
+/* The plain C version, against which the library is measured. The functions take and answer what the library's do. */
 #ifndef PLAIN_H
 #define PLAIN_H
 
@@ -9,5 +9,8 @@
 uint64_t plain_check(const uint8_t *list, size_t list_length);
 uint64_t plain_repair(const uint8_t *list, size_t list_length, uint8_t *work, size_t work_length, uint8_t *out, size_t out_length);
 uint64_t plain_draw(const uint8_t *list, size_t list_length, uint8_t *memory, size_t memory_length, uint64_t start);
+
+/* The check's answer and the registers after a list, as one number: what lanyardrove_bench_registers of crates/rdp_bench answers. */
+uint64_t plain_registers(const uint8_t *list, size_t list_length);
 
 #endif

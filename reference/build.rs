@@ -1,30 +1,40 @@
 //! With the features `compare` and `bench`, links the archive `liblanyardrove.a`
 //! from the folder that the environment variable LANYARDROVE_LIB names. With the
-//! features `plain` and `bench`, compiles and links the plain C version.
+//! features `registers` and `bench`, links `librdp_bench.a` from the folder that
+//! LANYARDROVE_BENCH_LIB names. With the features `plain`, `registers` and `bench`,
+//! compiles and links the plain C version.
 //!
-//! The archive may itself be written in Rust and then carries a panic handler or
-//! parts of the standard library under the names that this program uses too. So
-//! its objects are first joined into one, in which only the C functions keep
-//! their outside names.
+//! An archive may itself be written in Rust and then carries a panic handler or
+//! parts of the standard library under the names that this program uses too, and
+//! the two archives carry the same layers. So an archive's objects are first joined
+//! into one, in which only the C functions keep their outside names.
 
 use std::env;
 use std::path::{Path, PathBuf};
 use std::process::Command;
 
-const FUNCTIONS: [&str; 5] = [
+const FUNCTIONS: &[&str] = &[
     "lanyardrove_check",
     "lanyardrove_repair",
     "lanyardrove_draw",
     "lanyardrove_decode",
     "lanyardrove_encode",
 ];
+const BENCH_FUNCTIONS: &[&str] = &["lanyardrove_bench_registers"];
 
 fn main() {
     println!("cargo:rerun-if-changed=build.rs");
     println!("cargo:rerun-if-env-changed=LANYARDROVE_LIB");
+    println!("cargo:rerun-if-env-changed=LANYARDROVE_BENCH_LIB");
     println!("cargo:rerun-if-env-changed=CC");
     if has_feature("COMPARE") || has_feature("BENCH") {
-        link_archive();
+        let object = sealed("LANYARDROVE_LIB", "lanyardrove", FUNCTIONS);
+        link_into_programs(&["compare", "bench"], &object);
+    }
+    if has_feature("REGISTERS") {
+        let object = sealed("LANYARDROVE_BENCH_LIB", "rdp_bench", BENCH_FUNCTIONS);
+        link_into_programs(&["bench"], &object);
+        link_into_tests(&object);
     }
     if has_feature("PLAIN") {
         link_plain();
@@ -43,30 +53,35 @@ fn output(name: &str) -> PathBuf {
     Path::new(&env::var("OUT_DIR").expect("cargo names a folder")).join(name)
 }
 
-fn link_archive() {
-    let folder =
-        env::var("LANYARDROVE_LIB").expect("LANYARDROVE_LIB names the folder of liblanyardrove.a");
-    let archive = Path::new(&folder).join("liblanyardrove.a");
-    let object = output("lanyardrove.o");
-    println!("cargo:rerun-if-changed={}", archive.display());
-    seal(&archive, &object);
-    for program in ["compare", "bench"] {
+fn link_into_programs(programs: &[&str], object: &Path) {
+    for program in programs {
         println!("cargo:rustc-link-arg-bin={program}={}", object.display());
     }
 }
 
-/// Joins the archive's objects into one that offers the C functions alone.
-fn seal(archive: &Path, object: &Path) {
+fn link_into_tests(object: &Path) {
+    println!("cargo:rustc-link-arg-tests={}", object.display());
+}
+
+/// An archive's objects joined into one that offers these functions alone. The
+/// environment variable names the archive's folder.
+fn sealed(variable: &str, name: &str, functions: &[&str]) -> PathBuf {
+    let folder = env::var(variable);
+    let folder = folder.unwrap_or_else(|_| panic!("{variable} names the folder of lib{name}.a"));
+    let archive = Path::new(&folder).join(format!("lib{name}.a"));
+    let object = output(&format!("{name}.o"));
+    println!("cargo:rerun-if-changed={}", archive.display());
     let mut join = Command::new("ld");
     join.args(["-r", "--force-group-allocation", "-o"])
-        .arg(object);
+        .arg(&object);
     let mut hide = Command::new("objcopy");
-    for function in FUNCTIONS {
+    for function in functions {
         join.args(["-u", function]);
         hide.args(["--keep-global-symbol", function]);
     }
     run(join.arg(archive));
-    run(hide.arg(object));
+    run(hide.arg(&object));
+    object
 }
 
 fn link_plain() {
@@ -77,8 +92,8 @@ fn link_plain() {
     run(Command::new(c_compiler())
         .args(["-O2", "-Wall", "-Wextra", "-c", source, "-o"])
         .arg(&object));
-    println!("cargo:rustc-link-arg-bin=bench={}", object.display());
-    println!("cargo:rustc-link-arg-tests={}", object.display());
+    link_into_programs(&["bench"], &object);
+    link_into_tests(&object);
 }
 
 fn c_compiler() -> String {

@@ -10,6 +10,7 @@ pub mod foreign;
 pub mod laws;
 pub mod lent;
 pub mod lists;
+pub mod mixed;
 pub mod rng;
 pub mod run;
 pub mod scenes;

@@ -102,10 +102,25 @@ const QUIET: &[u8] = &[
 ];
 
 pub fn quiet(length: usize) -> Vec<u8> {
-    let mut rng = Rng::new(1);
+    one_word_commands(1, QUIET, length)
+}
+
+/// Every command that sets a register or a tile.
+const SETTERS: &[u8] = &[
+    0x2A, 0x2B, 0x2C, 0x2D, 0x2E, 0x2F, 0x30, 0x32, 0x33, 0x34, 0x35, 0x37, 0x38, 0x39, 0x3A, 0x3B,
+    0x3C, 0x3D, 0x3E, 0x3F,
+];
+
+pub fn setters(length: usize) -> Vec<u8> {
+    one_word_commands(8, SETTERS, length)
+}
+
+/// Commands of these numbers, with random bits.
+fn one_word_commands(seed: u64, numbers: &[u8], length: usize) -> Vec<u8> {
+    let mut rng = Rng::new(seed);
     let list: Vec<u64> = (0..length)
         .map(|_| {
-            let number = rng.pick(QUIET);
+            let number = rng.pick(numbers);
             random(&mut rng, number)[0]
         })
         .collect();

@@ -34,7 +34,7 @@ fn main() -> ExitCode {
 /// The versions in their order, and memset where the row draws.
 fn measure(row: &Row) -> Vec<Measured> {
     let mut turns: Vec<Turn> = Vec::new();
-    for (_, version) in VERSIONS {
+    for version in &VERSIONS {
         turns.push(Box::new(move |buffers| row.call(version, buffers)));
     }
     if let Job::Draw(runs) = &row.job {

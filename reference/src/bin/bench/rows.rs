@@ -3,10 +3,11 @@
 use std::ops::Range;
 
 use crate::lists::{self, Pixels, Rectangle, HEIGHT, WIDTH};
-use reference::comparison::side::Side;
+use crate::versions::Version;
 
 pub enum Job {
     Check,
+    Registers,
     Repair,
     /// Drawing, with the runs of bytes that the list paints.
     Draw(Vec<Range<usize>>),
@@ -20,11 +21,13 @@ pub struct Row {
 
 impl Row {
     /// One call by a version.
-    pub fn call(&self, version: &dyn Side, buffers: &mut Buffers) -> u64 {
+    pub fn call(&self, version: &Version, buffers: &mut Buffers) -> u64 {
+        let side = version.side;
         match self.job {
-            Job::Check => version.check(&self.list),
-            Job::Repair => version.repair(&self.list, &mut buffers.work, &mut buffers.out),
-            Job::Draw(_) => version.draw(&self.list, buffers.memory(), 0),
+            Job::Check => side.check(&self.list),
+            Job::Registers => (version.registers)(&self.list),
+            Job::Repair => side.repair(&self.list, &mut buffers.work, &mut buffers.out),
+            Job::Draw(_) => side.draw(&self.list, buffers.memory(), 0),
         }
     }
 }
@@ -68,6 +71,7 @@ pub fn rows() -> Vec<Row> {
     rows.extend(LENGTHS.map(|length| check("quiet commands", lists::quiet(length))));
     rows.extend(LENGTHS.map(|length| check("a game's mix", lists::mixed(length))));
     rows.push(check("long triangles", lists::triangles(4_096)));
+    rows.extend(LENGTHS.map(|length| registers(lists::setters(length))));
     rows.push(repair(lists::needy(2_048)));
     rows.extend(large_draws());
     rows.extend(small_draws());
@@ -81,6 +85,14 @@ fn check(what: &str, list: Vec<u8>) -> Row {
         name: format!("check, {what}, {} words", list.len() / 8),
         list,
         job: Job::Check,
+    }
+}
+
+fn registers(list: Vec<u8>) -> Row {
+    Row {
+        name: format!("registers, setters, {} words", list.len() / 8),
+        list,
+        job: Job::Registers,
     }
 }
 

@@ -1,8 +1,17 @@
 //! The three versions that are measured.
 
-use reference::comparison::foreign::Foreign;
+use reference::comparison::foreign::{Check, Foreign};
+use reference::comparison::mixed;
 use reference::comparison::side::{Reference, Side};
 use reference::foreign;
+
+pub struct Version {
+    pub name: &'static str,
+    pub side: &'static dyn Side,
+    /// The registers after a list as one number, which crosses no C function of
+    /// the library.
+    pub registers: fn(&[u8]) -> u64,
+}
 
 /// The proved library.
 static LIBRARY: Foreign = foreign!(lanyardrove_check, lanyardrove_repair, lanyardrove_draw);
@@ -10,7 +19,31 @@ static LIBRARY: Foreign = foreign!(lanyardrove_check, lanyardrove_repair, lanyar
 /// The plain C version.
 static PLAIN: Foreign = foreign!(plain_check, plain_repair, plain_draw);
 
-/// The versions with their names, in the order of the table's columns. The second
-/// is this crate.
-pub const VERSIONS: [(&str, &dyn Side); 3] =
-    [("library", &LIBRARY), ("Rust", &Reference), ("C", &PLAIN)];
+extern "C" {
+    fn lanyardrove_bench_registers(list: *const u8, list_length: usize) -> u64;
+    fn plain_registers(list: *const u8, list_length: usize) -> u64;
+}
+
+/// A function of C that reads a list.
+fn read(function: Check, list: &[u8]) -> u64 {
+    unsafe { function(list.as_ptr(), list.len()) }
+}
+
+/// The versions in the order of the table's columns. The second is this crate.
+pub const VERSIONS: [Version; 3] = [
+    Version {
+        name: "library",
+        side: &LIBRARY,
+        registers: |list| read(lanyardrove_bench_registers, list),
+    },
+    Version {
+        name: "Rust",
+        side: &Reference,
+        registers: mixed::registers,
+    },
+    Version {
+        name: "C",
+        side: &PLAIN,
+        registers: |list| read(plain_registers, list),
+    },
+];
