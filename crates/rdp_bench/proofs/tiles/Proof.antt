@@ -1,6 +1,7 @@
 -- `rdp_bench::tiles` meets its contract: what is mixed in so far, with the tiles still to come, is all.
-use Prim.Native.Nat.{ℕ, suc, _+_, _-_, _<_, _≤_}
+use Prim.Native.Nat.{_-_, _<_, _≤_}
 use mathlib.Core.Path.{_≡_, sym, _∙_}
+use native.Mathlib.Numerals.{add-one}
 use native.Mathlib.Omega.{arith}
 use lib.ListN.{length, drop}
 use borrow.Author.Needs.{needs}
@@ -35,9 +36,6 @@ loop-less c = search needs
 
 in-tiles : (c : tie.After-tile Inv-loop μ-loop) → c .before .before .before .loop .i < length (c .before .before .before .before .args .t1)
 in-tiles c = search (needs, c .before .before .loop-test .taken)
-
-add-one : (i : ℕ) → i + 1 ≡ suc i
-add-one i = omega arith
 
 loop-again : tie.Need-loop-again Inv-loop μ-loop
 loop-again c = (
