@@ -314,14 +314,13 @@ pub extern "C" fn lanyardrove_bench_registers(list: &[u8]) -> u64
     ensures { λ r. ⌜ r ≡ mixedOf (listStateOf (now (list .entry))) ⌝ }
 {
     let state = rdp_check::registers_after(list);
-    let q = state.registers;
-    let eight = q.tiles;
+    let eight = state.registers.tiles;
     let h = answer(state.number, state.place) ^ tiles(eight);
     join(
         h,
-        colors(q.colors),
-        combiner(q.combiner),
-        modes(q.modes),
-        images(q.images),
+        colors(state.registers.colors),
+        combiner(state.registers.combiner),
+        modes(state.registers.modes),
+        images(state.registers.images),
     )
 }

@@ -34,7 +34,7 @@ returns : tie.Need-returns
 returns c =
     c .join .ensures ∙
     (λ i. joined (bitXor (c .before .before .before .before .before .before .answer .ensures i) (c .before .before .before .before .before .tiles .ensures i)) (c .before .before .before .before .colors .ensures i) (c .before .before .before .combiner .ensures i) (c .before .before .modes .ensures i) (c .before .images .ensures i)) ∙
-    ap mixedOf (c .before .before .before .before .before .before .before .before .before .registers-after .ensures)
+    ap mixedOf (c .before .before .before .before .before .before .before .before .registers-after .ensures)
 
 pub lanyardrove-bench-registers-spec : {M : Type 1} → statement M
 lanyardrove-bench-registers-spec =
