@@ -420,7 +420,12 @@ pub fn word_at(list: &[u8], place: usize) -> u64
 pub fn head_at(list: &[u8], place: usize) -> Head
     ensures { λ r. ⌜ r ≡ headOf (wordAt (now (list .entry)) place) ⌝ }
 {
-    read::head(word_at(list, place))
+    let w = word_at(list, place);
+    Head {
+        number: words::number_in(w),
+        cycle_type: read::cycle_type(w),
+        image_size: ((w >> 51) % 0x4) as u8,
+    }
 }
 
 // A fill rectangle by its word, with the fields of the words that set what it is drawn under.

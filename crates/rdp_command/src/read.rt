@@ -5,8 +5,7 @@ ghost use Prim.Native.Nat.{_*_, _<_, _≤_};
 ghost use Rattle.rdp_command.specs.Layout.{edgeLines, triangleBaseLines, textureStepLines, texturedRectangleLines, keyGbLines, keyRLines, convertLines, scissorLines, primitiveDepthLines, textureModesLines, blenderInputsLines, pixelModesLines, otherModesLines, tileAreaLines, blockLines, tileDescriptorLines, rectangleLines, colorLines, primitiveColorLines, combineModeLines, imageLines, depthImageLines, colorImageLines};
 ghost use Rattle.rdp_command.specs.Fields.{twosComplement, fieldsOf};
 ghost use Rattle.rdp_command.specs.Groups.{natAt, edgeOf, triangleBaseOf, textureStepOf, texturedRectangleOf, keyGbOf, keyROf, convertOf, scissorOf, primitiveDepthOf, textureModesOf, blenderInputsOf, pixelModesOf, otherModesOf, tileAreaOf, blockOf, tileDescriptorOf, rectangleOf, colorOf, primitiveColorOf, imageOf};
-ghost use Rattle.rdp_command.specs.Reads.{cycleTypeIn, fillColorIn, headOf};
-use crate::words::number_in;
+ghost use Rattle.rdp_command.specs.Reads.{cycleTypeIn, fillColorIn};
 use crate::*;
 
 // A two's complement number, where half is 2 to its bits less one.
@@ -346,15 +345,4 @@ pub fn cycle_type(w: u64) -> u8
     ensures { λ r. ⌜ r ≡ cycleTypeIn w ⌝ }
 {
     ((w >> 52) % 0x4) as u8
-}
-
-// What the check reads of a word.
-pub fn head(w: u64) -> Head
-    ensures { λ r. ⌜ r ≡ headOf w ⌝ }
-{
-    Head {
-        number: number_in(w),
-        cycle_type: cycle_type(w),
-        image_size: ((w >> 51) % 0x4) as u8,
-    }
 }

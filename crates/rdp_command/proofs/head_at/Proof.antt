@@ -7,11 +7,21 @@ use Rattle.rdp_command.proofs.head_at.Tie as tie
 word-at-requires : tie.Need-word-at-requires
 word-at-requires c κs = search needs
 
-head-requires : tie.Need-head-requires
-head-requires c κs = search needs
+number-in-requires : tie.Need-number-in-requires
+number-in-requires c κs = search needs
+
+cycle-type-requires : tie.Need-cycle-type-requires
+cycle-type-requires c κs = search needs
+
+cast-t8 : tie.Need-cast-t8
+cast-t8 c = search needs
 
 returns : tie.Need-returns
-returns c = c .head .ensures ∙ ap headOf (c .before .word-at .ensures)
+returns c =
+    let w = c .before .before .word-at .result in
+    (λ i. record { number = c .before .number-in .ensures i; «cycle_type» = c .cycle-type .ensures i; «image_size» = headOf w .«image_size» }) ∙
+    ap headOf (c .before .before .word-at .ensures)
 
 pub head-at-spec : {M : Type 1} → statement M
-head-at-spec = tie.close (tie.spec word-at-requires head-requires returns)
+head-at-spec =
+    tie.close (tie.spec word-at-requires number-in-requires cycle-type-requires cast-t8 returns)
