@@ -15,6 +15,7 @@ use Rattle.rdp_command.specs.declared.Command.the-variants.{FillTriangle
 use Rattle.rdp_command.specs.declared.Decoded.the-variants.{Whole}
 use Rattle.rdp_command.specs.declared.TriangleBase.{TriangleBase}
 use Rattle.rdp_command.specs.declared.TexturedRectangle.{TexturedRectangle}
+use Rattle.rdp_command.proofs.CommandLaws.{one-word}
 use Rattle.rdp_command.proofs.AnswerLaws.{whole, decoded-is}
 use Rattle.rdp_command.proofs.Laws.{number-decoded}
 
@@ -35,24 +36,19 @@ module _ (bs : List ℕ) {c : Command} (d : decodeOf bs ≡ Whole c) where
   at-number n e = decoded-is bs d ∙ ap (λ (k : ℕ). commandIn k (ownWords bs (wholeWords bs))) e
 
   pub reads-other-modes : firstNumber bs ≡ 0x2F → c ≡ SetOtherModes (otherModesIn (wordAt bs 0))
-  unfolding commandOf layout
-  reads-other-modes e = at-number 0x2F e
+  reads-other-modes e = at-number 0x2F e ∙ one-word (ownWords bs (wholeWords bs)) .other-modes
 
   pub reads-scissor : firstNumber bs ≡ 0x2D → c ≡ SetScissor (scissorIn (wordAt bs 0))
-  unfolding commandOf layout
-  reads-scissor e = at-number 0x2D e
+  reads-scissor e = at-number 0x2D e ∙ one-word (ownWords bs (wholeWords bs)) .scissor
 
   pub reads-rectangle : firstNumber bs ≡ 0x36 → c ≡ FillRectangle (rectangleIn (wordAt bs 0))
-  unfolding commandOf layout
-  reads-rectangle e = at-number 0x36 e
+  reads-rectangle e = at-number 0x36 e ∙ one-word (ownWords bs (wholeWords bs)) .fill-rectangle
 
   pub reads-fill-color : firstNumber bs ≡ 0x37 → c ≡ SetFillColor (fillColorIn (wordAt bs 0))
-  unfolding commandOf layout
-  reads-fill-color e = at-number 0x37 e
+  reads-fill-color e = at-number 0x37 e ∙ one-word (ownWords bs (wholeWords bs)) .fill-color
 
   pub reads-color-image : firstNumber bs ≡ 0x3F → c ≡ SetColorImage (colorImageIn (wordAt bs 0))
-  unfolding commandOf layout
-  reads-color-image e = at-number 0x3F e
+  reads-color-image e = at-number 0x3F e ∙ one-word (ownWords bs (wholeWords bs)) .color-image
 
   pub reads-triangle : firstNumber bs / 8 ≡ 1 → (g : TriangleBase) × (c ≡ FillTriangle g)
   unfolding commandOf
