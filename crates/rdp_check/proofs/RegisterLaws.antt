@@ -11,9 +11,9 @@ use lib.ListN.{length, getD, set, take, replicate, length-set}
 use lib.Seq.{getD-set-same, getD-set-other, set-set, set-comm}
 use Rattle.rdp_command.specs.Words.{wordAt, numberIn}
 use Rattle.rdp_command.specs.Kinds.{among, wordsOf}
-use Rattle.rdp_command.specs.Layout.{layout, tileAreaLines, tileDescriptorLines}
+use Rattle.rdp_command.specs.Layout.{tileAreaLines, tileDescriptorLines}
 use Rattle.rdp_command.specs.Groups.{tileAreaOf, tileDescriptorOf}
-use Rattle.rdp_command.specs.Commands.{commandOf, numberOf}
+use Rattle.rdp_command.specs.Commands.{numberOf}
 use Rattle.rdp_command.specs.Reads.{fieldsIn, cycleTypeIn, scissorIn, fillColorIn, colorImageIn}
 use Rattle.rdp_command.specs.Decode.{firstNumber, wholeWords, ownWords, commandIn, decodeOf}
 use Rattle.rdp_command.specs.declared.TileDescriptor.{TileDescriptor}
@@ -22,6 +22,7 @@ use Rattle.rdp_command.specs.declared.Command.{Command}
 use Rattle.rdp_command.specs.declared.Command.the-variants.{NoOperation, FillTriangle, TextureRectangle, TextureRectangleFlip, SyncLoad, SyncPipe, SyncTile, SyncFull, SetKeyGb, SetKeyR, SetConvert, SetScissor, SetPrimitiveDepth, SetOtherModes, LoadTlut, SetTileSize, LoadBlock, LoadTile, SetTile, FillRectangle, SetFillColor, SetFogColor, SetBlendColor, SetPrimitiveColor, SetEnvironmentColor, SetCombineMode, SetTextureImage, SetDepthImage, SetColorImage}
 use Rattle.rdp_command.proofs.Tests.{each, below, true-of, by-test}
 use Rattle.rdp_command.proofs.PlaceLaws.{number-small, is-whole}
+use Rattle.rdp_command.proofs.CommandLaws.{one-word}
 use Rattle.rdp_command.proofs.ReadLaws.{decodes, decoded-number}
 use Rattle.rdp_check.specs.Commands.{commandsFrom}
 use Rattle.rdp_check.specs.Registers.{noTile, noRegisters, withTiles, registersAfter, afterDecoded, describedTiles, sizedTiles}
@@ -237,13 +238,14 @@ module _ (ws : List ℕ) (long : length ws ≡ 32) (c : List ℕ) (there : whole
   tile = tileIn w
 
   of-tile : n ≡ 0x35 → Result n
-  unfolding slotOf commandOf layout registersAfter registersBy describedTiles
+  unfolding slotOf registersAfter registersBy describedTiles
   of-tile e =
       setter 0x35 (15 + tile) e (lit< tt) refl (omega (arith, tile-small w))
       (described (isSet ws) (word ws) w tile (tile-small w) ∙
       ap
       (λ (i : ℕ). withTiles (registersIn ws) (describedAt (tilesBy (isSet ws) (word ws)) i (tileDescriptorOf (fieldsIn tileDescriptorLines w))))
-      (sym (mod-mod (w / 2 ^ 24))))
+      (sym (mod-mod (w / 2 ^ 24))) ∙
+      ap (registersAfter (registersIn ws)) (sym (one-word own .tile)))
 
   -- the registers with the size of the tile set
   abbrev resized : Registers
@@ -269,70 +271,30 @@ module _ (ws : List ℕ) (long : length ws ≡ 32) (c : List ℕ) (there : whole
 
   -- a line for each number that sets a register
   result : Result n
-  unfolding slotOf commandOf layout registersAfter registersBy
+  unfolding slotOf registersAfter registersBy
   result =
-      by-number setters n (
-        λ e. setter 0x2A 0 e (lit< tt) refl (lit< tt) refl,
-        (
-          λ e. setter 0x2B 1 e (lit< tt) refl (lit< tt) refl,
-          (
-            λ e. setter 0x2C 2 e (lit< tt) refl (lit< tt) refl,
-            (
-              λ e. setter 0x2D 3 e (lit< tt) refl (lit< tt) refl,
-              (
-                λ e. setter 0x2E 4 e (lit< tt) refl (lit< tt) refl,
-                (
-                  λ e. setter 0x2F 5 e (lit< tt) refl (lit< tt) refl,
-                  (
-                    λ e. sizer 0x30 e (lit< tt) refl refl,
-                    (
-                      λ e. sizer 0x32 e (lit< tt) refl refl,
-                      (
-                        λ e. sizer 0x33 e (lit< tt) refl refl,
-                        (
-                          λ e. sizer 0x34 e (lit< tt) refl refl,
-                          (
-                            of-tile,
-                            (
-                              λ e. setter 0x37 6 e (lit< tt) refl (lit< tt) refl,
-                              (
-                                λ e. setter 0x38 7 e (lit< tt) refl (lit< tt) refl,
-                                (
-                                  λ e. setter 0x39 8 e (lit< tt) refl (lit< tt) refl,
-                                  (
-                                    λ e. setter 0x3A 9 e (lit< tt) refl (lit< tt) refl,
-                                    (
-                                      λ e. setter 0x3B 10 e (lit< tt) refl (lit< tt) refl,
-                                      (
-                                        λ e. setter 0x3C 11 e (lit< tt) refl (lit< tt) refl,
-                                        (
-                                          λ e. setter 0x3D 12 e (lit< tt) refl (lit< tt) refl,
-                                          (
-                                            λ e. setter 0x3E 13 e (lit< tt) refl (lit< tt) refl,
-                                            (
-                                              λ e. setter 0x3F 14 e (lit< tt) refl (lit< tt) refl,
-                                              tt,
-                                            ),
-                                          ),
-                                        ),
-                                      ),
-                                    ),
-                                  ),
-                                ),
-                              ),
-                            ),
-                          ),
-                        ),
-                      ),
-                    ),
-                  ),
-                ),
-              ),
-            ),
-          ),
-        ),
-      )
-      of-others
+      let o = one-word own in
+      let s2A : n ≡ 0x2A → Result n = λ e. setter 0x2A 0 e (lit< tt) refl (lit< tt) (ap (registersAfter (registersIn ws)) (sym (o .key-gb))) in
+      let s2B : n ≡ 0x2B → Result n = λ e. setter 0x2B 1 e (lit< tt) refl (lit< tt) (ap (registersAfter (registersIn ws)) (sym (o .key-r))) in
+      let s2C : n ≡ 0x2C → Result n = λ e. setter 0x2C 2 e (lit< tt) refl (lit< tt) (ap (registersAfter (registersIn ws)) (sym (o .convert))) in
+      let s2D : n ≡ 0x2D → Result n = λ e. setter 0x2D 3 e (lit< tt) refl (lit< tt) (ap (registersAfter (registersIn ws)) (sym (o .scissor))) in
+      let s2E : n ≡ 0x2E → Result n = λ e. setter 0x2E 4 e (lit< tt) refl (lit< tt) (ap (registersAfter (registersIn ws)) (sym (o .primitive-depth))) in
+      let s2F : n ≡ 0x2F → Result n = λ e. setter 0x2F 5 e (lit< tt) refl (lit< tt) (ap (registersAfter (registersIn ws)) (sym (o .other-modes))) in
+      let s30 : n ≡ 0x30 → Result n = λ e. sizer 0x30 e (lit< tt) refl (ap (registersAfter (registersIn ws)) (sym (o .load-tlut))) in
+      let s32 : n ≡ 0x32 → Result n = λ e. sizer 0x32 e (lit< tt) refl (ap (registersAfter (registersIn ws)) (sym (o .tile-size))) in
+      let s33 : n ≡ 0x33 → Result n = λ e. sizer 0x33 e (lit< tt) refl (ap (registersAfter (registersIn ws)) (sym (o .load-block))) in
+      let s34 : n ≡ 0x34 → Result n = λ e. sizer 0x34 e (lit< tt) refl (ap (registersAfter (registersIn ws)) (sym (o .load-tile))) in
+      let s37 : n ≡ 0x37 → Result n = λ e. setter 0x37 6 e (lit< tt) refl (lit< tt) (ap (registersAfter (registersIn ws)) (sym (o .fill-color))) in
+      let s38 : n ≡ 0x38 → Result n = λ e. setter 0x38 7 e (lit< tt) refl (lit< tt) (ap (registersAfter (registersIn ws)) (sym (o .fog-color))) in
+      let s39 : n ≡ 0x39 → Result n = λ e. setter 0x39 8 e (lit< tt) refl (lit< tt) (ap (registersAfter (registersIn ws)) (sym (o .blend-color))) in
+      let s3A : n ≡ 0x3A → Result n = λ e. setter 0x3A 9 e (lit< tt) refl (lit< tt) (ap (registersAfter (registersIn ws)) (sym (o .primitive-color))) in
+      let s3B : n ≡ 0x3B → Result n = λ e. setter 0x3B 10 e (lit< tt) refl (lit< tt) (ap (registersAfter (registersIn ws)) (sym (o .environment-color))) in
+      let s3C : n ≡ 0x3C → Result n = λ e. setter 0x3C 11 e (lit< tt) refl (lit< tt) (ap (registersAfter (registersIn ws)) (sym (o .combine-mode))) in
+      let s3D : n ≡ 0x3D → Result n = λ e. setter 0x3D 12 e (lit< tt) refl (lit< tt) (ap (registersAfter (registersIn ws)) (sym (o .texture-image))) in
+      let s3E : n ≡ 0x3E → Result n = λ e. setter 0x3E 13 e (lit< tt) refl (lit< tt) (ap (registersAfter (registersIn ws)) (sym (o .depth-image))) in
+      let s3F : n ≡ 0x3F → Result n = λ e. setter 0x3F 14 e (lit< tt) refl (lit< tt) (ap (registersAfter (registersIn ws)) (sym (o .color-image))) in
+      let high : Each (Result n) n (0x37 ∷ 0x38 ∷ 0x39 ∷ 0x3A ∷ 0x3B ∷ 0x3C ∷ 0x3D ∷ 0x3E ∷ 0x3F ∷ []) = (s37, (s38, (s39, (s3A, (s3B, (s3C, (s3D, (s3E, (s3F, tt))))))))) in
+      by-number setters n (s2A, (s2B, (s2C, (s2D, (s2E, (s2F, (s30, (s32, (s33, (s34, (of-tile, high))))))))))) of-others
 
   -- a word is stored: its registers are those after its command
   pub registers-stored : registersIn (wordsAfter ws n w) ≡ afterDecoded (registersIn ws) (decodeOf c)
