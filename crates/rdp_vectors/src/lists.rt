@@ -1,4 +1,5 @@
-// The lists, as words and a length in bytes. tools/vectors.py reads them here, with the comment above each.
+// The lists, as words and a length in bytes. tools/vectors.py reads them here, with the comment above each. Single bits and words with all bits set
+// are in bits.rt and main.rt.
 use crate::show::show_words;
 
 pub fn show_lists() {
@@ -242,11 +243,6 @@ fn syncs() {
     show_words(&[0xE800_0000_0000_0000], 8);
     // G_RDPFULLSYNC.
     show_words(&[0xE900_0000_0000_0000], 8);
-    // 0x26 to 0x29, bits 55:0 set, bits 63:62 in each of their four ways.
-    show_words(&[0xE6FF_FFFF_FFFF_FFFF], 8);
-    show_words(&[0x67FF_FFFF_FFFF_FFFF], 8);
-    show_words(&[0xA8FF_FFFF_FFFF_FFFF], 8);
-    show_words(&[0x29FF_FFFF_FFFF_FFFF], 8);
 }
 
 fn keys_and_convert() {
@@ -258,8 +254,6 @@ fn keys_and_convert() {
     show_words(&[0xEB00_0000_01C0_80FF], 8);
     // G_SETCONVERT: 175, -43, -89, 222, 114, 42 in 9 bits. Document 01 reads them as unsigned.
     show_words(&[0xEC15_FD5D_3B78_E42A], 8);
-    // 0x2C, all bits set.
-    show_words(&[0xECFF_FFFF_FFFF_FFFF], 8);
 }
 
 fn scissor_and_depth() {
@@ -276,17 +270,8 @@ fn scissor_and_depth() {
 fn other_modes() {
     // G_RDPSetOtherMode, two-cycle mode, perspective and bilinear filter.
     show_words(&[0xEF18_2C0F_C811_2078], 8);
-    // 0x2F, all bits set.
-    show_words(&[0xEFFF_FFFF_FFFF_FFFF], 8);
     // The modes of document 01: FILL.
     show_words(&[0x2F30_0000_0000_0000], 8);
-    // Six words that tell each bit from every other: the bits whose place has bit 0 set, then bit 1, up to bit 5.
-    show_words(&[0x2FAA_AAAA_AAAA_AAAA], 8);
-    show_words(&[0x2FCC_CCCC_CCCC_CCCC], 8);
-    show_words(&[0x2FF0_F0F0_F0F0_F0F0], 8);
-    show_words(&[0x2F00_FF00_FF00_FF00], 8);
-    show_words(&[0x2FFF_0000_FFFF_0000], 8);
-    show_words(&[0x2FFF_FFFF_0000_0000], 8);
 }
 
 fn loads() {
@@ -317,8 +302,6 @@ fn tiles() {
     show_words(&[0xF570_1000_0001_4050], 8);
     show_words(&[0xF500_0100_0100_0000], 8);
     show_words(&[0xF540_0800_0009_8060], 8);
-    // 0x35, all bits set.
-    show_words(&[0xF5FF_FFFF_FFFF_FFFF], 8);
 }
 
 fn fills() {
@@ -346,8 +329,6 @@ fn colors() {
     // G_SETCOMBINE, the two examples of document 003.
     show_words(&[0xFC12_7FFF_FFFF_F838], 8);
     show_words(&[0xFC12_1824_FF33_FFFF], 8);
-    // 0x3C, all bits set.
-    show_words(&[0xFCFF_FFFF_FFFF_FFFF], 8);
 }
 
 fn images() {
