@@ -12,11 +12,12 @@ use Rattle.rdp_command.specs.Decode.{firstNumber}
 use Rattle.rdp_command.proofs.Tests.{both, true-of, by-test}
 use Rattle.rdp_check.specs.Commands.{commandsOf, restOf, wordsIn}
 use Rattle.rdp_check.specs.Check.{State, start, Refusals, ownRefusals, syncRefusals, checkRefusals, repairRefusals, Outcome, settle, afterCommand, refusalAt, judge, outcomeWithin, checkOf}
+use Rattle.rdp_check.specs.Refusals.{Holds}
 use Rattle.rdp_check.specs.Best.{numbersOf, repairedBytes, leastCycles}
 use Rattle.rdp_check.specs.Repair.{RepairIs}
 use Rattle.rdp_check.specs.declared.Repaired.{Repaired}
 use Rattle.rdp_check.proofs.OrderLaws.{allGive}
-use Rattle.rdp_check.proofs.FirstLaws.{own-numbered, outcome-gives}
+use Rattle.rdp_check.proofs.FirstLaws.{own-numbered, outcome-gives, holds-gives}
 use Rattle.rdp_check.proofs.JoinLaws.{words-inside}
 use Rattle.rdp_check.proofs.BackLaws.{best-most}
 use Rattle.rdp_check.proofs.RoomLaws.{judged, roomed, repair-refused, repair-roomed}
@@ -38,6 +39,9 @@ check-known s c = tt
 
 pub check-numbers : (list : List ℕ) → T (among (checkOf list .number) checkNumbers)
 check-numbers list = outcome-gives (λ n. among n checkNumbers) checkRefusals check-known tt tt tt tt 4096 list
+
+pub check-holds : (list : List ℕ) (n p : ℕ) → Holds 4096 checkRefusals list n p → T (among n checkNumbers)
+check-holds list = holds-gives (λ n. among n checkNumbers) checkRefusals check-known tt tt tt tt 4096 list
 
 own-known : (s : State) (c : List ℕ) → T (allGive (λ n. among n repairNumbers) (repairRefusals s c))
 unfolding ownRefusals

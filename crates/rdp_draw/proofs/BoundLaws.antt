@@ -1,6 +1,6 @@
 -- Which answers drawing gives, and how large their parts are. Assumes nothing.
 use Prim.Native.Nat.{ℕ, zero, suc, _+_, _/_, _≤_}
-use mathlib.Core.List.{List, [], _∷_}
+use mathlib.Core.List.{List, [], _∷_, _++_}
 use mathlib.Core.Path.{_≡_, sym, subst}
 use native.Mathlib.Omega.{arith}
 use borrow.Author.Tests.{eqb-true, eqb-false}
@@ -11,14 +11,14 @@ use Rattle.rdp_command.specs.Decode.{firstNumber, decodeOf}
 use Rattle.rdp_command.specs.declared.Answer.{Answer}
 use Rattle.rdp_command.proofs.Tests.{by-test}
 use Rattle.rdp_check.specs.Order.{firstOf}
-use Rattle.rdp_check.specs.Check.{State, ownRefusals, syncRefusals, checkRefusals, checkOf}
+use Rattle.rdp_check.specs.Check.{checkRefusals, checkOf}
 use Rattle.rdp_check.specs.Commands.{commandsOf, wordsIn}
 use Rattle.rdp_check.specs.Registers.{noRegisters, afterDecoded}
 use Rattle.rdp_check.specs.declared.Registers.{Registers}
 use Rattle.rdp_check.proofs.OrderLaws.{allGive, among-gives, refusedAt, then-refused, then-accepted}
-use Rattle.rdp_check.proofs.FirstLaws.{holds-gives, check-first}
+use Rattle.rdp_check.proofs.FirstLaws.{check-first}
 use Rattle.rdp_check.proofs.JoinLaws.{words-inside}
-use Rattle.rdp_check.proofs.BoundLaws.{place-most}
+use Rattle.rdp_check.proofs.BoundLaws.{checkNumbers, check-holds, place-most}
 use Rattle.rdp_draw.specs.Draw.{Act, nothing, otherDraw, filling, actOfDecoded, Draw, withAct, drawsFrom, drawsOf, drawRefusals, drawGrounds, drawAnswer}
 use Rattle.rdp_draw.specs.Seen.{firstRefusal}
 use Rattle.rdp_draw.specs.Refusals.{Holds, atCheck, atDraw}
@@ -27,18 +27,18 @@ use Rattle.rdp_draw.proofs.DrawnLaws.{draw-first}
 
 -- the numbers of drawing's answers
 abbrev pub drawNumbers : List ℕ
-drawNumbers = 0 ∷ 1 ∷ 2 ∷ 3 ∷ 4 ∷ 5 ∷ 6 ∷ 7 ∷ 8 ∷ 9 ∷ 10 ∷ 11 ∷ 12 ∷ []
+drawNumbers = checkNumbers ++ 10 ∷ 11 ∷ 12 ∷ []
 
-check-known : (s : State) (c : List ℕ) → T (allGive (λ n. among n drawNumbers) (checkRefusals s c))
-unfolding ownRefusals syncRefusals
-check-known s c = tt
+among-front : (n : ℕ) (xs ys : List ℕ) → T (among n xs) → T (among n (xs ++ ys))
+among-front n [] ys t = absurd t
+among-front n (x ∷ xs) ys t = by-test (eqb n x) (λ e. rw e tt) (λ f. rw f (among-front n xs ys (rw f at t)))
 
 draw-known : (start len : ℕ) (a : Act) → T (allGive (λ n. among n drawNumbers) (drawRefusals start len a))
 unfolding drawRefusals
 draw-known start len a = tt
 
 known : (list : List ℕ) (start len n p : ℕ) → Holds list start len n p → T (among n drawNumbers)
-known list start len n p (atCheck m q h) = holds-gives (λ k. among k drawNumbers) checkRefusals check-known tt tt tt tt 4096 list m q h
+known list start len n p (atCheck m q h) = among-front m checkNumbers (10 ∷ 11 ∷ 12 ∷ []) (check-holds list m q h)
 known list start len n p (atDraw before d after m e r) = among-gives (λ k. among k drawNumbers) m (drawRefusals start len (d .act)) (draw-known start len (d .act)) r
 
 pub draw-numbers : (list : List ℕ) (start len : ℕ) → T (among (drawAnswer list start len .number) drawNumbers)
