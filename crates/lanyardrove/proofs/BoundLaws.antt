@@ -5,13 +5,14 @@ use mathlib.Core.List.{List}
 use mathlib.Core.Path.{_≡_, refl}
 use native.Mathlib.Omega.{arith}
 use lib.Dec.{eqb}
-use Rattle.rdp_command.specs.Words.{wordAt}
-use Rattle.rdp_command.specs.Decode.{firstNumber, decodeOf}
+use Rattle.rdp_words.specs.Words.{wordAt}
+use Rattle.rdp_words.specs.Lengths.{firstNumber}
+use Rattle.rdp_command.specs.Decode.{decodeOf}
 use Rattle.rdp_command.specs.Numbers.{fieldsAnswer, fromNumbers}
 use Rattle.rdp_command.specs.declared.Answer.{Answer}
 use Rattle.rdp_command.specs.declared.Decoded.{Decoded}
 use Rattle.rdp_command.specs.declared.Decoded.the-variants.{Whole, Refused}
-use Rattle.rdp_command.proofs.PlaceLaws.{number-small}
+use Rattle.rdp_words.proofs.PlaceLaws.{number-small}
 use Rattle.rdp_command.proofs.BoundLaws.{decode-refused, fields-decoded, lines-most, fields-most, fields-place, from-refused, encode-most, encode-words}
 use Rattle.rdp_check.specs.Check.{checkRefusals, checkOf}
 use Rattle.rdp_check.specs.declared.Repaired.{Repaired}

@@ -9,10 +9,10 @@ use native.Mathlib.Omega.{arith}
 use borrow.Author.Tests.{ltb-true, eqb-true, eqb-false, lt-ltb, ne-eqb}
 use lib.Dec.{T, eqb, ltb}
 use lib.ListN.{length}
-use Rattle.rdp_command.specs.Kinds.{wordsOf}
-use Rattle.rdp_command.specs.Decode.{firstNumber}
+use Rattle.rdp_words.specs.Kinds.{wordsOf}
+use Rattle.rdp_words.specs.Lengths.{firstNumber}
 use Rattle.rdp_command.specs.declared.Answer.{Answer}
-use Rattle.rdp_command.proofs.Tests.{by-test, true-of, false-of}
+use Rattle.rdp_words.proofs.Tests.{by-test, true-of, false-of}
 use Rattle.rdp_check.specs.Commands.{commandsOf, restOf, wordsIn}
 use Rattle.rdp_check.specs.Order.{Ground, firstOf, answer, placed, Among, IsFirst}
 use Rattle.rdp_check.specs.Check.{State, start, afterCommand, Refusals, ownRefusals, syncRefusals, checkRefusals, repairRefusals, noRefusals, Outcome, settle, judge, judgeList, outcomeWithin, checkOf}

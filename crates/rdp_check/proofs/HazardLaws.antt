@@ -9,8 +9,8 @@ use borrow.Author.Tests.{le-leb, lt-leb, eqb-true}
 use lib.Dec.{T, eqb, leb, eqb→eq, leb→le, lit<}
 use lib.Bits.{bitAnd, bitOr}
 use lib.ListN.{length}
-use Rattle.rdp_command.specs.Kinds.{kindOf}
-use Rattle.rdp_command.proofs.Tests.{each, below}
+use Rattle.rdp_words.specs.Kinds.{kindOf}
+use Rattle.rdp_words.proofs.Tests.{each, below}
 use Rattle.rdp_check.specs.Hazards.{Hazards, hazardsOf, codeOf, hazardsAfter, requiredBy, nextOf, requiredOf, entryOf, Agrees}
 use Rattle.rdp_check.proofs.TableTests.{every, at}
 

@@ -8,14 +8,14 @@ use lib.Dec.{eqb, ltb}
 use lib.ListN.{length, take, drop, length-append, length-drop, take-append-drop}
 use lib.Seq.{take-at, drop-at, length-take-le, take-append-add}
 use borrow.Author.Tests.{eqb-true, eqb-false, ltb-true, ltb-false}
-use Rattle.rdp_command.specs.Words.{wordAt, numberIn}
-use Rattle.rdp_command.specs.Kinds.{wordsOf}
-use Rattle.rdp_command.specs.Decode.{firstNumber, wholeWords}
-use Rattle.rdp_command.proofs.Tests.{by-test}
-use Rattle.rdp_command.proofs.KindLaws.{words-pos, words-most}
-use Rattle.rdp_command.proofs.WordLaws.{word-front}
+use Rattle.rdp_words.specs.Words.{wordAt, numberIn}
+use Rattle.rdp_words.specs.Kinds.{wordsOf}
+use Rattle.rdp_words.specs.Lengths.{firstNumber, wholeWords}
+use Rattle.rdp_words.proofs.Tests.{by-test}
+use Rattle.rdp_words.proofs.KindLaws.{words-pos, words-most}
+use Rattle.rdp_words.proofs.WordLaws.{word-front}
 use Rattle.rdp_check.specs.Commands.{commandsFrom, restFrom, commandsOf, restOf, wordsIn, joined}
-use Rattle.rdp_command.proofs.PlaceLaws.{number-small, words-there, is-whole}
+use Rattle.rdp_words.proofs.PlaceLaws.{number-small, words-there, is-whole}
 use Rattle.rdp_check.proofs.ListLaws.{head, tail, commands-head, rest-head, commands-cut, rest-cut}
 
 -- a command alone: as many bytes as its number says

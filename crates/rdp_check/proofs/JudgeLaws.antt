@@ -6,10 +6,11 @@ use Prim.Native.Nat.{ℕ, zero, suc, _+_}
 use native.Mathlib.Omega.{arith}
 use borrow.Author.Tests.{eqb-false}
 use lib.Dec.{eqb}
-use Rattle.rdp_command.proofs.Tests.{false-of}
-use Rattle.rdp_command.specs.Words.{wordAt}
-use Rattle.rdp_command.specs.Kinds.{wordsOf}
-use Rattle.rdp_command.specs.Decode.{firstNumber, decodeOf}
+use Rattle.rdp_words.proofs.Tests.{false-of}
+use Rattle.rdp_words.specs.Words.{wordAt}
+use Rattle.rdp_words.specs.Kinds.{wordsOf}
+use Rattle.rdp_words.specs.Lengths.{firstNumber}
+use Rattle.rdp_command.specs.Decode.{decodeOf}
 use Rattle.rdp_check.specs.Hazards.{nextOf, requiredOf}
 use Rattle.rdp_check.specs.Registers.{registersAfter, afterDecoded}
 use Rattle.rdp_check.specs.declared.Registers.{Registers}
@@ -17,7 +18,7 @@ use Rattle.rdp_check.specs.Check.{State, afterCommand, Refusals, ownRefu
 use Rattle.rdp_check.specs.Order.{None}
 use Rattle.rdp_check.specs.Syncs.{Sync, loadSync, tileSync, pipeSync, syncNumber, syncWord}
 use Rattle.rdp_check.specs.Plan.{syncAt, withOption, applied}
-use Rattle.rdp_command.proofs.PlaceLaws.{number-small}
+use Rattle.rdp_words.proofs.PlaceLaws.{number-small}
 use Rattle.rdp_check.proofs.HazardLaws.{required-most}
 use Rattle.rdp_check.proofs.SyncLaws.{syncCommand, sync-word, sync-number, sync-draws}
 use Rattle.rdp_check.proofs.OrderLaws.{none-parts, none-both, none-first, first-none}

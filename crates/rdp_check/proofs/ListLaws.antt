@@ -7,13 +7,14 @@ use native.Mathlib.Nat.{not-suc-le-zero}
 use lib.ListN.{length, take, drop, length-drop, take-append-drop}
 use lib.Seq.{length-take-le, drop-drop}
 use borrow.Author.Tests.{eq-eqb, ne-eqb}
-use Rattle.rdp_command.specs.Words.{wordAt, numberIn}
-use Rattle.rdp_command.specs.Kinds.{wordsOf}
-use Rattle.rdp_command.specs.Decode.{firstNumber, wholeWords, decodeOf}
-use Rattle.rdp_command.proofs.WordLaws.{word-front}
+use Rattle.rdp_words.specs.Words.{wordAt, numberIn}
+use Rattle.rdp_words.specs.Kinds.{wordsOf}
+use Rattle.rdp_words.specs.Lengths.{firstNumber, wholeWords}
+use Rattle.rdp_command.specs.Decode.{decodeOf}
+use Rattle.rdp_words.proofs.WordLaws.{word-front}
 use Rattle.rdp_command.proofs.WholeLaws.{decode-whole-later}
 use Rattle.rdp_check.specs.Commands.{commandsFrom, restFrom, commandsOf, restOf}
-use Rattle.rdp_command.proofs.PlaceLaws.{is-whole, word-drop, words-there, some-words, there-at, cut-at}
+use Rattle.rdp_words.proofs.PlaceLaws.{is-whole, word-drop, words-there, some-words, there-at, cut-at}
 
 -- to skip k bytes is to go on from what stands after them
 commands-skip : (k : ℕ) (bs : List ℕ) → commandsFrom k bs ≡ commandsOf (drop k bs)

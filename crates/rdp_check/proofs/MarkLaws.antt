@@ -6,11 +6,11 @@ use mathlib.Core.Path.{_≡_, refl, sym, ap, subst}
 use Prim.Native.Nat.{ℕ, _<_}
 use native.Mathlib.Omega.{arith}
 use lib.Dec.{T}
-use Rattle.rdp_command.specs.Words.{wordAt}
-use Rattle.rdp_command.specs.Kinds.{kindOf, hasBit}
-use Rattle.rdp_command.specs.Decode.{firstNumber}
-use Rattle.rdp_command.proofs.Tests.{same, same-bool}
-use Rattle.rdp_command.proofs.PlaceLaws.{number-small}
+use Rattle.rdp_words.specs.Words.{wordAt}
+use Rattle.rdp_words.specs.Kinds.{kindOf, hasBit}
+use Rattle.rdp_words.specs.Lengths.{firstNumber}
+use Rattle.rdp_words.proofs.Tests.{same, same-bool}
+use Rattle.rdp_words.proofs.PlaceLaws.{number-small}
 use Rattle.rdp_check.specs.Hazards.{hazardsOf, nextOf}
 use Rattle.rdp_check.specs.Check.{State, start, afterCommand, draws}
 use Rattle.rdp_check.specs.Refusals.{stateAfter}

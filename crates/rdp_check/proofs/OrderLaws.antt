@@ -7,7 +7,7 @@ use Prim.Native.Nat.{ℕ, zero, suc}
 use native.Mathlib.Nat.{suc-ne-zero}
 use lib.Dec.{T}
 use Rattle.rdp_command.specs.declared.Answer.{Answer}
-use Rattle.rdp_command.proofs.Tests.{both, false-of}
+use Rattle.rdp_words.proofs.Tests.{both, false-of}
 use Rattle.rdp_check.specs.Order.{Ground, ground, firstOf, answer, placed, Among, None, First, IsFirst}
 
 -- ---- the first that holds

@@ -7,14 +7,14 @@ use native.Mathlib.Decide.{decLe}
 use native.Mathlib.Omega.{arith}
 use lib.ListN.{length, getD, take, drop, set, length-append, length-take, length-drop, length-set, drop-of-length-le}
 use lib.Seq.{append-snoc, drop-set-lt}
-use Rattle.rdp_command.specs.Words.{wordAt, numberIn, overwrite, pasted}
-use Rattle.rdp_command.specs.Kinds.{wordsOf}
+use Rattle.rdp_words.specs.Words.{wordAt, numberIn, overwrite, pasted}
+use Rattle.rdp_words.specs.Kinds.{wordsOf}
 use Rattle.rdp_command.proofs.Bytes.{overwrite-none, length-overwrite, pasted-after}
 use Rattle.rdp_check.specs.Commands.{commandsFrom, commandsOf, restOf, joined}
 use Rattle.rdp_check.specs.Plan.{applied}
 use Rattle.rdp_check.specs.Best.{numbersOf}
 use Rattle.rdp_check.specs.Work.{tabulate, notedIn, optionsIn, Below, optionBytes, dueBytes, WholeList, NotedIs, WrittenIs}
-use Rattle.rdp_command.proofs.PlaceLaws.{some-words}
+use Rattle.rdp_words.proofs.PlaceLaws.{some-words}
 use Rattle.rdp_check.proofs.ListLaws.{commandAt, commands-at, rest-at, rest-past, command-number}
 use Rattle.rdp_check.proofs.RepairedLaws.{count-most}
 use Rattle.rdp_check.proofs.TabulateLaws.{noted-more}

@@ -7,7 +7,7 @@ use native.Mathlib.Omega.{arith}
 use lib.Dec.{eqb, leb}
 use lib.ListN.{getD}
 use borrow.Author.Tests.{eq-eqb, eqb-true, leb-true, leb-false}
-use Rattle.rdp_command.proofs.Tests.{by-test}
+use Rattle.rdp_words.proofs.Tests.{by-test}
 use Rattle.rdp_check.specs.Hazards.{nextOf, requiredOf, entryOf}
 use Rattle.rdp_check.specs.Plan.{waitOf}
 use Rattle.rdp_check.specs.Best.{Choice, clearedBy, totalWith, choiceOf, prefer, chosen}

@@ -8,8 +8,8 @@ use lib.Dec.{T, eqb}
 use lib.ListN.{length, getD, take, drop, replicate, length-map, length-replicate}
 use Rattle.rdp_command.proofs.Bytes.{overwrite-is, take-overwrite, overwrite-twice}
 use borrow.Author.Tests.{eqb-true, eqb-false, lt-ltb, le-ltb, ne-eqb}
-use Rattle.rdp_command.specs.Words.{wordAt, overwrite}
-use Rattle.rdp_command.specs.Decode.{firstNumber}
+use Rattle.rdp_words.specs.Words.{wordAt, overwrite}
+use Rattle.rdp_words.specs.Lengths.{firstNumber}
 use Rattle.rdp_check.specs.Commands.{commandsOf, joined}
 use Rattle.rdp_check.specs.Check.{State, ownRefusals, repairRefusals, checked}
 use Rattle.rdp_check.specs.Plan.{applied}
@@ -18,8 +18,8 @@ use Rattle.rdp_check.specs.Work.{notedIn, workOf, optionsIn, insertsOf, 
 use Rattle.rdp_check.specs.Repair.{LeastRepair, Repairable, repairAnswer, repairOf, outAfter, workAfter, RepairIs}
 use Rattle.rdp_check.specs.declared.Checked.{Checked}
 use Rattle.rdp_check.specs.declared.Repaired.{Repaired}
-use Rattle.rdp_command.proofs.Tests.{by-test, false-of}
-use Rattle.rdp_command.proofs.PlaceLaws.{number-small}
+use Rattle.rdp_words.proofs.Tests.{by-test, false-of}
+use Rattle.rdp_words.proofs.PlaceLaws.{number-small}
 use Rattle.rdp_check.proofs.BackLaws.{length-work}
 use Rattle.rdp_check.proofs.ForwardLaws.{options-plan, work-below}
 use Rattle.rdp_check.proofs.OrderLaws.{allGive}

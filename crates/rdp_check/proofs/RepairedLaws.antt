@@ -7,8 +7,8 @@ use native.Mathlib.Omega.{arith}
 use lib.Dec.{eqb, ltb}
 use lib.ListN.{length, length-append, length-map}
 use borrow.Author.Tests.{le-ltb, ltb-false, eq-eqb, eqb-true}
-use Rattle.rdp_command.specs.Decode.{firstNumber}
-use Rattle.rdp_command.proofs.Tests.{by-test}
+use Rattle.rdp_words.specs.Lengths.{firstNumber}
+use Rattle.rdp_words.proofs.Tests.{by-test}
 use Rattle.rdp_check.specs.Commands.{commandsOf, restOf, joined}
 use Rattle.rdp_check.specs.Check.{start, Refusals, checkRefusals, repairRefusals, judgeList, outcomeWithin, outcomeOf}
 use Rattle.rdp_check.specs.Refusals.{ofCommands, Free}

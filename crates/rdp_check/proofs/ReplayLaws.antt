@@ -9,18 +9,18 @@ use borrow.Author.Tests.{lt-ltb, le-ltb}
 use lib.Dec.{T, eqb, ltb}
 use lib.ListN.{length, getD, drop, set, replicate, length-set}
 use lib.Seq.{set-getD}
-use Rattle.rdp_command.specs.Words.{wordAt, numberIn}
-use Rattle.rdp_command.specs.Kinds.{wordsOf}
-use Rattle.rdp_command.specs.Decode.{firstNumber}
-use Rattle.rdp_command.proofs.Tests.{by-test, false-of}
-use Rattle.rdp_command.proofs.KindLaws.{words-pos, words-most}
+use Rattle.rdp_words.specs.Words.{wordAt, numberIn}
+use Rattle.rdp_words.specs.Kinds.{wordsOf}
+use Rattle.rdp_words.specs.Lengths.{firstNumber}
+use Rattle.rdp_words.proofs.Tests.{by-test, false-of}
+use Rattle.rdp_words.proofs.KindLaws.{words-pos, words-most}
 use Rattle.rdp_check.specs.Commands.{commandsOf, restOf}
 use Rattle.rdp_check.specs.Registers.{noRegisters}
 use Rattle.rdp_check.specs.Check.{State, start, afterCommand, Refusals, ownRefusals, syncRefusals, checkRefusals, refusalAt, Outcome, atEnd, settle, judge, judgeList, outcomeWithin}
 use Rattle.rdp_check.specs.RegisterWords.{tileIn, slotOf, registersIn}
 use Rattle.rdp_check.specs.Replay.{wordsUpTo, registersUpTo, endOf}
 use Rattle.rdp_check.specs.declared.Registers.{Registers}
-use Rattle.rdp_command.proofs.PlaceLaws.{number-small, some-words}
+use Rattle.rdp_words.proofs.PlaceLaws.{number-small, some-words}
 use Rattle.rdp_check.proofs.ListLaws.{commands-at, command-number, command-word, commands-past}
 use Rattle.rdp_check.proofs.OrderLaws.{allGive}
 use Rattle.rdp_check.proofs.FirstLaws.{judge-gives}

@@ -10,7 +10,7 @@ use lib.Dec.{eqb, ltb}
 use lib.ListN.{length}
 use Rattle.rdp_command.specs.declared.Answer.{Answer}
 use Rattle.rdp_check.specs.declared.Repaired.{Repaired}
-use Rattle.rdp_command.proofs.Tests.{by-test, true-of}
+use Rattle.rdp_words.proofs.Tests.{by-test, true-of}
 use Rattle.rdp_check.specs.Commands.{commandsOf}
 use Rattle.rdp_check.specs.Order.{Ground, answer, Among}
 use Rattle.rdp_check.specs.Check.{repairRefusals, Outcome, outcomeWithin}

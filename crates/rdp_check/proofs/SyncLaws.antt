@@ -6,11 +6,11 @@ use Prim.Native.Nat.{ℕ, zero, suc, max, _%_, _≤_}
 use native.Mathlib.Nat.{mod-lt}
 use native.Mathlib.Omega.{arith}
 use lib.Dec.{eqb, eqb→eq, lit<}
-use Rattle.rdp_command.specs.Kinds.{Kind, isDraw, noOperation, triangle, textureRectangle, fillRectangle, syncLoad, syncTile, syncPipe, syncFull, load, setTile, attribute, free, kindOf}
-use Rattle.rdp_command.specs.Decode.{firstNumber}
+use Rattle.rdp_words.specs.Kinds.{Kind, isDraw, noOperation, triangle, textureRectangle, fillRectangle, syncLoad, syncTile, syncPipe, syncFull, load, setTile, attribute, free, kindOf}
+use Rattle.rdp_words.specs.Lengths.{firstNumber}
 use Rattle.rdp_command.specs.declared.Command.{Command}
 use Rattle.rdp_command.specs.declared.Command.the-variants.{SyncLoad, SyncTile, SyncPipe}
-use Rattle.rdp_command.proofs.Tests.{below}
+use Rattle.rdp_words.proofs.Tests.{below}
 use Rattle.rdp_command.proofs.SyncWordLaws.{SyncWord, sync-words}
 use Rattle.rdp_check.specs.Check.{draws}
 use Rattle.rdp_check.specs.Hazards.{Hazards, hazardsOf, codeOf, hazardsAfter, requiredBy, nextOf, requiredOf}

@@ -6,13 +6,14 @@ use Prim.Native.Nat.{ℕ, zero, suc, _/_, _%_, _≤_, _<_}
 use native.Mathlib.Omega.{arith}
 use borrow.Author.Tests.{ne-eqb, eqb-true, eqb-false}
 use lib.Dec.{eqb}
-use Rattle.rdp_command.specs.Words.{wordAt}
-use Rattle.rdp_command.specs.Kinds.{kindOf, isAmong, wordsOf}
+use Rattle.rdp_words.specs.Words.{wordAt}
+use Rattle.rdp_words.specs.Kinds.{kindOf, isAmong, wordsOf}
 use Rattle.rdp_command.specs.Commands.{numberOf}
-use Rattle.rdp_command.specs.Decode.{firstNumber, wholeWords, decodeOf}
+use Rattle.rdp_words.specs.Lengths.{firstNumber, wholeWords}
+use Rattle.rdp_command.specs.Decode.{decodeOf}
 use Rattle.rdp_command.specs.Reads.{headOf}
 use Rattle.rdp_command.specs.declared.Command.{Command}
-use Rattle.rdp_command.proofs.Tests.{by-test, neither}
+use Rattle.rdp_words.proofs.Tests.{by-test, neither}
 use Rattle.rdp_check.specs.Hazards.{nextOf, requiredOf, entryOf}
 use Rattle.rdp_check.specs.Registers.{registersAfter, afterDecoded}
 use Rattle.rdp_check.specs.Check.{State, afterCommand, draws, ready, fourBitFill, ownRefusals, syncRefusals, refusalAt}
@@ -24,8 +25,8 @@ use Rattle.rdp_check.specs.declared.walk.Rest.{Rest}
 use Rattle.rdp_check.specs.declared.walk.View.{View}
 use Rattle.rdp_check.proofs.KeptLaws.{keeps}
 use Rattle.rdp_check.proofs.HazardLaws.{EntryParts, entry-parts, required-most}
-use Rattle.rdp_command.proofs.KindLaws.{among-by, long-among}
-use Rattle.rdp_command.proofs.PlaceLaws.{number-small}
+use Rattle.rdp_words.proofs.KindLaws.{among-by, long-among}
+use Rattle.rdp_words.proofs.PlaceLaws.{number-small}
 use Rattle.rdp_command.proofs.ReadLaws.{decoded, decodes, decoded-number, reads-other-modes, reads-scissor, reads-color-image}
 
 -- ---- command numbers as bits

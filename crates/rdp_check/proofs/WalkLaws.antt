@@ -9,8 +9,8 @@ use borrow.Author.Tests.{ltb-true}
 use lib.Dec.{ltb}
 use lib.ListN.{length, getD, drop, drop-of-length-le}
 use lib.Seq.{drop-cons}
-use Rattle.rdp_command.specs.Words.{wordAt, numberIn}
-use Rattle.rdp_command.specs.Kinds.{isAmong, wordsOf}
+use Rattle.rdp_words.specs.Words.{wordAt, numberIn}
+use Rattle.rdp_words.specs.Kinds.{isAmong, wordsOf}
 use Rattle.rdp_command.specs.Reads.{headOf}
 use Rattle.rdp_check.specs.Hazards.{nextOf, requiredOf, entryOf}
 use Rattle.rdp_check.specs.Commands.{commandsFrom, restFrom}
@@ -19,7 +19,7 @@ use Rattle.rdp_command.specs.declared.Head.{Head}
 use Rattle.rdp_check.specs.declared.walk.View.{View}
 use Rattle.rdp_check.specs.declared.walk.Stop.{Stop}
 use Rattle.rdp_check.proofs.HazardLaws.{next-small, EntryParts, entry-parts}
-use Rattle.rdp_command.proofs.PlaceLaws.{number-small, some-words}
+use Rattle.rdp_words.proofs.PlaceLaws.{number-small, some-words}
 use Rattle.rdp_check.proofs.ListLaws.{commands-at, rest-at, command-word, commands-past, rest-past}
 use Rattle.rdp_check.proofs.ViewLaws.{one-word, Unwatched, unwatched, rest-kept}
 

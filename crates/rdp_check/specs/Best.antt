@@ -3,7 +3,7 @@ use Prim.Native.Nat.{ℕ, zero, suc, _+_}
 use mathlib.Core.Bool.{cond}
 use mathlib.Core.List.{List, [], _∷_, map}
 use lib.Dec.{eqb, leb}
-use Rattle.rdp_command.specs.Decode.{firstNumber}
+use Rattle.rdp_words.specs.Lengths.{firstNumber}
 use Rattle.rdp_check.specs.Hazards.{nextOf, requiredOf}
 use Rattle.rdp_check.specs.Commands.{commandsOf, joined}
 use Rattle.rdp_check.specs.Syncs.{syncNumber}

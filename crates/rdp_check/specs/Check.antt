@@ -4,8 +4,9 @@ use mathlib.Core.Bool.{Bool, false, cond, _&&_, _||_, not}
 use mathlib.Core.List.{List, [], _∷_, _++_}
 use lib.Dec.{ltb, eqb}
 use lib.ListN.{length}
-use Rattle.rdp_command.specs.Kinds.{isDraw, kindOf, wordsOf}
-use Rattle.rdp_command.specs.Decode.{firstNumber, decodeOf}
+use Rattle.rdp_words.specs.Kinds.{isDraw, kindOf, wordsOf}
+use Rattle.rdp_words.specs.Lengths.{firstNumber}
+use Rattle.rdp_command.specs.Decode.{decodeOf}
 use Rattle.rdp_check.specs.Hazards.{nextOf, requiredOf}
 use Rattle.rdp_check.specs.Order.{Ground, ground, firstOf}
 use Rattle.rdp_check.specs.Commands.{commandsOf, restOf}

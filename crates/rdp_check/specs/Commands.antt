@@ -4,8 +4,8 @@ use mathlib.Core.Bool.{cond}
 use mathlib.Core.List.{List, [], _∷_, _++_}
 use lib.Dec.{eqb}
 use lib.ListN.{take}
-use Rattle.rdp_command.specs.Kinds.{wordsOf}
-use Rattle.rdp_command.specs.Decode.{firstNumber, wholeWords}
+use Rattle.rdp_words.specs.Kinds.{wordsOf}
+use Rattle.rdp_words.specs.Lengths.{firstNumber, wholeWords}
 
 -- the commands that begin after k bytes of a list: all that are whole, up to the end or to the first whose words are not all there
 unfoldable pub commandsFrom : ℕ → List ℕ → List (List ℕ)

@@ -4,8 +4,8 @@ use mathlib.Core.Bool.{Bool, not, _&&_, _||_}
 use mathlib.Core.List.{List, [], _∷_, _++_}
 use mathlib.Core.Path.{_≡_}
 use lib.Dec.{T}
-use Rattle.rdp_command.specs.Kinds.{among, between, hasBit}
-use Rattle.rdp_command.specs.Decode.{firstNumber}
+use Rattle.rdp_words.specs.Kinds.{among, between, hasBit}
+use Rattle.rdp_words.specs.Lengths.{firstNumber}
 use Rattle.rdp_check.specs.Hazards.{Hazards}
 use Rattle.rdp_check.specs.Syncs.{loadSync, tileSync, pipeSync, syncNumber}
 use Rattle.rdp_check.specs.Check.{draws}

@@ -6,8 +6,8 @@ use mathlib.Core.List.{List, [], _∷_, _++_}
 use mathlib.Core.Path.{_≡_}
 use lib.Dec.{eqb, ltb}
 use lib.ListN.{length}
-use Rattle.rdp_command.specs.Kinds.{wordsOf}
-use Rattle.rdp_command.specs.Decode.{firstNumber}
+use Rattle.rdp_words.specs.Kinds.{wordsOf}
+use Rattle.rdp_words.specs.Lengths.{firstNumber}
 use Rattle.rdp_command.specs.declared.Answer.{Answer}
 use Rattle.rdp_check.specs.Order.{Ground, ground, answer, placed, Among, IsFirst}
 use Rattle.rdp_check.specs.Commands.{commandsOf, restOf, wordsIn}

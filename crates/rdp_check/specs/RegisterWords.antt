@@ -5,7 +5,7 @@ use mathlib.Core.Bool.{Bool, cond, not, _&&_}
 use mathlib.Core.List.{List, [], _∷_}
 use lib.Dec.{eqb, ltb, leb}
 use lib.ListN.{getD, set}
-use Rattle.rdp_command.specs.Kinds.{among}
+use Rattle.rdp_words.specs.Kinds.{among}
 use Rattle.rdp_command.specs.Layout.{keyGbLines, keyRLines, convertLines, scissorLines, primitiveDepthLines, otherModesLines, tileAreaLines, tileDescriptorLines, fillColorLines, colorLines, primitiveColorLines, combineModeLines, imageLines, depthImageLines, colorImageLines}
 use Rattle.rdp_command.specs.Groups.{natAt, keyGbOf, keyROf, convertOf, scissorOf, primitiveDepthOf, otherModesOf, tileAreaOf, tileDescriptorOf, colorOf, primitiveColorOf, imageOf}
 use Rattle.rdp_command.specs.Reads.{fieldsIn}

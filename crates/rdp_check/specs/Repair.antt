@@ -5,7 +5,7 @@ use mathlib.Core.List.{List, [], _∷_, _++_}
 use mathlib.Core.Path.{_≡_}
 use lib.Dec.{eqb, ltb}
 use lib.ListN.{length, take, replicate}
-use Rattle.rdp_command.specs.Words.{overwrite}
+use Rattle.rdp_words.specs.Words.{overwrite}
 use Rattle.rdp_command.specs.declared.Answer.{Answer}
 use Rattle.rdp_check.specs.Order.{Ground, ground, firstOf, answer, IsFirst}
 use Rattle.rdp_check.specs.Commands.{commandsOf, joined}

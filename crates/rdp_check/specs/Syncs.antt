@@ -1,7 +1,7 @@
 -- Document 01, "Four marks" and "Repair": the syncs that a repair inserts. Their command numbers and their waits stand here alone.
 use Prim.Native.Nat.{ℕ}
 use mathlib.Core.List.{List}
-use Rattle.rdp_command.specs.Words.{bareWord}
+use Rattle.rdp_words.specs.Words.{bareWord}
 
 pub data Sync : Type 0 where
   loadSync : Sync

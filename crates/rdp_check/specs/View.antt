@@ -4,8 +4,8 @@ use mathlib.Core.Bool.{Bool, true, false, cond, not, _&&_, _||_}
 use mathlib.Core.List.{List, [], _∷_}
 use mathlib.Core.Path.{_≡_}
 use lib.Dec.{eqb}
-use Rattle.rdp_command.specs.Words.{wordAt}
-use Rattle.rdp_command.specs.Kinds.{among, isAmong, wordsOf}
+use Rattle.rdp_words.specs.Words.{wordAt}
+use Rattle.rdp_words.specs.Kinds.{among, isAmong, wordsOf}
 use Rattle.rdp_command.specs.declared.Head.{Head}
 use Rattle.rdp_command.specs.Reads.{headOf}
 use Rattle.rdp_check.specs.Hazards.{nextOf, requiredOf}

@@ -3,7 +3,7 @@ ghost use mathlib.Core.List.{_++_};
 ghost use mathlib.Core.Path.{_≡_};
 ghost use Prim.Native.Nat.{pred, _+_, _*_, _/_, _<_, _≤_, min};
 ghost use lib.ListN.{length, take, drop, replicate};
-ghost use Rattle.rdp_command.specs.Words.{wordAt, numberIn, overwrite, pasted};
+ghost use Rattle.rdp_words.specs.Words.{wordAt, numberIn, overwrite, pasted};
 ghost use Rattle.rdp_check.specs.Commands.{commandsOf};
 ghost use Rattle.rdp_check.specs.Hazards.{Agrees};
 ghost use Rattle.rdp_check.specs.Check.{repairRefusals, outcomeWithin};
@@ -39,7 +39,7 @@ pub fn count_commands(list: &[u8], words: usize) -> usize
     let mut count: usize = 0;
     while at < words {
         let number = number_at(list, at);
-        at += rdp_command::words_of(number);
+        at += rdp_words::words_of(number);
         count += 1;
     }
     count
@@ -55,7 +55,7 @@ fn note_numbers(list: &[u8], words: usize, work: &mut [u8]) -> usize
     while at < words {
         let number = number_at(list, at);
         work[16 * i] = number;
-        at += rdp_command::words_of(number);
+        at += rdp_words::words_of(number);
         i += 1;
     }
     i
@@ -176,7 +176,7 @@ fn write_plan(list: &[u8], words: usize, work: &[u8], out: &mut [u8])
     let mut to: usize = 0;
     while at < words {
         let choice = work[16 * i + hazards as usize];
-        let count = rdp_command::words_of(number_at(list, at));
+        let count = rdp_words::words_of(number_at(list, at));
         to = write_command(list, at, count, choice / 16, out, to);
         at += count;
         hazards = choice % 16;

@@ -70,7 +70,7 @@ pub fn replay_from(file: [u64; 32], list: &[u8], end: usize) -> [u64; 32]
             q[31] = unread;
             return q;
         }
-        let w = rdp_command::word_at(list, at);
+        let w = rdp_words::word_at(list, at);
         let slot = slot_of(number, w);
         q[slot] = w;
         at = next;

@@ -3,8 +3,8 @@ ghost use mathlib.Core.Bool.{cond, true};
 ghost use mathlib.Core.Path.{_≡_};
 ghost use Prim.Native.Nat.{_*_, _<_, _≤_};
 ghost use lib.ListN.{length};
-ghost use Rattle.rdp_command.specs.Words.{wordAt, numberIn};
-ghost use Rattle.rdp_command.specs.Kinds.{wordsOf};
+ghost use Rattle.rdp_words.specs.Words.{wordAt, numberIn};
+ghost use Rattle.rdp_words.specs.Kinds.{wordsOf};
 ghost use Rattle.rdp_check.specs.Hazards.{Agrees, entryOf};
 ghost use Rattle.rdp_check.specs.Check.{start, draws, outcomeWithin, checked};
 ghost use Rattle.rdp_check.specs.View.{refusalsBy, code, viewOf, restAfter, restRefusal, refusalWith, Watches, AdvancedIs, stopAt, judgedView};
@@ -17,7 +17,7 @@ use rdp_command::Head;
 // Image), these and the draws, and all commands.
 const SETTERS: u64 = 0x8000_A200_0000_0000;
 
-const SETTERS_AND_DRAWS: u64 = SETTERS | rdp_command::DRAWS;
+const SETTERS_AND_DRAWS: u64 = SETTERS | rdp_words::DRAWS;
 
 const ALL: u64 = 0xFFFF_FFFF_FFFF_FFFF;
 
@@ -55,7 +55,7 @@ pub fn words_at(list: &[u8], place: usize) -> usize
     ensures { λ r. ⌜ r ≡ wordsOf (numberIn (wordAt (now (list .entry)) place)) ⌝ }
 {
     let head = rdp_command::head_at(list, place);
-    rdp_command::words_of(head.number)
+    rdp_words::words_of(head.number)
 }
 
 // The words of a command. Nearly all have one word; by the branch the place after such a command need not wait for its number.
@@ -63,10 +63,10 @@ pub fn count_of(number: u8) -> usize
     requires { ⌜ number < 64 ⌝ }
     ensures { λ r. ⌜ r ≡ wordsOf number ⌝ }
 {
-    if !rdp_command::is_among(rdp_command::LONG, number) {
+    if !rdp_words::is_among(rdp_words::LONG, number) {
         return 1;
     }
-    rdp_command::words_of(number)
+    rdp_words::words_of(number)
 }
 
 // The first refusal of a command, or 0: 4, then its refusal as a draw, then a missing sync.
@@ -176,7 +176,7 @@ fn own_refusal(rest: Rest, number: u8) -> u8
     requires { ⌜ number < 64 ⌝ }
     ensures { λ r. ⌜ r ≡ cond (draws number) (restRefusal rest) 0 ⌝ }
 {
-    if rdp_command::is_among(rdp_command::DRAWS, number) {
+    if rdp_words::is_among(rdp_words::DRAWS, number) {
         return draw_refusal(rest);
     }
     0
@@ -191,7 +191,7 @@ fn advance(e: u8, v: View, strict: bool, h: Head) -> Advanced
     let rest = v.rest;
     let required = required_if(strict, e / 32);
     let found = refusal(rest.ended, own_refusal(rest, number), required);
-    let words = rdp_command::words_of(number);
+    let words = rdp_words::words_of(number);
     let after = rest_after(rest, h);
     Advanced {
         refusal: found,
@@ -230,8 +230,8 @@ pub fn walk(table: &[u8; 1024], list: &[u8], words: usize, view: View, strict: b
         let head = rdp_command::head_at(list, at);
         let number = head.number;
         let e = hazards::entry(table, hazards, number);
-        if (e < 16) & !rdp_command::is_among(watched, number) {
-            if !rdp_command::is_among(rdp_command::LONG, number) {
+        if (e < 16) & !rdp_words::is_among(watched, number) {
+            if !rdp_words::is_among(rdp_words::LONG, number) {
                 at += 1;
                 if e == hazards {
                     continue;
@@ -239,7 +239,7 @@ pub fn walk(table: &[u8; 1024], list: &[u8], words: usize, view: View, strict: b
                 hazards = hazards::next(table, hazards, number);
                 continue;
             }
-            let count = rdp_command::words_of(number);
+            let count = rdp_words::words_of(number);
             if words - at < count {
                 return answer(3, at, hazards, rest);
             }

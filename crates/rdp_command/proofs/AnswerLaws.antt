@@ -7,12 +7,13 @@ use lib.Dec.{eqb, ltb}
 use lib.ListN.{length}
 use native.Mathlib.Omega.{arith}
 use borrow.Author.Tests.{ne-eqb, lt-ltb, le-ltb, eqb-true, eqb-false}
-use Rattle.rdp_command.specs.Words.{wordAt}
-use Rattle.rdp_command.specs.Kinds.{wordsOf}
+use Rattle.rdp_words.specs.Words.{wordAt}
+use Rattle.rdp_words.specs.Kinds.{wordsOf}
 use Rattle.rdp_command.specs.Layout.{layout}
 use Rattle.rdp_command.specs.Fields.{allFit}
 use Rattle.rdp_command.specs.Commands.{commandOf}
-use Rattle.rdp_command.specs.Decode.{firstNumber, wholeWords, ownWord, ownWords, commandIn, decodeOf}
+use Rattle.rdp_words.specs.Lengths.{firstNumber, wholeWords}
+use Rattle.rdp_command.specs.Decode.{ownWord, ownWords, commandIn, decodeOf}
 use Rattle.rdp_command.specs.Encode.{answerWith, outWith}
 use Rattle.rdp_command.specs.Numbers.{valuesFrom, numbersFit, flagsAgree, fromNumbers}
 use Rattle.rdp_command.specs.Steps.{decodedFrom}
@@ -21,7 +22,7 @@ use Rattle.rdp_command.specs.declared.Command.{Command}
 use Rattle.rdp_command.specs.declared.Decoded.{Decoded}
 use Rattle.rdp_command.specs.declared.Decoded.the-variants.{Whole, Refused}
 use Rattle.rdp_command.specs.declared.decoding.Base.{Base}
-use Rattle.rdp_command.proofs.Tests.{and-true}
+use Rattle.rdp_words.proofs.Tests.{and-true}
 
 abbrev pub answer : ℕ → ℕ → Answer
 answer number place = record { number = number; place = place }

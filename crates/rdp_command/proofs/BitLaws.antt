@@ -11,7 +11,7 @@ use lib.ListN.{length, getD}
 use lib.Pow.{pow-pos, pow-add, pow-mono, high}
 use Rattle.rdp_command.specs.Layout.{Line, width}
 use Rattle.rdp_command.specs.Fields.{shiftRight, bitsAt, placed, packed}
-use Rattle.rdp_command.proofs.Tests.{both}
+use Rattle.rdp_words.proofs.Tests.{both}
 
 -- the lines of word i fall from a bit on: each ends where the one before it begins, or lower
 abbrev pub falling : ℕ → ℕ → List Line → Bool

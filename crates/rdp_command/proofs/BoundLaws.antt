@@ -6,21 +6,22 @@ use mathlib.Core.Path.{_≡_, ap, _∙_}
 use native.Mathlib.Omega.{arith}
 use lib.Dec.{eqb, ltb, leb, leb→le}
 use lib.ListN.{length, length-map}
-use Rattle.rdp_command.specs.Words.{wordAt}
-use Rattle.rdp_command.specs.Kinds.{wordsOf}
+use Rattle.rdp_words.specs.Words.{wordAt}
+use Rattle.rdp_words.specs.Kinds.{wordsOf}
 use Rattle.rdp_command.specs.Layout.{layout}
 use Rattle.rdp_command.specs.Fields.{fieldAt, numberOfValue}
 use Rattle.rdp_command.specs.Commands.{numberOf, valuesOf}
-use Rattle.rdp_command.specs.Decode.{firstNumber, wholeWords, ownWords, commandIn, decodeOf}
+use Rattle.rdp_words.specs.Lengths.{firstNumber, wholeWords}
+use Rattle.rdp_command.specs.Decode.{ownWords, commandIn, decodeOf}
 use Rattle.rdp_command.specs.Encode.{numbersOf, numberInRow, encodable, hasRoom, answerWith, encodeAnswer}
 use Rattle.rdp_command.specs.Numbers.{numbersFit, flagsAgree, fieldsAnswer, fromNumbers}
 use Rattle.rdp_command.specs.declared.Answer.{Answer}
 use Rattle.rdp_command.specs.declared.Command.{Command}
 use Rattle.rdp_command.specs.declared.Decoded.the-variants.{Whole, Refused}
-use Rattle.rdp_command.proofs.Tests.{below, by-test}
-use Rattle.rdp_command.proofs.KindLaws.{words-most}
+use Rattle.rdp_words.proofs.Tests.{below, by-test}
+use Rattle.rdp_words.proofs.KindLaws.{words-most}
 use Rattle.rdp_command.proofs.AnswerLaws.{answer, refusal-of, refusal-first, decoded-is}
-use Rattle.rdp_command.proofs.PlaceLaws.{number-small}
+use Rattle.rdp_words.proofs.PlaceLaws.{number-small}
 use Rattle.rdp_command.proofs.Spreading.{not-encodable}
 use Rattle.rdp_command.proofs.GroupLaws.{values-read}
 use Rattle.rdp_command.proofs.NumberLaws.{standing}

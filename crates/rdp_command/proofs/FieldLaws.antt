@@ -12,7 +12,7 @@ use lib.Pow.{pow-mono}
 use lib.Signed.{mag}
 use mir.Val.{boolByte}
 use mir.Facts.{toZ-ofZ}
-use Rattle.rdp_command.specs.Words.{numberIn}
+use Rattle.rdp_words.specs.Words.{numberIn}
 use Rattle.rdp_command.specs.Layout.{Line, width, layout, triangleBaseLines}
 use Rattle.rdp_command.specs.Table.{AllReadable}
 use Rattle.rdp_command.specs.Fields.{Value, unsigned, signed, fieldsOf, numberOfValue, fitsLine, allFit, packed}
@@ -24,7 +24,7 @@ use Rattle.rdp_command.specs.declared.TriangleBase.{TriangleBase}
 use Rattle.rdp_command.specs.declared.Command.{Command}
 use Rattle.rdp_command.specs.declared.Command.the-variants.{FillTriangle}
 use Rattle.rdp_command.specs.declared.Decoded.the-variants.{Whole}
-use Rattle.rdp_command.proofs.Tests.{both, by-test, and-true}
+use Rattle.rdp_words.proofs.Tests.{both, by-test, and-true}
 use Rattle.rdp_command.proofs.Signed.{signed-fits, bool-le}
 use Rattle.rdp_command.proofs.TableLaws.{layout-readable}
 use Rattle.rdp_command.proofs.Triangles.{layout-at, triangle-eighth}

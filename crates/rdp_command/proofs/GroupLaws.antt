@@ -8,7 +8,7 @@ use lib.Dec.{eqb, ltb}
 use lib.ListN.{length, getD, drop}
 use mir.Val.{boolByte}
 use borrow.Author.Tests.{eqb-true, eqb-false, ltb-true, not-true}
-use Rattle.rdp_command.specs.Kinds.{among, isNoOperation}
+use Rattle.rdp_words.specs.Kinds.{among, isNoOperation}
 use Rattle.rdp_command.specs.Layout.{Line, layout, bit, bits, signedBits, otherModesLines, scissorLines, tileDescriptorLines, triangleBaseLines}
 use Rattle.rdp_command.specs.Fields.{Value, unsigned, flag, shiftRight, bitsAt, fieldAt, fieldsOf}
 use Rattle.rdp_command.specs.Groups.{scissorOf, scissorValues, otherModesOf, otherModesValues, tileDescriptorOf, tileDescriptorValues, triangleBaseOf, triangleBaseValues}
@@ -21,8 +21,9 @@ use Rattle.rdp_command.specs.declared.TileDescriptor.{TileDescriptor}
 use Rattle.rdp_command.specs.declared.TriangleBase.{TriangleBase}
 use Rattle.rdp_command.specs.declared.Command.{Command}
 use Rattle.rdp_command.specs.declared.Command.the-variants.{NoOperation, FillTriangle, TextureRectangle, TextureRectangleFlip, SyncLoad, SyncPipe, SyncTile, SyncFull, SetKeyGb, SetKeyR, SetConvert, SetScissor, SetPrimitiveDepth, SetOtherModes, LoadTlut, SetTileSize, LoadBlock, LoadTile, SetTile, FillRectangle, SetFillColor, SetFogColor, SetBlendColor, SetPrimitiveColor, SetEnvironmentColor, SetCombineMode, SetTextureImage, SetDepthImage, SetColorImage}
-use Rattle.rdp_command.proofs.Tests.{below, by-test, true-of, and-true, or-cases}
-use Rattle.rdp_command.proofs.KindLaws.{no-operation-small, no-operation-lines}
+use Rattle.rdp_words.proofs.Tests.{below, by-test, true-of, and-true, or-cases}
+use Rattle.rdp_words.proofs.KindLaws.{no-operation-small}
+use Rattle.rdp_command.proofs.LayoutLaws.{no-operation-lines}
 use Rattle.rdp_command.proofs.Triangles.{layout-at, triangle-eighth}
 use Rattle.rdp_command.proofs.CommandLaws.{triangle-command, low-command}
 

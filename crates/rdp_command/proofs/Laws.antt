@@ -4,10 +4,11 @@ use mathlib.Core.List.{List, _++_}
 use mathlib.Core.Path.{_≡_, ap, sym, subst, _∙_}
 use borrow.Author.Tests.{leb-true}
 use lib.ListN.{length}
-use Rattle.rdp_command.specs.Words.{overwrite}
-use Rattle.rdp_command.specs.Kinds.{wordsOf}
+use Rattle.rdp_words.specs.Words.{overwrite}
+use Rattle.rdp_words.specs.Kinds.{wordsOf}
 use Rattle.rdp_command.specs.Commands.{numberOf}
-use Rattle.rdp_command.specs.Decode.{firstNumber, decodeOf, suffixOf}
+use Rattle.rdp_words.specs.Lengths.{firstNumber, suffixOf}
+use Rattle.rdp_command.specs.Decode.{decodeOf}
 use Rattle.rdp_command.specs.Encode.{baseWords, encodeAnswer, encodeOut}
 use Rattle.rdp_command.specs.Kept.{bytesKept}
 use Rattle.rdp_command.specs.declared.Command.{Command}

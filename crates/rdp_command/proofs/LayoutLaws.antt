@@ -1,19 +1,20 @@
 -- The bit lines of every command fall within each word, so that its words hold each field's bits. Assumes nothing.
 use Prim.Native.Nat.{ℕ, zero, suc, _+_, _*_, _/_, _%_, _^_, _≤_, _<_, zero-le, suc-le-suc}
-use mathlib.Core.Bool.{Bool, true, false, cond, _&&_}
+use mathlib.Core.Bool.{Bool, true, false, cond, not, _&&_, _||_}
 use mathlib.Core.List.{List, [], _∷_, map}
 use mathlib.Core.Path.{_≡_, refl, ap, sym, _∙_}
 use native.Mathlib.Nat.{not-suc-le-zero, le-of-suc-le-suc, zero-add, suc-inj}
 use native.Mathlib.Omega.{arith}
-use lib.Dec.{T, eqb, ltb, ltb→lt}
+use lib.Dec.{T, eqb, ltb, eqb→eq, ltb→lt}
 use lib.ListN.{length, getD}
 use Rattle.rdp_command.specs.Layout.{Line, width, layout, bits}
 use Rattle.rdp_command.specs.Table.{AllReadable}
 use Rattle.rdp_command.specs.Fields.{Value, bitsAt, valueOf, fieldsOf, numberOfValue, fitsLine, allFit, packed}
 use Rattle.rdp_command.specs.Encode.{fixedBits, packedWord, baseWords}
-use Rattle.rdp_command.specs.Kinds.{kindOf, wordsOf}
+use Rattle.rdp_words.specs.Kinds.{kindOf, isNoOperation, wordsOf}
 use Rattle.rdp_command.specs.Numbers.{valueFrom, valuesFrom}
-use Rattle.rdp_command.proofs.Tests.{below, both, both-of, by-test, and-true}
+use Rattle.rdp_words.proofs.Tests.{below, both, both-of, by-test, and-true}
+use Rattle.rdp_words.proofs.KindLaws.{no-operation-small}
 use Rattle.rdp_command.proofs.BitLaws.{falling, packed-lt, read-at}
 use Rattle.rdp_command.proofs.ValueLaws.{signIs, sign-from, number-from, value-back}
 
@@ -179,3 +180,13 @@ fields-back n ns h r e g a =
     let f = numbers-from (layout n) ns e g in
     words-back n (valuesFrom (layout n) ns) (packedWords n ns) h r (f .0) a
     (λ i s. word-of n ns i (omega arith) ∙ ap (λ (x : List ℕ). packedWord n x i) (sym (f .1)))
+
+-- a no operation has no bit line
+abbrev emptyTest : ℕ → Bool
+emptyTest n = not (isNoOperation n) || eqb (length (layout n)) 0
+
+pub no-operation-lines : (n : ℕ) → isNoOperation n ≡ true → length (layout n) ≡ 0
+unfolding layout
+no-operation-lines n e =
+    let t = below 64 emptyTest tt n (no-operation-small n e) in
+    eqb→eq (length (layout n)) 0 (rw e at t)

@@ -2,8 +2,6 @@ pub mod Signed
 pub mod Bytes
 pub mod Triangles
 pub mod Spreading
-pub mod Tests
-pub mod KindLaws
 pub mod TableLaws
 pub mod PackLaws
 pub mod CommandLaws
@@ -12,12 +10,10 @@ pub mod ValueLaws
 pub mod LayoutLaws
 pub mod AnswerLaws
 pub mod GroupLaws
-pub mod WordLaws
 pub mod NumberLaws
 pub mod WholeLaws
 pub mod Laws
 pub mod FieldLaws
-pub mod PlaceLaws
 pub mod SyncWordLaws
 pub mod ReadLaws
 pub mod BoundLaws

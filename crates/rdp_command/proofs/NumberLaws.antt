@@ -10,7 +10,7 @@ use lib.Dec.{T, eqb, eqb→eq, lit<}
 use lib.ListN.{length, getD, drop}
 use lib.Pow.{pow-pos, shr-shr}
 use mir.Val.{boolByte}
-use Rattle.rdp_command.specs.Words.{numberIn}
+use Rattle.rdp_words.specs.Words.{numberIn}
 use Rattle.rdp_command.specs.Layout.{Line, width, bit, layout, triangleBaseLines}
 use Rattle.rdp_command.specs.Table.{AllReadable}
 use Rattle.rdp_command.specs.Fields.{shiftRight, bitsAt, fieldsOf, numberOfValue, allFit, packed}
@@ -22,9 +22,10 @@ use Rattle.rdp_command.specs.Kept.{bitsKept}
 use Rattle.rdp_command.specs.declared.TriangleBase.{TriangleBase}
 use Rattle.rdp_command.specs.declared.Command.{Command}
 use Rattle.rdp_command.specs.declared.Command.the-variants.{NoOperation, FillTriangle, TextureRectangle, TextureRectangleFlip, SyncLoad, SyncPipe, SyncTile, SyncFull, SetKeyGb, SetKeyR, SetConvert, SetScissor, SetPrimitiveDepth, SetOtherModes, LoadTlut, SetTileSize, LoadBlock, LoadTile, SetTile, FillRectangle, SetFillColor, SetFogColor, SetBlendColor, SetPrimitiveColor, SetEnvironmentColor, SetCombineMode, SetTextureImage, SetDepthImage, SetColorImage}
-use Rattle.rdp_command.proofs.Tests.{below, by-test}
+use Rattle.rdp_words.proofs.Tests.{below, by-test}
 use Rattle.rdp_command.proofs.Signed.{bool-le}
-use Rattle.rdp_command.proofs.KindLaws.{no-operation-small, no-operation-lines}
+use Rattle.rdp_words.proofs.KindLaws.{no-operation-small}
+use Rattle.rdp_command.proofs.LayoutLaws.{no-operation-lines}
 use Rattle.rdp_command.proofs.Triangles.{triangle-eighth, triangle-layout, triangle-small}
 use Rattle.rdp_command.proofs.CommandLaws.{triangle-command, at-triangle}
 use Rattle.rdp_command.proofs.BitLaws.{packed-lt, bits-are}

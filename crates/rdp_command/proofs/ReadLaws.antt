@@ -3,12 +3,13 @@ use mathlib.Core.List.{List}
 use mathlib.Core.Path.{_≡_, refl, sym, ap, _∙_}
 use Prim.Native.Nat.{ℕ, _/_}
 use borrow.Author.Tests.{eq-eqb}
-use Rattle.rdp_command.specs.Words.{wordAt}
+use Rattle.rdp_words.specs.Words.{wordAt}
 use Rattle.rdp_command.specs.Layout.{layout}
 use Rattle.rdp_command.specs.Fields.{fieldsOf}
 use Rattle.rdp_command.specs.Groups.{triangleBaseOf}
 use Rattle.rdp_command.specs.Commands.{commandOf, numberOf}
-use Rattle.rdp_command.specs.Decode.{firstNumber, wholeWords, ownWords, commandIn, decodeOf}
+use Rattle.rdp_words.specs.Lengths.{firstNumber, wholeWords}
+use Rattle.rdp_command.specs.Decode.{ownWords, commandIn, decodeOf}
 use Rattle.rdp_command.specs.Reads.{otherModesIn, scissorIn, rectangleIn, fillColorIn, colorImageIn}
 use Rattle.rdp_command.specs.declared.Command.{Command}
 use Rattle.rdp_command.specs.declared.Command.the-variants.{FillTriangle, TextureRectangle, TextureRectangleFlip, SetOtherModes, SetScissor, SetColorImage, SetFillColor, FillRectangle}

@@ -7,13 +7,13 @@ use borrow.Author.Tests.{eq-eqb}
 use mathlib.Core.Path.{_≡_, ap, subst, sym, _∙_}
 use lib.ListN.{length, take, drop, replicate}
 use lib.Seq.{take-append-seam}
-use Rattle.rdp_command.specs.Words.{overwrite}
+use Rattle.rdp_words.specs.Words.{overwrite}
 use Rattle.rdp_command.specs.Encode.{numbersOf, numberInRow, encodable}
-use Rattle.rdp_command.specs.Kinds.{wordsOf}
+use Rattle.rdp_words.specs.Kinds.{wordsOf}
 use Rattle.rdp_command.specs.Layout.{layout}
 use Rattle.rdp_command.specs.Fields.{Value, allFit}
 use Rattle.rdp_command.specs.Commands.{numberOf}
-use Rattle.rdp_command.specs.Decode.{suffixWords}
+use Rattle.rdp_words.specs.Lengths.{suffixWords}
 use Rattle.rdp_command.specs.Numbers.{numbersFit}
 use Rattle.rdp_command.specs.Steps.{Spread, Usable}
 use Rattle.rdp_command.specs.declared.values.Numbers.{Numbers}

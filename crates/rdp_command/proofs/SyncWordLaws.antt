@@ -2,15 +2,16 @@
 use Prim.Native.Nat.{ℕ, _<_}
 use mathlib.Core.Path.{_≡_, refl, ap, _∙_}
 use native.Mathlib.Omega.{arith}
-use Rattle.rdp_command.specs.Words.{halfOf, wordAt, bareWord}
-use Rattle.rdp_command.specs.Kinds.{Kind, syncLoad, syncTile, syncPipe, kindOf, wordsOf}
+use Rattle.rdp_words.specs.Words.{halfOf, wordAt, bareWord}
+use Rattle.rdp_words.specs.Kinds.{Kind, syncLoad, syncTile, syncPipe, kindOf, wordsOf}
 use Rattle.rdp_command.specs.Layout.{layout}
 use Rattle.rdp_command.specs.Commands.{commandOf}
-use Rattle.rdp_command.specs.Decode.{firstNumber, wholeWords, decodeOf}
+use Rattle.rdp_words.specs.Lengths.{firstNumber, wholeWords}
+use Rattle.rdp_command.specs.Decode.{decodeOf}
 use Rattle.rdp_command.specs.declared.Command.{Command}
 use Rattle.rdp_command.specs.declared.Command.the-variants.{SyncLoad, SyncTile, SyncPipe}
 use Rattle.rdp_command.specs.declared.Decoded.the-variants.{Whole}
-use Rattle.rdp_command.proofs.PlaceLaws.{words-there}
+use Rattle.rdp_words.proofs.PlaceLaws.{words-there}
 
 -- its number is first
 pub bare-number : (n : ℕ) → n < 64 → firstNumber (bareWord n) ≡ n

@@ -10,7 +10,7 @@ use lib.ListN.{length, getD, take, drop, length-take, length-drop}
 use lib.Seq.{getD-take, getD-drop}
 use Rattle.rdp_command.specs.Layout.{Line, width, layout}
 use Rattle.rdp_command.specs.Table.{lineOf, linesAt, Row, Agrees, Readable, AllReadable}
-use Rattle.rdp_command.proofs.Tests.{each, below, both, same, same-bool}
+use Rattle.rdp_words.proofs.Tests.{each, below, both, same, same-bool}
 
 abbrev sameLine : Line → Line → Bool
 sameLine a b = ((same (a .isSigned) (b .isSigned) && eqb (a .word) (b .word)) && eqb (a .high) (b .high)) && eqb (a .low) (b .low)

@@ -16,7 +16,7 @@ use mir.Facts.{ofZ-toZ}
 use Rattle.rdp_command.specs.Layout.{Line, width}
 use Rattle.rdp_command.specs.Fields.{Value, unsigned, signed, twosComplement, valueOf, numberOfValue, fitsLine}
 use Rattle.rdp_command.specs.Numbers.{valueFrom}
-use Rattle.rdp_command.proofs.Tests.{by-test}
+use Rattle.rdp_words.proofs.Tests.{by-test}
 use Rattle.rdp_command.proofs.Signed.{signed-fits}
 
 -- half is 2 to the bits less one, of which 2 ^ 64 is a multiple

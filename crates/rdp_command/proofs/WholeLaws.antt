@@ -3,31 +3,51 @@ use Prim.Native.Nat.{ℕ, zero, suc, _+_, _*_, _/_, _^_, _≤_, _<_}
 use mathlib.Core.Bool.{Bool, true, false, cond, _&&_}
 use mathlib.Core.List.{List, [], _∷_, _++_, map, append-assoc}
 use mathlib.Core.Path.{_≡_, refl, ap, sym, _∙_}
-use native.Mathlib.Nat.{mod-lt}
+use native.Mathlib.Nat.{mod-lt, not-suc-le-zero}
 use native.Mathlib.Omega.{arith}
-use borrow.Author.Tests.{lt-ltb, le-ltb, le-leb, eq-eqb, eqb-true, ltb-true, ltb-false}
+use borrow.Author.Tests.{lt-ltb, le-ltb, le-leb, eq-eqb, eqb-true, eqb-false, ltb-true, ltb-false}
 use lib.Dec.{eqb, ltb, lit<}
 use lib.ListN.{length, getD, take, drop, length-append, length-take, length-drop}
 use lib.Seq.{take-at, drop-at, take-append-le, drop-append-le}
-use Rattle.rdp_command.specs.Words.{wordOf, wordAt, numberIn, bytesOf, overwrite}
-use Rattle.rdp_command.specs.Kinds.{wordsOf}
+use Rattle.rdp_words.specs.Words.{wordOf, wordAt, numberIn, bytesOf, overwrite}
+use Rattle.rdp_words.specs.Kinds.{wordsOf}
 use Rattle.rdp_command.specs.Layout.{layout}
 use Rattle.rdp_command.specs.Fields.{Value, fieldsOf, numberOfValue, allFit}
 use Rattle.rdp_command.specs.Commands.{commandOf, numberOf, valuesOf}
-use Rattle.rdp_command.specs.Decode.{firstNumber, wholeWords, ownWord, ownWords, commandIn, decodeOf, suffixWords, suffixStart, suffixOf}
+use Rattle.rdp_words.specs.Lengths.{firstNumber, wholeWords, suffixWords, suffixStart, suffixOf}
+use Rattle.rdp_command.specs.Decode.{ownWord, ownWords, commandIn, decodeOf}
 use Rattle.rdp_command.specs.Encode.{packedWord, packedBytes, baseWords, numbersOf, numberInRow, encodable, bytesWith, encodedBytes, fixedBits, hasRoom, verdictOf, answerWith, outWith, encodeAnswer, encodeOut}
 use Rattle.rdp_command.specs.Kept.{bytesKept, wordKept}
 use Rattle.rdp_command.specs.declared.Command.{Command}
 use Rattle.rdp_command.specs.declared.Decoded.the-variants.{Whole}
-use Rattle.rdp_command.proofs.Tests.{by-test, and-true}
-use Rattle.rdp_command.proofs.KindLaws.{words-pos}
+use Rattle.rdp_words.proofs.Tests.{by-test, and-true}
+use Rattle.rdp_words.proofs.KindLaws.{words-pos}
 use Rattle.rdp_command.proofs.TableLaws.{layout-readable}
 use Rattle.rdp_command.proofs.AnswerLaws.{answer, whole, nonzero-words}
 use Rattle.rdp_command.proofs.Bytes.{empty, packed-long, length-overwrite}
-use Rattle.rdp_command.proofs.WordLaws.{word-whole, word-front, packed-at}
+use Rattle.rdp_words.proofs.WordLaws.{word-back, word-whole, word-front}
 use Rattle.rdp_command.proofs.LayoutLaws.{word-lt, words-back}
 use Rattle.rdp_command.proofs.GroupLaws.{command-back, values-read}
 use Rattle.rdp_command.proofs.NumberLaws.{standing, number-packed, number-read, number-in-row-read, fits-read, packed-read}
+
+-- word k of the words of a command, whatever follows them
+packed-at :
+    (n : ℕ) (ns : List ℕ) (m k : ℕ) (more : List ℕ) → k < m → packedWord n ns k < 2 ^ 64 → wordOf (drop (8 * k) (packedBytes n ns m ++ more)) ≡ packedWord n ns k
+unfolding packedBytes
+packed-at n ns zero k more h s = absurd (not-suc-le-zero h)
+packed-at n ns (suc m) k more h s =
+    ap (λ (bs : List ℕ). wordOf (drop (8 * k) bs)) (append-assoc (packedBytes n ns m) (bytesOf (packedWord n ns m)) more) ∙
+    by-test (eqb k m)
+    (λ t.
+    let e = eqb-true k m t in
+    let long : length (packedBytes n ns m) ≡ 8 * k = omega (arith, packed-long n ns m) in
+    ap wordOf (drop-at (packedBytes n ns m) (bytesOf (packedWord n ns m) ++ more) (8 * k) long) ∙
+    ap (λ (j : ℕ). wordOf (bytesOf (packedWord n ns j) ++ more)) (sym e) ∙
+    word-back (packedWord n ns k) more s)
+    (λ f.
+    let g : k ≡ m → ⊥ = eqb-false k m f in
+    let r : k < m = omega arith in
+    packed-at n ns m k (bytesOf (packedWord n ns m) ++ more) r s)
 
 -- ---- what an encodable command is
 

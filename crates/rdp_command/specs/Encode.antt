@@ -4,12 +4,12 @@ use mathlib.Core.List.{List, [], _++_, map}
 use Prim.Native.Nat.{ℕ, zero, suc, _+_, _*_, _/_, _^_, min}
 use lib.Dec.{eqb, leb}
 use lib.ListN.{length}
-use Rattle.rdp_command.specs.Words.{bytesOf, overwrite}
-use Rattle.rdp_command.specs.Kinds.{wordsOf, isNoOperation}
+use Rattle.rdp_words.specs.Words.{bytesOf, overwrite}
+use Rattle.rdp_words.specs.Kinds.{wordsOf, isNoOperation}
 use Rattle.rdp_command.specs.Layout.{layout}
 use Rattle.rdp_command.specs.Fields.{numberOfValue, allFit, packed}
 use Rattle.rdp_command.specs.Commands.{valuesOf, numberOf}
-use Rattle.rdp_command.specs.Decode.{suffixWords}
+use Rattle.rdp_words.specs.Lengths.{suffixWords}
 use Rattle.rdp_command.specs.declared.Answer.{Answer}
 use Rattle.rdp_command.specs.declared.Command.{Command}
 use Rattle.rdp_command.specs.declared.Command.the-variants.{NoOperation, FillTriangle, TextureRectangle, TextureRectangleFlip, SyncLoad, SyncPipe, SyncTile, SyncFull, SetKeyGb, SetKeyR, SetConvert, SetScissor, SetPrimitiveDepth, SetOtherModes, LoadTlut, SetTileSize, LoadBlock, LoadTile, SetTile, FillRectangle, SetFillColor, SetFogColor, SetBlendColor, SetPrimitiveColor, SetEnvironmentColor, SetCombineMode, SetTextureImage, SetDepthImage, SetColorImage}

@@ -3,7 +3,7 @@ use mathlib.Core.Bool.{cond}
 use mathlib.Core.List.{List, [], _∷_, _++_}
 use Prim.Native.Nat.{ℕ, zero, suc, _+_, _*_, _^_}
 use lib.Dec.{eqb}
-use Rattle.rdp_command.specs.Words.{bytesOf, wordAt}
+use Rattle.rdp_words.specs.Words.{bytesOf, wordAt}
 use Rattle.rdp_command.specs.Layout.{Line, layout}
 use Rattle.rdp_command.specs.Fields.{bitsAt}
 use Rattle.rdp_command.specs.Encode.{fixedBits}

@@ -1,5 +1,3 @@
-pub mod Words
-pub mod Kinds
 pub mod Layout
 pub mod Table
 pub mod Fields

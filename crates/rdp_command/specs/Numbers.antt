@@ -6,7 +6,7 @@ use lib.Dec.{eqb, ltb}
 use lib.ListN.{length, getD}
 use mir.Syntax.{w64}
 use mir.Val.{toZ}
-use Rattle.rdp_command.specs.Words.{overwrite}
+use Rattle.rdp_words.specs.Words.{overwrite}
 use Rattle.rdp_command.specs.Layout.{Line, layout}
 use Rattle.rdp_command.specs.Fields.{Value, unsigned, signed, allFit}
 use Rattle.rdp_command.specs.Commands.{commandOf}

@@ -1,7 +1,7 @@
 -- What the check, the registers and the drawing read of words, without decoding a command. Each takes a word for the first word of its command.
 use mathlib.Core.List.{List, [], _∷_}
 use Prim.Native.Nat.{ℕ}
-use Rattle.rdp_command.specs.Words.{numberIn}
+use Rattle.rdp_words.specs.Words.{numberIn}
 use Rattle.rdp_command.specs.Layout.{Line, keyGbLines, keyRLines, convertLines, scissorLines, primitiveDepthLines, otherModesLines, tileAreaLines, tileDescriptorLines, rectangleLines, fillColorLines, colorLines, primitiveColorLines, combineModeLines, imageLines, depthImageLines, colorImageLines}
 use Rattle.rdp_command.specs.Fields.{Value, fieldsOf}
 use Rattle.rdp_command.specs.Groups.{natAt, keyGbOf, keyROf, convertOf, scissorOf, primitiveDepthOf, otherModesOf, tileAreaOf, tileDescriptorOf, rectangleOf, colorOf, primitiveColorOf, imageOf}

@@ -5,13 +5,14 @@ use mathlib.Core.Path.{_≡_}
 use Prim.Native.Nat.{ℕ, _*_, _<_, _≤_}
 use lib.Dec.{eqb}
 use lib.ListN.{length, replicate}
-use Rattle.rdp_command.specs.Words.{overwrite}
-use Rattle.rdp_command.specs.Kinds.{wordsOf}
+use Rattle.rdp_words.specs.Words.{overwrite}
+use Rattle.rdp_words.specs.Kinds.{wordsOf}
 use Rattle.rdp_command.specs.Layout.{Line, layout}
 use Rattle.rdp_command.specs.Table.{Agrees}
 use Rattle.rdp_command.specs.Fields.{Value, numberOfValue}
 use Rattle.rdp_command.specs.Commands.{numberOf, valuesOf}
-use Rattle.rdp_command.specs.Decode.{commandIn, suffixWords}
+use Rattle.rdp_words.specs.Lengths.{suffixWords}
+use Rattle.rdp_command.specs.Decode.{commandIn}
 use Rattle.rdp_command.specs.Encode.{numbersOf, numberInRow, bytesWith, answerWith, outWith}
 use Rattle.rdp_command.specs.Numbers.{valuesFrom, numbersFit}
 use Rattle.rdp_command.specs.declared.Answer.{Answer}

@@ -21,11 +21,11 @@ pub struct Base {
 pub fn first_command(list: &[u8]) -> Base
     ensures { λ r. ⌜ decodedFrom 3 r ≡ decodeOf (now (list .entry)) ⌝ }
 {
-    let n = words::whole_words(list);
-    let w0 = word_at(list, 0);
+    let n = rdp_words::whole_words(list);
+    let w0 = rdp_words::word_at(list, 0);
     Base {
         ok: n != 0,
-        number: words::number_in(w0),
+        number: rdp_words::number_in(w0),
         w0,
         w1: words::own_word(list, n, 1),
         w2: words::own_word(list, n, 2),

@@ -2,11 +2,11 @@
 ghost use mathlib.Core.Path.{_≡_};
 ghost use Prim.Native.Nat.{_*_, _<_, _≤_, _/_, _%_};
 ghost use lib.ListN.{length, getD};
-ghost use Rattle.rdp_command.specs.Words.{overwrite};
-ghost use Rattle.rdp_command.specs.Kinds.{wordsOf};
+ghost use Rattle.rdp_words.specs.Words.{overwrite};
+ghost use Rattle.rdp_words.specs.Kinds.{wordsOf};
 ghost use Rattle.rdp_command.specs.Layout.{layout};
 ghost use Rattle.rdp_command.specs.Table.{Agrees};
-ghost use Rattle.rdp_command.specs.Decode.{suffixWords};
+ghost use Rattle.rdp_words.specs.Lengths.{suffixWords};
 ghost use Rattle.rdp_command.specs.Encode.{fixedBits, packedWord, packedBytes, bytesWith, verdictOf, encodeAnswer, encodeOut};
 ghost use Rattle.rdp_command.specs.Numbers.{numbersFit, flagsAgree, fromNumbers};
 ghost use Rattle.rdp_command.specs.Steps.{Spread, Packable, SuffixDue, answerBy, outBy, Usable, decodedFrom};
@@ -16,7 +16,6 @@ use crate::packing;
 use crate::table;
 use crate::values::Numbers;
 use crate::words;
-use crate::words_of;
 use crate::*;
 
 // Where the bit lines of a number stand in the table, and how many they are.
@@ -138,7 +137,7 @@ fn write_command(number: u8, numbers: &[u64], suffix: &[u8], out: &mut [u8]) -> 
     ensures output { λ _. ⌜ now (out .exit) ≡ outBy number (now (numbers .entry)) (now (suffix .entry)) (now (out .entry)) ⌝ }
 {
     let table = table::layout_table();
-    let n = words_of(number);
+    let n = rdp_words::words_of(number);
     let due = suffix_len(n);
     let fits = numbers_fit(&table, number, numbers);
     let encodable = fits & (suffix.len() == due);

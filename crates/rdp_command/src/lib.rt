@@ -1,10 +1,7 @@
 // Decoding and encoding of the display processor's commands.
 ghost use mathlib.Core.Path.{_≡_};
-ghost use Prim.Native.Nat.{_+_};
-ghost use denote.Ref.{ptr};
-ghost use Rattle.rdp_command.specs.Words.{wordAt};
-ghost use Rattle.rdp_command.specs.Kinds.{wordsOf, isAmong};
-ghost use Rattle.rdp_command.specs.Decode.{decodeOf, suffixOf, suffixStart};
+ghost use Rattle.rdp_words.specs.Words.{wordAt};
+ghost use Rattle.rdp_command.specs.Decode.{decodeOf};
 ghost use Rattle.rdp_command.specs.Reads.{headOf, fillFields, registerFields, tileFields};
 ghost use Rattle.rdp_command.specs.Encode.{encodeAnswer, encodeOut};
 ghost use Rattle.rdp_command.specs.Numbers.{fieldsAnswer, fieldsOut, fromNumbers};
@@ -404,25 +401,13 @@ pub enum Decoded {
     Refused(Answer),
 }
 
-// The word at a place of a list; 0 where the list has no whole word there.
-pub fn word_at(list: &[u8], place: usize) -> u64
-    ensures { λ r. ⌜ r ≡ wordAt (now (list .entry)) place ⌝ }
-{
-    if place < list.len() / 8 {
-        let at = 8 * place;
-        words::half_at(list, at) * 0x1_0000_0000 + words::half_at(list, at + 4)
-    } else {
-        0
-    }
-}
-
 // What the check reads of the word at a place.
 pub fn head_at(list: &[u8], place: usize) -> Head
     ensures { λ r. ⌜ r ≡ headOf (wordAt (now (list .entry)) place) ⌝ }
 {
-    let w = word_at(list, place);
+    let w = rdp_words::word_at(list, place);
     Head {
-        number: words::number_in(w),
+        number: rdp_words::number_in(w),
         cycle_type: read::cycle_type(w),
         image_size: ((w >> 51) % 0x4) as u8,
     }
@@ -463,50 +448,11 @@ pub fn tile_fields(descriptor: u64, size: u64) -> TileFields
     }
 }
 
-// Command numbers, a bit for each: the draws, and the commands of more than one word.
-pub const DRAWS: u64 = 0x0040_0030_0000_FF00;
-
-pub const LONG: u64 = 0x0000_0030_0000_FF00;
-
-// Whether a command number is among those whose bits are set; its low six bits count.
-pub fn is_among(numbers: u64, number: u8) -> bool
-    ensures { λ r. ⌜ r ≡ isAmong numbers number ⌝ }
-{
-    (numbers >> (number % 64)) % 2 == 1
-}
-
-// The words of a command, by its number. Byte k of the constant, from its low end, has those of the triangle 0x08 + k.
-pub fn words_of(number: u8) -> usize
-    ensures { λ r. ⌜ r ≡ wordsOf number ⌝ }
-{
-    if number / 8 == 1 {
-        return ((0x1614_0E0C_0E0C_0604u64 >> (number % 8 * 8)) % 256) as usize;
-    }
-    if number / 2 == 0x12 {
-        return 2;
-    }
-    1
-}
-
 // The first command of a list, or 3 at 0 where its words are not all there. Bytes beyond its words are not read.
 pub fn decode(list: &[u8]) -> Decoded
     ensures { λ r. ⌜ r ≡ decodeOf (now (list .entry)) ⌝ }
 {
     decoding::decoded(decoding::first_command(list), 3)
-}
-
-// The bytes after the base of the first command, where that is a whole triangle; else none. They are the caller's own bytes, and no copy.
-pub fn suffix(list: &[u8]) -> &[u8]
-    ensures bytes { λ r. ⌜ now r ≡ suffixOf (now (list .entry)) ⌝ }
-    ensures block { λ r. ⌜ ptr r .0 ≡ ptr (list .entry) .0 ⌝ }
-    ensures offset { λ r. ⌜ ptr r .1 ≡ ptr (list .entry) .1 + suffixStart (now (list .entry)) ⌝ }
-{
-    let n = words::whole_words(list);
-    if n <= 4 {
-        return &list[0..0];
-    }
-    let end = 8 * n;
-    &list[32..end]
 }
 
 // Writes a command at the front of out, with the bytes given for what follows a triangle's base. Answers 0 and the words written; 15 at 0 where the

@@ -13,7 +13,7 @@ use borrow.Author.Tests.{eqb-false}
 use lib.ListN.{length}
 use Rattle.rdp_command.specs.declared.Image.{Image}
 use Rattle.rdp_command.specs.declared.Scissor.{Scissor}
-use Rattle.rdp_command.proofs.Tests.{by-test}
+use Rattle.rdp_words.proofs.Tests.{by-test}
 use Rattle.rdp_draw.specs.declared.Area.{Area}
 use Rattle.rdp_command.specs.declared.FillFields.{FillFields}
 use Rattle.rdp_draw.specs.Fill.{bytesPerPixel, colorByte, covers, outside, painted, pixelAddress, rowKept}

@@ -6,10 +6,11 @@ use native.Mathlib.Omega.{arith}
 use borrow.Author.Tests.{eqb-true, eqb-false}
 use lib.Dec.{T, eqb}
 use lib.ListN.{length}
-use Rattle.rdp_command.specs.Kinds.{among, wordsOf}
-use Rattle.rdp_command.specs.Decode.{firstNumber, decodeOf}
+use Rattle.rdp_words.specs.Kinds.{among, wordsOf}
+use Rattle.rdp_words.specs.Lengths.{firstNumber}
+use Rattle.rdp_command.specs.Decode.{decodeOf}
 use Rattle.rdp_command.specs.declared.Answer.{Answer}
-use Rattle.rdp_command.proofs.Tests.{by-test}
+use Rattle.rdp_words.proofs.Tests.{by-test}
 use Rattle.rdp_check.specs.Order.{firstOf}
 use Rattle.rdp_check.specs.Check.{checkRefusals, checkOf}
 use Rattle.rdp_check.specs.Commands.{commandsOf, wordsIn}

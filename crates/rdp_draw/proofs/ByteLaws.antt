@@ -6,7 +6,7 @@ use Prim.Native.Nat.{ℕ, _+_, _<_}
 use lib.Dec.{T}
 use lib.ListN.{length, getD}
 use Rattle.rdp_command.specs.declared.FillFields.{FillFields}
-use Rattle.rdp_command.proofs.Tests.{by-test, true-of, false-of, neither}
+use Rattle.rdp_words.proofs.Tests.{by-test, true-of, false-of, neither}
 use Rattle.rdp_draw.specs.Fill.{colorByte, covers, painted}
 use Rattle.rdp_draw.specs.Draw.{Act, nothing, otherDraw, filling, Draw, drawsOf, drawAnswer, acted, paintedAll, drawMemory}
 use Rattle.rdp_draw.specs.Refusals.{actCovers, someCovers, LastCovers}

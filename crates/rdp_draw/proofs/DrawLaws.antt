@@ -7,12 +7,12 @@ use native.Mathlib.Omega.{arith}
 use borrow.Author.Tests.{eq-eqb, ne-eqb, ltb-true, ltb-false}
 use lib.Dec.{T, eqb, ltb}
 use lib.ListN.{length, replicate}
-use Rattle.rdp_command.specs.Words.{wordAt}
-use Rattle.rdp_command.specs.Kinds.{wordsOf}
+use Rattle.rdp_words.specs.Words.{wordAt}
+use Rattle.rdp_words.specs.Kinds.{wordsOf}
 use Rattle.rdp_command.specs.Reads.{fillFields}
 use Rattle.rdp_command.specs.declared.Answer.{Answer}
 use Rattle.rdp_command.specs.declared.FillFields.{FillFields}
-use Rattle.rdp_command.proofs.Tests.{by-test, false-of}
+use Rattle.rdp_words.proofs.Tests.{by-test, false-of}
 use Rattle.rdp_check.specs.Commands.{restOf}
 use Rattle.rdp_check.specs.Check.{checkOf}
 use Rattle.rdp_check.specs.Order.{firstOf, answer, Among}

@@ -7,7 +7,7 @@ use native.Mathlib.Nat.{suc-mul, mul-le-mul-right}
 use native.Mathlib.Omega.{arith}
 use borrow.Author.Tests.{eqb-false, le-leb, leb-true, ne-eqb}
 use lib.Dec.{eqb, leb}
-use Rattle.rdp_command.proofs.Tests.{by-test, neither}
+use Rattle.rdp_words.proofs.Tests.{by-test, neither}
 use Rattle.rdp_draw.specs.declared.Area.{Area}
 use Rattle.rdp_draw.specs.Overlay.{within}
 use Rattle.rdp_draw.specs.Runs.{areaEmpty, areaInside, inRuns}

@@ -10,7 +10,7 @@ use native.Mathlib.Omega.{arith}
 use borrow.Author.Tests.{eqb-true, eq-eqb, not-true}
 use lib.Dec.{eqb}
 use Rattle.rdp_command.specs.declared.Scissor.{Scissor}
-use Rattle.rdp_command.proofs.Tests.{by-test}
+use Rattle.rdp_words.proofs.Tests.{by-test}
 use Rattle.rdp_command.specs.declared.FillFields.{FillFields}
 use Rattle.rdp_draw.specs.Fill.{bytesPerPixel, covers, kept, oneOf, outside, pixelAddress, rowKept, someByte}
 use Rattle.rdp_draw.specs.Meaning.{Covers, Kept}

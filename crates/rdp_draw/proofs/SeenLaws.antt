@@ -9,17 +9,18 @@ use borrow.Author.Tests.{ne-eqb, eqb-true, ltb-true, ltb-false}
 use lib.Dec.{T, eqb, ltb, eqb→eq, lit<}
 use lib.ListN.{length, drop, replicate, length-drop}
 use mir.Val.{boolByte}
-use Rattle.rdp_command.specs.Words.{wordAt, numberIn}
-use Rattle.rdp_command.specs.Kinds.{Kind, among, kindOf, isDraw, isAmong, wordsOfKind, wordsOf}
+use Rattle.rdp_words.specs.Words.{wordAt, numberIn}
+use Rattle.rdp_words.specs.Kinds.{Kind, among, kindOf, isDraw, isAmong, wordsOfKind, wordsOf}
 use Rattle.rdp_command.specs.Commands.{numberOf}
-use Rattle.rdp_command.specs.Decode.{firstNumber, wholeWords, decodeOf}
+use Rattle.rdp_words.specs.Lengths.{firstNumber, wholeWords}
+use Rattle.rdp_command.specs.Decode.{decodeOf}
 use Rattle.rdp_command.specs.Reads.{rectangleIn, fillFields}
 use Rattle.rdp_command.specs.declared.FillFields.{FillFields}
 use Rattle.rdp_command.specs.declared.Command.{Command}
 use Rattle.rdp_command.specs.declared.Command.the-variants.{NoOperation, FillTriangle, TextureRectangle, TextureRectangleFlip, SyncLoad, SyncPipe, SyncTile, SyncFull, SetKeyGb, SetKeyR, SetConvert, SetScissor, SetPrimitiveDepth, SetOtherModes, LoadTlut, SetTileSize, LoadBlock, LoadTile, SetTile, FillRectangle, SetFillColor, SetFogColor, SetBlendColor, SetPrimitiveColor, SetEnvironmentColor, SetCombineMode, SetTextureImage, SetDepthImage, SetColorImage}
-use Rattle.rdp_command.proofs.Tests.{by-test, false-of}
-use Rattle.rdp_command.proofs.KindLaws.{among-by, draws-among, draw-numbers, by-kinds, words-of-kind}
-use Rattle.rdp_command.proofs.PlaceLaws.{number-small, some-words}
+use Rattle.rdp_words.proofs.Tests.{by-test, false-of}
+use Rattle.rdp_words.proofs.KindLaws.{among-by, draws-among, draw-numbers, by-kinds, words-of-kind}
+use Rattle.rdp_words.proofs.PlaceLaws.{number-small, some-words}
 use Rattle.rdp_command.proofs.ReadLaws.{decoded, decodes, decoded-number, reads-triangle, reads-texture-rectangle, reads-texture-rectangle-flip, reads-rectangle}
 use Rattle.rdp_check.specs.Commands.{commandsOf, restOf}
 use Rattle.rdp_check.specs.Registers.{afterDecoded}

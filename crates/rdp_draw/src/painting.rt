@@ -44,7 +44,7 @@ pub fn paint_all(list: &[u8], words: usize, memory: &mut [u8], start: u64)
     let mut reached = walk::next_draw(list, 0, &mut file);
     while reached.place < words {
         paint_fill(memory, start, walk::fill_at(list, reached.place, &file));
-        let next = reached.place + rdp_command::words_of(reached.number);
+        let next = reached.place + rdp_words::words_of(reached.number);
         reached = walk::next_draw(list, next, &mut file);
     }
 }

@@ -46,7 +46,7 @@ pub fn first_refusal(list: &[u8], words: usize, start: u64, len: usize) -> Answe
                 place: place as u32,
             };
         }
-        let next = place + rdp_command::words_of(reached.number);
+        let next = place + rdp_words::words_of(reached.number);
         reached = walk::next_draw(list, next, &mut file);
     }
     Answer {

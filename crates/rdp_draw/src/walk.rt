@@ -1,6 +1,6 @@
 // The walk over the draws of a list, with the words that last set the registers.
 ghost use mathlib.Core.Path.{_≡_};
-ghost use Rattle.rdp_command.specs.Words.{wordAt};
+ghost use Rattle.rdp_words.specs.Words.{wordAt};
 ghost use Rattle.rdp_command.specs.Reads.{fillFields};
 ghost use Rattle.rdp_draw.specs.Seen.{fillWords, Reaches};
 use rdp_command::FillFields;
@@ -24,11 +24,11 @@ pub fn next_draw(list: &[u8], from: usize, file: &mut [u64; 32]) -> Reached
     while at < words {
         let head = rdp_command::head_at(list, at);
         let number = head.number;
-        if rdp_command::is_among(rdp_command::DRAWS, number) {
+        if rdp_words::is_among(rdp_words::DRAWS, number) {
             return Reached { place: at, number };
         }
-        if rdp_command::is_among(SETTERS, number) {
-            rdp_check::store(file, number, rdp_command::word_at(list, at));
+        if rdp_words::is_among(SETTERS, number) {
+            rdp_check::store(file, number, rdp_words::word_at(list, at));
             at += 1;
             continue;
         }
@@ -50,5 +50,5 @@ pub fn fill_at(list: &[u8], place: usize, file: &[u64; 32]) -> FillFields
         image: file[14],
         color: file[6],
     };
-    rdp_command::fill_fields(set, rdp_command::word_at(list, place))
+    rdp_command::fill_fields(set, rdp_words::word_at(list, place))
 }

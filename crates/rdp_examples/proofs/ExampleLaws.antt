@@ -1,10 +1,11 @@
 -- Examples A to O hold of the definitions, which antt computes. Assumes nothing.
 use lib.Dec.{T}
-use Rattle.rdp_command.specs.Words.{halfOf, wordAt, overwrite}
-use Rattle.rdp_command.specs.Kinds.{kindOf, wordsOf}
+use Rattle.rdp_words.specs.Words.{halfOf, wordAt, overwrite}
+use Rattle.rdp_words.specs.Kinds.{kindOf, wordsOf}
 use Rattle.rdp_command.specs.Layout.{layout}
 use Rattle.rdp_command.specs.Commands.{commandOf}
-use Rattle.rdp_command.specs.Decode.{wholeWords, decodeOf}
+use Rattle.rdp_words.specs.Lengths.{wholeWords}
+use Rattle.rdp_command.specs.Decode.{decodeOf}
 use Rattle.rdp_check.specs.Hazards.{nextOf, requiredOf}
 use Rattle.rdp_check.specs.Commands.{commandsFrom, restFrom}
 use Rattle.rdp_check.specs.Registers.{noRegisters, registersAfter}

@@ -28,7 +28,7 @@ fn show_word(number: u8, place: usize) {
 
 // Each word of the base of a command.
 pub fn show_base(number: u8) {
-    let words = rdp_command::words_of(number);
+    let words = rdp_words::words_of(number);
     let mut place = 0usize;
     while place < 4 {
         if place < words {
@@ -112,7 +112,7 @@ pub fn show_counts() {
     text::print(b"words");
     let mut number = 0u8;
     while number < 255 {
-        text::number(rdp_command::words_of(number) as u64);
+        text::number(rdp_words::words_of(number) as u64);
         number += 1;
     }
     text::print(b"\n");

@@ -239,8 +239,8 @@ fn wrong_triangles() {
 // A place past the whole words of a list has the word 0.
 fn words_beyond_a_list() {
     let list = [255u8; 15];
-    text::word(rdp_command::word_at(&list, 0));
-    text::word(rdp_command::word_at(&list, 1));
-    text::word(rdp_command::word_at(&list, 0x2000_0000_0000_0000));
+    text::word(rdp_words::word_at(&list, 0));
+    text::word(rdp_words::word_at(&list, 1));
+    text::word(rdp_words::word_at(&list, 0x2000_0000_0000_0000));
     text::print(b"\n");
 }

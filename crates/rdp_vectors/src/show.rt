@@ -75,7 +75,7 @@ pub fn fields_in(list: &[u8], numbers: &mut [u64]) -> Answer {
 // Encodes the first command of a list.
 fn encode_again(list: &[u8], out: &mut [u8]) -> Answer {
     match rdp_command::decode(list) {
-        Decoded::Whole(command) => rdp_command::encode(command, rdp_command::suffix(list), out),
+        Decoded::Whole(command) => rdp_command::encode(command, rdp_words::suffix(list), out),
         Decoded::Refused(answer) => answer,
     }
 }
@@ -94,7 +94,7 @@ fn show(list: &[u8]) {
     if read.number != 0 {
         text::print(b"refused");
         // A list that is refused has no suffix, so that this prints nothing.
-        text::words(rdp_command::suffix(list));
+        text::words(rdp_words::suffix(list));
         text::print(b" ");
         text::answer(read);
         return;
@@ -118,7 +118,7 @@ fn show_numbers(list: &[u8], numbers: &[u64]) {
     }
     text::print(b" =");
     text::words(front(&out, 8 * (answer.place as usize) + 8));
-    show_same(number, numbers, rdp_command::suffix(list), &out);
+    show_same(number, numbers, rdp_words::suffix(list), &out);
 }
 
 // Whether the command of a number and its fields is encoded to the same bytes.

@@ -54,7 +54,7 @@ pub fn word(w: u64) {
 pub fn words(bytes: &[u8]) {
     let mut place = 0;
     while place < bytes.len() / 8 {
-        word(rdp_command::word_at(bytes, place));
+        word(rdp_words::word_at(bytes, place));
         place += 1;
     }
 }

@@ -8,7 +8,7 @@ use lib.ListN.{length}
 use Rattle.rdp_check.specs.Commands.{commandsOf}
 use Rattle.rdp_check.specs.Best.{plan, numbersOf}
 use Rattle.rdp_check.specs.Work.{NotedIs, Below, workOf, optionsIn, insertsOf}
-use Rattle.rdp_command.specs.Words.{overwrite}
+use Rattle.rdp_words.specs.Words.{overwrite}
 use Rattle.rdp_check.proofs.RepairedLaws.{count-most, inserts-few}
 use Rattle.rdp_check.proofs.RepairLaws.{noted-below, cycles-are, choices-are, choices-below, plan-held}
 use Rattle.rdp_check.proofs.repairing.plan_list.Statement.{statement}

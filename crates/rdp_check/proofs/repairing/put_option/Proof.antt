@@ -5,7 +5,7 @@ use Prim.Native.Nat.{ℕ}
 use native.Mathlib.Omega.{arith}
 use borrow.Author.Needs.{needs}
 use lib.ListN.{length}
-use Rattle.rdp_command.specs.Words.{pasted}
+use Rattle.rdp_words.specs.Words.{pasted}
 use Rattle.rdp_check.specs.Work.{optionBytes}
 use Rattle.rdp_command.proofs.Bytes.{pasted-none}
 use Rattle.rdp_check.proofs.WriteLaws.{option-none, option-word}

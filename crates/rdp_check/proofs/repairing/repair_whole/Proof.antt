@@ -5,7 +5,7 @@ use Prim.Native.Nat.{ℕ, _*_, _≤_}
 use native.Mathlib.Omega.{arith}
 use borrow.Author.Needs.{needs}
 use lib.ListN.{length, replicate}
-use Rattle.rdp_command.specs.Words.{overwrite}
+use Rattle.rdp_words.specs.Words.{overwrite}
 use Rattle.rdp_check.specs.Commands.{commandsOf}
 use Rattle.rdp_check.specs.Best.{repairedBytes}
 use Rattle.rdp_check.proofs.RepairLaws.{whole-list, commands-few, words-needed, choices-below, due-held, work-cleared, refused-out, repaired-is}

@@ -5,7 +5,7 @@ use Prim.Native.Nat.{ℕ, _+_, _*_, _-_}
 use native.Mathlib.Omega.{arith}
 use borrow.Author.Needs.{needs}
 use lib.ListN.{length, take, drop, length-append, length-take, length-drop}
-use Rattle.rdp_command.specs.Words.{pasted}
+use Rattle.rdp_words.specs.Words.{pasted}
 use Rattle.rdp_check.specs.Work.{optionBytes}
 use Rattle.rdp_command.proofs.Bytes.{pasted-append}
 use Rattle.rdp_check.proofs.repairing.write_command.Statement.{statement}

@@ -1,5 +1,5 @@
 -- `rdp_check::table::step_table` meets its contract: one test, which antt computes over the whole table, says that it agrees with the rule. Assumes nothing.
-use Rattle.rdp_command.specs.Kinds.{kindOf}
+use Rattle.rdp_words.specs.Kinds.{kindOf}
 use Rattle.rdp_check.specs.Hazards.{nextOf, requiredOf, entryOf}
 use Rattle.rdp_check.proofs.HazardLaws.{agrees}
 use Rattle.rdp_check.proofs.table.step_table.Statement.{statement}

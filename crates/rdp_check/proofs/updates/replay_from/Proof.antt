@@ -3,7 +3,7 @@
 use mathlib.Core.Path.{refl, ap}
 use Prim.Native.Nat.{_-_, _<_}
 use native.Mathlib.Omega.{arith}
-use Rattle.rdp_command.proofs.PlaceLaws.{number-small}
+use Rattle.rdp_words.proofs.PlaceLaws.{number-small}
 use Rattle.rdp_check.specs.RegisterWords.{tileIn}
 use Rattle.rdp_check.proofs.RegisterLaws.{slot-small, tile-small}
 use Rattle.rdp_check.proofs.ReplayLaws.{Replayed, first, ended, few, past, falls, again}

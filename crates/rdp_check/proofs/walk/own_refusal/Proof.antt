@@ -1,7 +1,7 @@
 -- `rdp_check::walk::own_refusal` meets its contract, by one test over the command numbers. Assumes nothing.
 use mathlib.Core.Path.{sym, _∙_}
 use borrow.Author.Needs.{needs}
-use Rattle.rdp_command.proofs.KindLaws.{draws-among}
+use Rattle.rdp_words.proofs.KindLaws.{draws-among}
 use Rattle.rdp_check.proofs.walk.own_refusal.Statement.{statement}
 use Rattle.rdp_check.proofs.walk.own_refusal.Tie as tie
 

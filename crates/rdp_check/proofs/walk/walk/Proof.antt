@@ -5,7 +5,7 @@ use Prim.Native.Nat.{_-_}
 use native.Mathlib.Omega.{arith}
 use borrow.Author.Needs.{needs}
 use Rattle.rdp_check.specs.View.{viewAfter, Watches, judgedView}
-use Rattle.rdp_command.proofs.PlaceLaws.{number-small}
+use Rattle.rdp_words.proofs.PlaceLaws.{number-small}
 use Rattle.rdp_check.proofs.WalkLaws.{Walked, first, ended, past, refused, falls, again, turn, stays, quick, quick-one}
 use Rattle.rdp_check.proofs.walk.walk.Statement.{statement}
 use Rattle.rdp_check.proofs.walk.walk.Tie as tie

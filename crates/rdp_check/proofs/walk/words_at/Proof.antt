@@ -1,7 +1,7 @@
 -- `rdp_check::walk::words_at` meets its contract, by the contracts of what it calls. Assumes nothing.
 use mathlib.Core.Path.{ap, _∙_}
 use borrow.Author.Needs.{needs}
-use Rattle.rdp_command.specs.Kinds.{wordsOf}
+use Rattle.rdp_words.specs.Kinds.{wordsOf}
 use Rattle.rdp_check.proofs.walk.words_at.Statement.{statement}
 use Rattle.rdp_check.proofs.walk.words_at.Tie as tie
 

@@ -3,7 +3,7 @@ use mathlib.Core.Bool.{not}
 use mathlib.Core.Path.{ap, _∙_}
 use lib.Dec.{eqb}
 use denote.Ref.{now}
-use Rattle.rdp_command.specs.Words.{numberIn}
+use Rattle.rdp_words.specs.Words.{numberIn}
 use Rattle.rdp_command.specs.Decode.{ownWord}
 use Rattle.rdp_command.proofs.AnswerLaws.{first-gives}
 use borrow.Author.Needs.{needs}

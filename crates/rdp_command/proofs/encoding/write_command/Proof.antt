@@ -7,13 +7,13 @@ use borrow.Author.Tests.{eqb-true, leb-true}
 use lib.Dec.{eqb, leb}
 use lib.ListN.{length}
 use denote.Ref.{now}
-use Rattle.rdp_command.specs.Kinds.{wordsOf}
-use Rattle.rdp_command.specs.Decode.{suffixWords}
+use Rattle.rdp_words.specs.Kinds.{wordsOf}
+use Rattle.rdp_words.specs.Lengths.{suffixWords}
 use Rattle.rdp_command.specs.Encode.{verdictOf, hasRoom, answerWith, outWith}
 use Rattle.rdp_command.specs.Numbers.{numbersFit}
 use Rattle.rdp_command.specs.declared.Answer.{Answer}
-use Rattle.rdp_command.proofs.KindLaws.{words-most}
-use Rattle.rdp_command.proofs.Tests.{and-true}
+use Rattle.rdp_words.proofs.KindLaws.{words-most}
+use Rattle.rdp_words.proofs.Tests.{and-true}
 use Rattle.rdp_command.proofs.AnswerLaws.{fit-parts}
 use borrow.Author.Needs.{needs}
 use Rattle.rdp_command.proofs.encoding.write_command.Statement.{statement}

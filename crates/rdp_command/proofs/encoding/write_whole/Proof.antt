@@ -4,7 +4,7 @@ use mathlib.Core.Path.{_≡_, ap, _∙_}
 use native.Mathlib.Omega.{arith}
 use lib.ListN.{length}
 use denote.Ref.{now}
-use Rattle.rdp_command.specs.Words.{overwrite, pasted}
+use Rattle.rdp_words.specs.Words.{overwrite, pasted}
 use Rattle.rdp_command.specs.Encode.{packedBytes}
 use Rattle.rdp_command.proofs.Bytes.{pasted-after, packed-long, whole-bytes, base-count}
 use borrow.Author.Needs.{needs}

@@ -1,5 +1,5 @@
 use mathlib.Core.Path.{refl}
-use Rattle.rdp_command.specs.Words.{overwrite}
+use Rattle.rdp_words.specs.Words.{overwrite}
 use Rattle.rdp_command.proofs.values.none.Statement.{statement}
 use Rattle.rdp_command.proofs.values.none.Tie as tie
 

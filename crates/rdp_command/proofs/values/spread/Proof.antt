@@ -3,7 +3,8 @@ use mathlib.Core.List.{[]}
 use mathlib.Core.Path.{refl, ap, _∙_}
 use lib.Dec.{lit<, lit≤}
 use Rattle.rdp_command.specs.Steps.{numbered}
-use Rattle.rdp_command.proofs.KindLaws.{no-operation-lines, no-operation-small}
+use Rattle.rdp_words.proofs.KindLaws.{no-operation-small}
+use Rattle.rdp_command.proofs.LayoutLaws.{no-operation-lines}
 use borrow.Author.Needs.{needs}
 use Rattle.rdp_command.specs.Layout.{layout}
 use Rattle.rdp_command.proofs.Spreading.{spread-as}

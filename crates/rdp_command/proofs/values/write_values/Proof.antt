@@ -5,7 +5,7 @@ use native.Mathlib.Omega.{arith}
 use borrow.Author.Tests.{lt-ltb, le-ltb}
 use lib.Seq.{length-take-le}
 use denote.Ref.{now}
-use Rattle.rdp_command.specs.Words.{overwrite}
+use Rattle.rdp_words.specs.Words.{overwrite}
 use Rattle.rdp_command.specs.Numbers.{fieldsAnswer, fieldsOut}
 use Rattle.rdp_command.proofs.Spreading.{count-is, front}
 use borrow.Author.Needs.{needs}

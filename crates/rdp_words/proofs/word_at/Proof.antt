@@ -4,10 +4,10 @@ use native.Mathlib.Omega.{arith}
 use lib.Seq.{drop-drop}
 use borrow.Author.Tests.{lt-ltb, le-ltb}
 use denote.Ref.{now}
-use Rattle.rdp_command.specs.Words.{halfOf, wordAt}
+use Rattle.rdp_words.specs.Words.{halfOf, wordAt}
 use borrow.Author.Needs.{needs}
-use Rattle.rdp_command.proofs.word_at.Statement.{statement}
-use Rattle.rdp_command.proofs.word_at.Tie as tie
+use Rattle.rdp_words.proofs.word_at.Statement.{statement}
+use Rattle.rdp_words.proofs.word_at.Tie as tie
 
 mul-at : tie.Need-mul-at
 mul-at c = search needs

@@ -7,11 +7,11 @@ use native.Mathlib.Omega.{arith}
 use borrow.Author.Tests.{lt-ltb, le-ltb, ltb-true, ltb-false}
 use lib.Dec.{ltb, lit<}
 use lib.ListN.{length, drop, length-drop}
-use Rattle.rdp_command.specs.Words.{wordAt, numberIn}
-use Rattle.rdp_command.specs.Kinds.{wordsOf}
-use Rattle.rdp_command.specs.Decode.{firstNumber, wholeWords}
-use Rattle.rdp_command.proofs.Tests.{by-test}
-use Rattle.rdp_command.proofs.KindLaws.{words-pos}
+use Rattle.rdp_words.specs.Words.{wordAt, numberIn}
+use Rattle.rdp_words.specs.Kinds.{wordsOf}
+use Rattle.rdp_words.specs.Lengths.{firstNumber, wholeWords}
+use Rattle.rdp_words.proofs.Tests.{by-test}
+use Rattle.rdp_words.proofs.KindLaws.{words-pos}
 
 -- the number of a word is below 64
 pub number-small : (w : ℕ) → numberIn w < 64

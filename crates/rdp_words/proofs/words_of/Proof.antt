@@ -1,8 +1,8 @@
 use borrow.Author.Tests.{eq-eqb, ne-eqb}
-use Rattle.rdp_command.proofs.KindLaws.{words-by}
+use Rattle.rdp_words.proofs.KindLaws.{words-by}
 use borrow.Author.Needs.{needs}
-use Rattle.rdp_command.proofs.words_of.Statement.{statement}
-use Rattle.rdp_command.proofs.words_of.Tie as tie
+use Rattle.rdp_words.proofs.words_of.Statement.{statement}
+use Rattle.rdp_words.proofs.words_of.Tie as tie
 
 mul-result : tie.Need-mul-result
 mul-result c = search needs

@@ -3,12 +3,12 @@ use mathlib.Core.Path.{_≡_, ap, _∙_}
 use native.Mathlib.Omega.{arith}
 use borrow.Author.Tests.{lt-ltb, le-ltb}
 use denote.Ref.{now}
-use Rattle.rdp_command.specs.Words.{numberIn}
-use Rattle.rdp_command.specs.Kinds.{wordsOf}
-use Rattle.rdp_command.specs.Decode.{firstNumber, wholeWords}
+use Rattle.rdp_words.specs.Words.{numberIn}
+use Rattle.rdp_words.specs.Kinds.{wordsOf}
+use Rattle.rdp_words.specs.Lengths.{firstNumber, wholeWords}
 use borrow.Author.Needs.{needs}
-use Rattle.rdp_command.proofs.words.whole_words.Statement.{statement}
-use Rattle.rdp_command.proofs.words.whole_words.Tie as tie
+use Rattle.rdp_words.proofs.whole_words.Statement.{statement}
+use Rattle.rdp_words.proofs.whole_words.Tie as tie
 
 word-at-requires : tie.Need-word-at-requires
 word-at-requires c κs = search needs

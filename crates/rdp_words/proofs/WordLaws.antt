@@ -1,18 +1,14 @@
 -- Words read back from the bytes that were written. Assumes nothing.
-use Prim.Native.Nat.{ℕ, zero, suc, _+_, _*_, _/_, _%_, _^_, _≤_, _<_}
-use mathlib.Core.List.{List, [], _∷_, _++_, append-assoc}
+use Prim.Native.Nat.{ℕ, _+_, _*_, _/_, _%_, _^_, _≤_, _<_}
+use mathlib.Core.List.{List, [], _∷_, _++_}
 use mathlib.Core.Path.{_≡_, refl, ap, sym, _∙_}
-use native.Mathlib.Nat.{mod-eq-of-lt, not-suc-le-zero}
+use native.Mathlib.Nat.{mod-eq-of-lt}
 use native.Mathlib.Omega.{arith}
-use borrow.Author.Tests.{lt-ltb, eqb-true, eqb-false}
-use lib.Dec.{eqb}
+use borrow.Author.Tests.{lt-ltb}
 use lib.ListN.{length, drop, length-append, length-drop}
 use lib.Pow.{mod-pow-add, split, shr-shr, shr-lt}
-use lib.Seq.{drop-at, drop-append-le}
-use Rattle.rdp_command.specs.Words.{halfOf, wordOf, wordAt, bytesOf}
-use Rattle.rdp_command.specs.Encode.{packedWord, packedBytes}
-use Rattle.rdp_command.proofs.Tests.{by-test}
-use Rattle.rdp_command.proofs.Bytes.{packed-long}
+use lib.Seq.{drop-append-le}
+use Rattle.rdp_words.specs.Words.{halfOf, wordOf, wordAt, bytesOf}
 
 regroup : (a b c d : ℕ) → a + (b + (c + d)) ≡ a + b + c + d
 regroup a b c d = omega arith
@@ -61,22 +57,3 @@ word-front bs more k h =
     ap wordOf (drop-append-le (8 * k) bs more (omega arith)) ∙
     (λ i. half-front rest more (omega arith) i * 2 ^ 32 + (ap halfOf (drop-append-le 4 rest more (omega arith)) ∙ half-front (drop 4 rest) more low) i) ∙
     sym (word-whole bs k h)
-
--- word k of the words of a command, whatever follows them
-pub packed-at :
-    (n : ℕ) (ns : List ℕ) (m k : ℕ) (more : List ℕ) → k < m → packedWord n ns k < 2 ^ 64 → wordOf (drop (8 * k) (packedBytes n ns m ++ more)) ≡ packedWord n ns k
-unfolding packedBytes
-packed-at n ns zero k more h s = absurd (not-suc-le-zero h)
-packed-at n ns (suc m) k more h s =
-    ap (λ (bs : List ℕ). wordOf (drop (8 * k) bs)) (append-assoc (packedBytes n ns m) (bytesOf (packedWord n ns m)) more) ∙
-    by-test (eqb k m)
-    (λ t.
-    let e = eqb-true k m t in
-    let long : length (packedBytes n ns m) ≡ 8 * k = omega (arith, packed-long n ns m) in
-    ap wordOf (drop-at (packedBytes n ns m) (bytesOf (packedWord n ns m) ++ more) (8 * k) long) ∙
-    ap (λ (j : ℕ). wordOf (bytesOf (packedWord n ns j) ++ more)) (sym e) ∙
-    word-back (packedWord n ns k) more s)
-    (λ f.
-    let g : k ≡ m → ⊥ = eqb-false k m f in
-    let r : k < m = omega arith in
-    packed-at n ns m k (bytesOf (packedWord n ns m) ++ more) r s)

@@ -5,10 +5,10 @@ use native.Mathlib.Omega.{arith}
 use lib.ListN.{getD}
 use lib.Seq.{getD-drop}
 use denote.Ref.{now}
-use Rattle.rdp_command.specs.Words.{halfOf}
+use Rattle.rdp_words.specs.Words.{halfOf}
 use borrow.Author.Needs.{needs}
-use Rattle.rdp_command.proofs.words.half_at.Statement.{statement}
-use Rattle.rdp_command.proofs.words.half_at.Tie as tie
+use Rattle.rdp_words.proofs.half_at.Statement.{statement}
+use Rattle.rdp_words.proofs.half_at.Tie as tie
 
 shared-slice-read-result : tie.Need-shared-slice-read-result
 shared-slice-read-result c = search needs

@@ -5,12 +5,11 @@ use mathlib.Core.List.{List, [], _∷_, _++_}
 use mathlib.Core.Path.{_≡_, refl, ap, sym, subst, _∙_}
 use native.Mathlib.Nat.{add-zero, zero-add, mod-eq-of-lt, not-suc-le-zero, le-of-suc-le-suc}
 use native.Mathlib.Omega.{arith}
-use lib.ListN.{length, getD, replicate}
+use lib.ListN.{getD, replicate}
 use borrow.Author.Tests.{leb-true, eqb-true}
 use lib.Dec.{T, eqb, leb, eqb→eq, leb→le}
-use Rattle.rdp_command.specs.Kinds.{Kind, noOperation, triangle, textureRectangle, fillRectangle, syncLoad, syncTile, syncPipe, syncFull, load, setTile, attribute, free, between, among, kindOf, isNoOperation, isDraw, hasBit, isAmong, wordsOfKind, wordsOf}
-use Rattle.rdp_command.specs.Layout.{layout}
-use Rattle.rdp_command.proofs.Tests.{each, below, both, and-true, or-cases, same, same-bool}
+use Rattle.rdp_words.specs.Kinds.{Kind, noOperation, triangle, textureRectangle, fillRectangle, syncLoad, syncTile, syncPipe, syncFull, load, setTile, attribute, free, between, among, kindOf, isNoOperation, isDraw, hasBit, isAmong, wordsOfKind, wordsOf}
+use Rattle.rdp_words.proofs.Tests.{each, below, both, and-true, or-cases, same, same-bool}
 
 -- command numbers as the bits of a number
 pub bits-by : (numbers : ℕ) (f : ℕ → Bool) → T (each (λ k. same (hasBit (2 ^ k) numbers) (f k)) 64) → (n : ℕ) → n < 64 → hasBit (2 ^ n) numbers ≡ f n
@@ -112,13 +111,3 @@ words-pos n h = words-bounds n h .0
 
 pub words-most : (n : ℕ) → n < 64 → wordsOf n ≤ 22
 words-most n h = words-bounds n h .1
-
--- a no operation has no bit line
-abbrev emptyTest : ℕ → Bool
-emptyTest n = not (isNoOperation n) || eqb (length (layout n)) 0
-
-pub no-operation-lines : (n : ℕ) → isNoOperation n ≡ true → length (layout n) ≡ 0
-unfolding layout
-no-operation-lines n e =
-    let t = below 64 emptyTest tt n (no-operation-small n e) in
-    eqb→eq (length (layout n)) 0 (rw e at t)

@@ -4,10 +4,10 @@ use native.Mathlib.Omega.{arith}
 use borrow.Author.Tests.{lt-ltb, le-ltb}
 use lib.ListN.{take, drop}
 use denote.Ref.{now}
-use Rattle.rdp_command.specs.Decode.{wholeWords, suffixWords, suffixStart, suffixOf}
+use Rattle.rdp_words.specs.Lengths.{wholeWords, suffixWords, suffixStart, suffixOf}
 use borrow.Author.Needs.{needs}
-use Rattle.rdp_command.proofs.suffix.Statement.{statement}
-use Rattle.rdp_command.proofs.suffix.Tie as tie
+use Rattle.rdp_words.proofs.suffix.Statement.{statement}
+use Rattle.rdp_words.proofs.suffix.Tie as tie
 
 whole-words-requires : tie.Need-whole-words-requires
 whole-words-requires c κs = search needs

@@ -1,0 +1,4 @@
+pub mod Tests
+pub mod KindLaws
+pub mod WordLaws
+pub mod PlaceLaws

@@ -1,0 +1,3 @@
+pub mod Words
+pub mod Kinds
+pub mod Lengths
