@@ -25,7 +25,7 @@ use Rattle.rdp_check.specs.declared.Colors.{Colors}
 use Rattle.rdp_check.specs.declared.Combiner.{Combiner}
 use Rattle.rdp_check.specs.declared.Modes.{Modes}
 use Rattle.rdp_check.specs.declared.Images.{Images}
-use Rattle.rdp_check.specs.declared.ListState.{ListState}
+use Rattle.rdp_state.specs.declared.ListState.{ListState}
 
 -- ---- numbers into one
 

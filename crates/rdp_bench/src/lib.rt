@@ -1,7 +1,7 @@
 // The registers after a list as one number: for the benchmark alone, and no part of the library. The fields of each register are put side by side in a
 // few numbers, and these are joined, so that a field that is wrong shows.
 ghost use mathlib.Core.Path.{_≡_};
-ghost use Rattle.rdp_check.specs.Check.{listStateOf};
+ghost use Rattle.rdp_state.specs.After.{listStateOf};
 ghost use Rattle.rdp_bench.specs.Mixed.{joined, flagOf, bitsOf, bytesOf, halvesOf, fillColorOf, colorOf, primitiveColorOf, combineOf, keyGbOf, keyROf, convertOf, textureModesOf, blenderInputsOf, pixelModesOf, otherModesOf, depthOf, scissorOf, imageOf, depthImageOf, descriptorOf, colorsOf, combinerOf, modesOf, imagesOf, tileOf, tilesOf, answerOf, mixedOf};
 use rdp_check::*;
 use rdp_command::*;
@@ -313,7 +313,7 @@ fn answer(number: u32, place: u32) -> u64
 pub extern "C" fn lanyardrove_bench_registers(list: &[u8]) -> u64
     ensures { λ r. ⌜ r ≡ mixedOf (listStateOf (now (list .entry))) ⌝ }
 {
-    let state = rdp_check::registers_after(list);
+    let state = rdp_state::registers_after(list);
     let eight = state.registers.tiles;
     let h = answer(state.number, state.place) ^ tiles(eight);
     join(

@@ -7,8 +7,6 @@ pub mod ViewLaws
 pub mod AppendLaws
 pub mod StopLaws
 pub mod WalkLaws
-pub mod RegisterLaws
-pub mod ReplayLaws
 pub mod OrderLaws
 pub mod FirstLaws
 pub mod MarkLaws

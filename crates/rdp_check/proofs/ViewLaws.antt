@@ -1,5 +1,5 @@
 -- What the walk carries is a view of the state, before and after each command. Assumes nothing.
-use mathlib.Core.Bool.{Bool, true, false, cond, not, _&&_, _||_, true≢false, and-true, and-false, or-false, Bool·not-not}
+use mathlib.Core.Bool.{Bool, true, false, cond, not, _&&_, _||_, true≢false, and-true, and-false, or-false}
 use mathlib.Core.List.{List, [], _∷_}
 use mathlib.Core.Path.{_≡_, refl, sym, _∙_, ap}
 use Prim.Native.Nat.{ℕ, zero, suc, _/_, _%_, _≤_, _<_}
@@ -25,7 +25,7 @@ use Rattle.rdp_check.specs.declared.walk.Rest.{Rest}
 use Rattle.rdp_check.specs.declared.walk.View.{View}
 use Rattle.rdp_check.proofs.KeptLaws.{keeps}
 use Rattle.rdp_check.proofs.HazardLaws.{EntryParts, entry-parts, required-most}
-use Rattle.rdp_words.proofs.KindLaws.{among-by, long-among}
+use Rattle.rdp_words.proofs.KindLaws.{among-by}
 use Rattle.rdp_words.proofs.PlaceLaws.{number-small}
 use Rattle.rdp_command.proofs.ReadLaws.{decoded, decodes, decoded-number, reads-other-modes, reads-scissor, reads-color-image}
 
@@ -51,11 +51,6 @@ setters-and-draws-by = among-by _ (λ n. setsRest n || draws n) tt
 
 all-by : (n : ℕ) → n < 64 → isAmong allBits n ≡ true
 all-by = among-by _ (λ n. true) tt
-
-pub one-word : (n : ℕ) → n < 64 → (b : Bool) → b ≡ isAmong 0x0000_0030_0000_FF00 n → not b ≡ true → 1 ≡ wordsOf n
-one-word n h b is-b e =
-    let none : eqb (wordsOf n) 1 ≡ true = sym (Bool·not-not (eqb (wordsOf n) 1)) ∙ ap not (sym (is-b ∙ long-among n h)) ∙ e in
-    sym (eqb-true _ _ none)
 
 -- which of the four a setter is
 pub record SetsNone (n : ℕ) : Type 0 where

@@ -19,9 +19,10 @@ use Rattle.rdp_command.specs.declared.Head.{Head}
 use Rattle.rdp_check.specs.declared.walk.View.{View}
 use Rattle.rdp_check.specs.declared.walk.Stop.{Stop}
 use Rattle.rdp_check.proofs.HazardLaws.{next-small, EntryParts, entry-parts}
+use Rattle.rdp_words.proofs.KindLaws.{words-one}
 use Rattle.rdp_words.proofs.PlaceLaws.{number-small, some-words}
 use Rattle.rdp_check.proofs.ListLaws.{commands-at, rest-at, command-word, commands-past, rest-past}
-use Rattle.rdp_check.proofs.ViewLaws.{one-word, Unwatched, unwatched, rest-kept}
+use Rattle.rdp_check.proofs.ViewLaws.{Unwatched, unwatched, rest-kept}
 
 judged-none : (strict : Bool) (v : View) (at : ℕ) → judgedView strict v at [] ≡ stopAt 0 at v
 unfolding judgeView commandsFrom restFrom
@@ -160,4 +161,4 @@ module _ {strict : Bool} {list : List ℕ} {words : ℕ} {goal : Stop} {v : View
           ((λ i. record { hazards = is-next i; rest = rest-kept (v .rest) h (q .still .keeps) i }) ∙ ap (viewAfter v) (q .is-h))
 
       pub quick-one : (l : Bool) → l ≡ isAmong 0x0000_0030_0000_FF00 (h .number) → not l ≡ true → Walked strict list words goal (record { hazards = next; rest = v .rest }) (at + 1)
-      quick-one l is-l f = quick 1 (one-word (h .number) (small h _ (q .is-h)) l is-l f) (omega (arith, q .more))
+      quick-one l is-l f = quick 1 (words-one (h .number) (omega (arith, small h _ (q .is-h))) l is-l f) (omega (arith, q .more))

@@ -13,7 +13,6 @@ use Rattle.rdp_check.specs.Commands.{commandsOf, restOf}
 use Rattle.rdp_check.specs.Registers.{noRegisters, afterDecoded}
 use Rattle.rdp_check.specs.declared.Registers.{Registers}
 use Rattle.rdp_check.specs.declared.Checked.{Checked}
-use Rattle.rdp_check.specs.declared.ListState.{ListState}
 
 -- the state after some commands: the hazards as a number, whether a Sync Full has come, and the registers
 pub record State : Type 0 where
@@ -122,9 +121,3 @@ checked o = record { number = o .number; place = o .place; hazards = o .state .h
 -- what the check answers
 abbrev pub checkOf : List ℕ → Checked
 checkOf list = checked (outcomeOf list)
-
--- what the registers after a list are: number, place and the state there
-abbrev pub listStateOf : List ℕ → ListState
-listStateOf list =
-    let o = outcomeOf list in
-    record { number = o .number; place = o .place; hazards = o .state .hazards; registers = o .state .registers }

@@ -7,8 +7,6 @@ pub mod Refusals
 pub mod Syncs
 pub mod Marks
 pub mod View
-pub mod RegisterWords
-pub mod Replay
 pub mod Inserted
 pub mod Plan
 pub mod Repair

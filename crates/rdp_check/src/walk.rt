@@ -58,17 +58,6 @@ pub fn words_at(list: &[u8], place: usize) -> usize
     rdp_words::words_of(head.number)
 }
 
-// The words of a command. Nearly all have one word; by the branch the place after such a command need not wait for its number.
-pub fn count_of(number: u8) -> usize
-    requires { ⌜ number < 64 ⌝ }
-    ensures { λ r. ⌜ r ≡ wordsOf number ⌝ }
-{
-    if !rdp_words::is_among(rdp_words::LONG, number) {
-        return 1;
-    }
-    rdp_words::words_of(number)
-}
-
 // The first refusal of a command, or 0: 4, then its refusal as a draw, then a missing sync.
 fn refusal(ended: bool, draw: u8, required: u8) -> u32
     requires { ⌜ required ≤ 3 ⌝ }

@@ -24,10 +24,10 @@ use Rattle.rdp_words.proofs.PlaceLaws.{number-small, some-words}
 use Rattle.rdp_command.proofs.ReadLaws.{decoded, decodes, decoded-number, reads-triangle, reads-texture-rectangle, reads-texture-rectangle-flip, reads-rectangle}
 use Rattle.rdp_check.specs.Commands.{commandsOf, restOf}
 use Rattle.rdp_check.specs.Registers.{afterDecoded}
-use Rattle.rdp_check.specs.RegisterWords.{slotOf, tileIn, setters, wordsAfter, registersIn}
+use Rattle.rdp_state.specs.RegisterWords.{slotOf, tileIn, setters, wordsAfter, registersIn}
 use Rattle.rdp_check.specs.Check.{draws}
 use Rattle.rdp_check.specs.declared.Registers.{Registers}
-use Rattle.rdp_check.proofs.RegisterLaws.{none-set, length-stored, words-kept, registers-stored, FillReads, fill-reads}
+use Rattle.rdp_state.proofs.RegisterLaws.{none-set, length-stored, words-kept, registers-stored, FillReads, fill-reads}
 use Rattle.rdp_check.proofs.ListLaws.{commandAt, commands-at, rest-at, commands-past, rest-past, command-word, command-number, command-there}
 use Rattle.rdp_draw.specs.Draw.{Act, nothing, otherDraw, filling, fillOf, actOf, actOfDecoded, Draw, withAct, drawsFrom, drawsOf}
 use Rattle.rdp_draw.specs.Seen.{fillWords, actWith, Due, Next, Reaches}

@@ -13,7 +13,7 @@ use Rattle.rdp_command.specs.declared.FillFields.{FillFields}
 use Rattle.rdp_command.specs.declared.Answer.{Answer}
 use Rattle.rdp_check.specs.Order.{firstOf, answer}
 use Rattle.rdp_check.specs.Commands.{commandsOf, restOf}
-use Rattle.rdp_check.specs.RegisterWords.{word, registersIn}
+use Rattle.rdp_state.specs.RegisterWords.{word, registersIn}
 use Rattle.rdp_draw.specs.declared.walk.Reached.{Reached}
 use Rattle.rdp_draw.specs.Draw.{Act, otherDraw, filling, Draw, drawsFrom, drawGrounds}
 

@@ -28,7 +28,7 @@ pub fn next_draw(list: &[u8], from: usize, file: &mut [u64; 32]) -> Reached
             return Reached { place: at, number };
         }
         if rdp_words::is_among(SETTERS, number) {
-            rdp_check::store(file, number, rdp_words::word_at(list, at));
+            rdp_state::store(file, number, rdp_words::word_at(list, at));
             at += 1;
             continue;
         }

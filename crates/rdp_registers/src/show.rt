@@ -44,7 +44,7 @@ fn registers(r: Registers) {
 }
 
 pub fn show(list: &[u8]) {
-    let state = rdp_check::registers_after(list);
+    let state = rdp_state::registers_after(list);
     answer(state.number, state.place, state.hazards);
     registers(state.registers);
     print(b"\n");

@@ -1,6 +1,6 @@
 -- The kinds and words of command numbers, each rule by one test over the numbers. Assumes nothing.
 use Prim.Native.Nat.{ℕ, zero, suc, _+_, _*_, _/_, _%_, _^_, _≤_, _<_}
-use mathlib.Core.Bool.{Bool, true, cond, not, _&&_, _||_}
+use mathlib.Core.Bool.{Bool, true, false, cond, not, _&&_, _||_, true≢false, false≢true}
 use mathlib.Core.List.{List, [], _∷_, _++_}
 use mathlib.Core.Path.{_≡_, refl, ap, sym, subst, _∙_}
 use native.Mathlib.Nat.{add-zero, zero-add, mod-eq-of-lt, not-suc-le-zero, le-of-suc-le-suc}
@@ -18,14 +18,10 @@ bits-by numbers f t n h = same-bool _ _ (below 64 (λ k. same (hasBit (2 ^ k) nu
 pub among-by : (numbers : ℕ) (f : ℕ → Bool) → T (each (λ k. same (hasBit (2 ^ k) numbers) (f k)) 64) → (n : ℕ) → n < 64 → isAmong numbers n ≡ f n
 among-by numbers f t n h = ap (λ (k : ℕ). hasBit (2 ^ k) numbers) (mod-eq-of-lt h) ∙ bits-by numbers f t n h
 
--- the constants of the code: the draws, and the commands of more than one word
+-- the draws as the code has them
 pub draws-among : (n : ℕ) → n < 64 → isAmong 0x0040_0030_0000_FF00 n ≡ isDraw (kindOf n)
 unfolding kindOf
 draws-among = among-by _ (λ n. isDraw (kindOf n)) tt
-
-pub long-among : (n : ℕ) → n < 64 → isAmong 0x0000_0030_0000_FF00 n ≡ not (eqb (wordsOf n) 1)
-unfolding wordsOf kindOf
-long-among = among-by _ (λ n. not (eqb (wordsOf n) 1)) tt
 
 -- the numbers of the draws: triangles, texture rectangles and the fill rectangle
 pub draw-numbers : (n : ℕ) → n < 64 → isDraw (kindOf n) ≡ eqb (n / 8) 1 || among n (0x24 ∷ 0x25 ∷ 0x36 ∷ [])
@@ -89,12 +85,29 @@ no-operation-small n e =
     (λ f. omega (arith, eqb-true n 0x31 f))
 
 -- the words as the code has them
-abbrev pub wordsBy : ℕ → ℕ
-wordsBy n = cond (eqb (n / 8) 1) (0x1614_0E0C_0E0C_0604 / 2 ^ (n % 8 * 8) % 256) (cond (eqb (n / 2) 0x12) 2 1)
+abbrev pub longWords : ℕ → ℕ
+longWords n = cond (eqb (n / 8) 1) (0x1614_0E0C_0E0C_0604 / 2 ^ (n % 8 * 8) % 256) (cond (eqb (n / 2) 0x12) 2 1)
 
-pub words-by : (n : ℕ) → n < 256 → wordsBy n ≡ wordsOf n
+abbrev wordsBy : ℕ → ℕ
+wordsBy n = cond (isAmong 0x0000_0030_0000_FF00 n) (longWords n) 1
+
+words-by : (n : ℕ) → n < 256 → wordsBy n ≡ wordsOf n
 unfolding wordsOf kindOf
 words-by n h = eqb→eq _ _ (below 256 (λ k. eqb (wordsBy k) (wordsOf k)) tt n h)
+
+-- by what the test of the longer commands answers: one word, or those of the constants
+words-tested :
+    (n : ℕ) → n < 256 → (b : Bool) → b ≡ isAmong 0x0000_0030_0000_FF00 n →
+    cond b (longWords n) 1 ≡ wordsOf n
+words-tested n h b e = rw e (words-by n h)
+
+pub words-one : (n : ℕ) → n < 256 → (b : Bool) → b ≡ isAmong 0x0000_0030_0000_FF00 n → not b ≡ true → 1 ≡ wordsOf n
+words-one n h true e t = absurd (false≢true t)
+words-one n h false e t = words-tested n h false e
+
+pub words-long : (n : ℕ) → n < 256 → (b : Bool) → b ≡ isAmong 0x0000_0030_0000_FF00 n → not b ≡ false → longWords n ≡ wordsOf n
+words-long n h true e t = words-tested n h true e
+words-long n h false e t = absurd (true≢false t)
 
 -- a command has 1 to 22 words
 abbrev wordsTest : ℕ → Bool

@@ -49,10 +49,14 @@ pub fn is_among(numbers: u64, number: u8) -> bool
     (numbers >> (number % 64)) % 2 == 1
 }
 
-// The words of a command, by its number. Byte k of the constant, from its low end, has those of the triangle 0x08 + k.
+// The words of a command, by its number. Nearly all have one; by the first branch the place after such a command need not wait for its number. Byte k of
+// the constant, from its low end, has the words of the triangle 0x08 + k.
 pub fn words_of(number: u8) -> usize
     ensures { λ r. ⌜ r ≡ wordsOf number ⌝ }
 {
+    if !is_among(LONG, number) {
+        return 1;
+    }
     if number / 8 == 1 {
         return ((0x1614_0E0C_0E0C_0604u64 >> (number % 8 * 8)) % 256) as usize;
     }

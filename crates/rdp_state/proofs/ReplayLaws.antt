@@ -1,0 +1,164 @@
+-- The registers after the commands of a list, as the loop of the replay meets them and as the outcome has them. Assumes nothing.
+use mathlib.Core.Bool.{Bool, not, _||_}
+use mathlib.Core.List.{List, [], _∷_}
+use mathlib.Core.Path.{_≡_, refl, sym, ap, _∙_}
+use Prim.Native.Nat.{ℕ, zero, suc, _+_, _*_, _-_, _/_, _%_, _≤_, _<_}
+use native.Mathlib.Nat.{le-refl}
+use native.Mathlib.Omega.{arith}
+use borrow.Author.Tests.{lt-ltb, le-ltb}
+use lib.Dec.{T, eqb, ltb}
+use lib.ListN.{length, getD, drop, set, replicate, length-set}
+use lib.Seq.{set-getD}
+use Rattle.rdp_words.specs.Words.{wordAt, numberIn}
+use Rattle.rdp_words.specs.Kinds.{wordsOf}
+use Rattle.rdp_words.specs.Lengths.{firstNumber}
+use Rattle.rdp_words.proofs.Tests.{by-test, false-of}
+use Rattle.rdp_words.proofs.KindLaws.{words-pos, words-most}
+use Rattle.rdp_check.specs.Commands.{commandsOf, restOf}
+use Rattle.rdp_check.specs.Registers.{noRegisters}
+use Rattle.rdp_check.specs.Check.{State, start, afterCommand, Refusals, ownRefusals, syncRefusals, checkRefusals, refusalAt, Outcome, atEnd, settle, judge, judgeList, outcomeWithin}
+use Rattle.rdp_state.specs.RegisterWords.{tileIn, slotOf, registersIn}
+use Rattle.rdp_state.specs.Replay.{wordsUpTo, registersUpTo, endOf}
+use Rattle.rdp_check.specs.declared.Registers.{Registers}
+use Rattle.rdp_words.proofs.PlaceLaws.{number-small, some-words}
+use Rattle.rdp_check.proofs.ListLaws.{commands-at, command-number, command-word, commands-past}
+use Rattle.rdp_check.proofs.OrderLaws.{allGive}
+use Rattle.rdp_check.proofs.FirstLaws.{judge-gives}
+use Rattle.rdp_state.proofs.RegisterLaws.{stored-back, none-set, registers-up-to}
+
+-- ---- the loop
+
+-- what holds at the head of the loop: the words after what is left, with slot 31 put back, are those after the list
+pub record Replayed (list : List ℕ) (end words unread : ℕ) (before file : List ℕ) (at : ℕ) : Type 0 where
+  pub count : words ≡ length list / 8
+  pub within : at ≤ words
+  pub long : length file ≡ 32
+  pub same : wordsUpTo end at (set file 31 unread) (commandsOf (drop (8 * at) list)) ≡ wordsUpTo end 0 before (commandsOf list)
+
+pub first :
+    (list : List ℕ) (end words unread : ℕ) (file : List ℕ) → length file ≡ 32 → words ≡ length list / 8 → unread ≡ getD file 31 0 →
+    Replayed list end words unread file file 0
+first list end words unread file l e u =
+    record {
+      count = e;
+      within = omega arith;
+      long = l;
+      same = ap (λ (f : List ℕ). wordsUpTo end 0 f (commandsOf list)) (ap (set file 31) u ∙ set-getD file 31 0);
+    }
+
+still : (end at : ℕ) (file : List ℕ) (cs : List (List ℕ)) → end ≤ at → wordsUpTo end at file cs ≡ file
+unfolding wordsUpTo
+still end at file [] h = refl
+still end at file (c ∷ cs) h = rw (le-ltb _ _ h)
+
+module _ {list : List ℕ} {end words unread : ℕ} {before file : List ℕ} {at : ℕ} (v : Replayed list end words unread before file at) where
+  pub ended : end ≤ at → set file 31 unread ≡ wordsUpTo end 0 before (commandsOf list)
+  ended h = sym (still end at (set file 31 unread) (commandsOf (drop (8 * at) list)) h) ∙ v .same
+
+  -- a turn at a command with a number
+  module _ (more : at < end) (n : ℕ) (is : n ≡ numberIn (wordAt list at)) (count : ℕ) (long : count ≡ wordsOf n) where
+    pub few : count ≤ 22
+    few = rw (long, is) (words-most _ (number-small (wordAt list at)))
+
+    pub past : words < at + count → set file 31 unread ≡ wordsUpTo end 0 before (commandsOf list)
+    unfolding wordsUpTo
+    past h =
+        let short : length list / 8 < at + wordsOf n = omega (arith, v .count) in
+        rw (← v .same, commands-past list at n is short)
+
+    pub falls : at + count ≤ words → words - (at + count) < words - at
+    falls h = omega (arith, some-words list at n is)
+
+    pub again :
+        at + count ≤ words → (w slot : ℕ) → w ≡ wordAt list at → slot ≡ slotOf n (tileIn w) →
+        Replayed list end words unread before (set file slot w) (at + count)
+    unfolding wordsUpTo
+    again h w slot is-w is-slot =
+        let inside : at + wordsOf n ≤ length list / 8 = omega (arith, v .count) in
+        record {
+          count = v .count;
+          within = h;
+          long = length-set file slot w ∙ v .long;
+          same =
+              ap (λ (f : List ℕ). wordsUpTo end (at + count) f (commandsOf (drop (8 * (at + count)) list))) (stored-back slot file w unread) ∙
+              rw (
+                ← v .same,
+                is-slot,
+                is-w,
+                long,
+                commands-at list at n is inside,
+                lt-ltb _ _ more,
+                command-number list at n is inside,
+                command-word list at n is inside,
+              );
+        }
+
+-- ---- the registers after the loop
+
+abbrev pub final : List ℕ → ℕ → Registers
+final list end = registersUpTo end 0 noRegisters (commandsOf list)
+
+pub registers-final :
+    (list : List ℕ) (end : ℕ) (file : List ℕ) → file ≡ wordsUpTo end 0 (replicate 32 0) (commandsOf list) → registersIn file ≡ final list end
+registers-final list end file e =
+    ap registersIn e ∙ registers-up-to end 0 list 0 (replicate 32 0) refl ∙ ap (λ (r : Registers). registersUpTo end 0 r (commandsOf list)) none-set
+
+stopped : (end at : ℕ) (r : Registers) (cs : List (List ℕ)) → end ≤ at → registersUpTo end at r cs ≡ r
+unfolding registersUpTo
+stopped end at r [] h = refl
+stopped end at r (c ∷ cs) h = rw (le-ltb _ _ h)
+
+-- ---- the outcome
+
+-- the commands before the place of an outcome leave the registers of its state
+record Left (refusals : Refusals) (s : State) (at : ℕ) (cs : List (List ℕ)) (o : Outcome) : Type 0 where
+  from : at ≤ o .place
+  registers : registersUpTo (o .place) at (s .registers) cs ≡ o .state .registers
+
+left-end : (refusals : Refusals) (s : State) (at : ℕ) (rest : List ℕ) → Left refusals s at [] (atEnd s at rest)
+unfolding registersUpTo
+left-end refusals s at [] = record { from = le-refl at; registers = refl }
+left-end refusals s at (b ∷ bs) = record { from = le-refl at; registers = refl }
+
+left-next :
+    (refusals : Refusals) (s : State) (at : ℕ) (c : List ℕ) (cs : List (List ℕ)) (g : ℕ) (o : Outcome) →
+    Left refusals (afterCommand s c) (at + wordsOf (firstNumber c)) cs o → Left refusals s at (c ∷ cs) (settle g at s o)
+unfolding registersUpTo afterCommand
+left-next refusals s at c cs zero o l =
+    let some : 1 ≤ wordsOf (firstNumber c) = words-pos (firstNumber c) (number-small (wordAt c 0)) in
+    let more : at < o .place = omega (arith, l .from) in
+    record { from = omega arith; registers = rw (lt-ltb _ _ more) (l .registers) }
+left-next refusals s at c cs (suc g) o l = record { from = le-refl at; registers = rw (le-ltb at at (le-refl at)) }
+
+left : (refusals : Refusals) (s : State) (at : ℕ) (cs : List (List ℕ)) (rest : List ℕ) → Left refusals s at cs (judge refusals s at cs rest)
+unfolding judge
+left refusals s at [] rest = left-end refusals s at rest
+left refusals s at (c ∷ cs) rest =
+    left-next refusals s at c cs (refusalAt refusals s c) _ (left refusals (afterCommand s c) (at + wordsOf (firstNumber c)) cs rest)
+
+-- 1 and 2 are refusals of the whole list, and none of a command
+abbrev apart : ℕ → Bool
+apart g = not (eqb g 1 || eqb g 2)
+
+check-apart : (s : State) (c : List ℕ) → T (allGive apart (checkRefusals s c))
+unfolding ownRefusals syncRefusals
+check-apart s c = tt
+
+end-at : (g p : ℕ) → T (apart g) → endOf g p ≡ p
+end-at g p t = rw (false-of (eqb g 1 || eqb g 2) t)
+
+-- the registers of a list's outcome
+pub outcome-registers :
+    (words : ℕ) (list : List ℕ) →
+    let o = outcomeWithin words checkRefusals list in
+    final list (endOf (o .number) (o .place)) ≡ o .state .registers
+unfolding outcomeWithin
+outcome-registers words list =
+    by-test (ltb (8 * words) (length list)) (λ t. rw t (stopped 0 0 noRegisters (commandsOf list) (le-refl 0)))
+    (λ f.
+    by-test (eqb (length list % 8) 0)
+    (λ t.
+    let o = judgeList checkRefusals list in
+    rw (f, t, end-at (o .number) (o .place) (judge-gives apart checkRefusals check-apart tt tt start 0 (commandsOf list) (restOf list)))
+    (left checkRefusals start 0 (commandsOf list) (restOf list) .registers))
+    (λ g. rw (f, g) (stopped 0 0 noRegisters (commandsOf list) (le-refl 0))))

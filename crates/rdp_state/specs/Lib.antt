@@ -1,0 +1,3 @@
+pub mod RegisterWords
+pub mod Replay
+pub mod After

@@ -1,0 +1,41 @@
+-- How the replay finds a slot, and what its loop promises. No public contract cites this.
+use Prim.Native.Nat.{ℕ, _+_, _*_, _/_, _%_, _^_}
+use mathlib.Core.Bool.{cond, _||_}
+use mathlib.Core.List.{List, [], _∷_}
+use lib.Dec.{eqb, ltb}
+use Rattle.rdp_words.specs.Words.{wordAt}
+use Rattle.rdp_words.specs.Kinds.{wordsOf}
+use Rattle.rdp_words.specs.Lengths.{firstNumber}
+use Rattle.rdp_command.specs.Decode.{decodeOf}
+use Rattle.rdp_check.specs.Registers.{afterDecoded}
+use Rattle.rdp_state.specs.RegisterWords.{wordsAfter}
+use Rattle.rdp_check.specs.declared.Registers.{Registers}
+
+-- the slots of eight command numbers, a byte for each: the slot of tile 0, and 32 more where the tile counts
+unfoldable pub slotRow : ℕ → ℕ
+slotRow eight =
+    cond (eqb eight 5) 0x0504_0302_0100_1F1F
+    (cond (eqb eight 6) 0x061F_2F37_3737_1F37
+    (cond (eqb eight 7) 0x0E0D_0C0B_0A09_0807 0x1F1F_1F1F_1F1F_1F1F))
+
+abbrev pub slotEntry : ℕ → ℕ
+slotEntry n = slotRow (n / 8) / 2 ^ (8 * (n % 8)) % 256
+
+abbrev pub slotIn : ℕ → ℕ → ℕ
+slotIn entry t = entry % 32 + entry / 32 * t
+
+-- the words after the commands, from a place on, that begin before a place
+unfoldable pub wordsUpTo : ℕ → ℕ → List ℕ → List (List ℕ) → List ℕ
+wordsUpTo end at words [] = words
+wordsUpTo end at words (c ∷ cs) =
+    cond (ltb at end) (wordsUpTo end (at + wordsOf (firstNumber c)) (wordsAfter words (firstNumber c) (wordAt c 0)) cs) words
+
+-- the registers after them
+unfoldable pub registersUpTo : ℕ → ℕ → Registers → List (List ℕ) → Registers
+registersUpTo end at r [] = r
+registersUpTo end at r (c ∷ cs) =
+    cond (ltb at end) (registersUpTo end (at + wordsOf (firstNumber c)) (afterDecoded r (decodeOf c)) cs) r
+
+-- where the commands end whose registers an outcome has: at its place, but for 1 and 2 before the first
+abbrev pub endOf : ℕ → ℕ → ℕ
+endOf number place = cond (eqb number 1 || eqb number 2) 0 place

@@ -1,0 +1,259 @@
+// The registers as the words that last set them: after the commands of a list, and their fields out of the words.
+ghost use mathlib.Core.Bool.{not};
+ghost use mathlib.Core.Path.{_≡_};
+ghost use Prim.Native.Nat.{_<_};
+ghost use lib.Dec.{eqb};
+ghost use Rattle.rdp_command.specs.Reads.{colorFields, combinerFields, modeFields, imageFields};
+ghost use Rattle.rdp_check.specs.Commands.{commandsOf};
+ghost use Rattle.rdp_state.specs.RegisterWords.{slotOf, tileIn, registerWords, tileWith, isSet, word, colorsBy, combinerBy, modesBy, imagesBy, tilesBy, registersIn};
+ghost use Rattle.rdp_state.specs.Replay.{slotRow, slotEntry, wordsUpTo};
+use rdp_check::*;
+use rdp_command::ColorFields;
+use rdp_command::CombinerFields;
+use rdp_command::ImageFields;
+use rdp_command::ModeFields;
+use rdp_command::RegisterWords;
+
+// The slots of eight command numbers, a byte for each: a slot, and 32 more where the tile counts. Slot 31 stands for none.
+const SLOTS_28: u64 = 0x0504_0302_0100_1F1F;
+
+const SLOTS_30: u64 = 0x061F_2F37_3737_1F37;
+
+const SLOTS_38: u64 = 0x0E0D_0C0B_0A09_0807;
+
+const NO_SLOTS: u64 = 0x1F1F_1F1F_1F1F_1F1F;
+
+// The slots of eight numbers, by their eighth.
+fn slot_row(eight: u8) -> u64
+    ensures { λ r. ⌜ r ≡ slotRow eight ⌝ }
+{
+    match eight {
+        5 => SLOTS_28,
+        6 => SLOTS_30,
+        7 => SLOTS_38,
+        _ => NO_SLOTS,
+    }
+}
+
+// The slot of a command, and 32 more where the tile counts.
+fn slot_entry(number: u8) -> u8
+    ensures { λ r. ⌜ r ≡ slotEntry number ⌝ }
+{
+    let row = slot_row(number / 8);
+    ((row >> (8 * (number % 8))) % 256) as u8
+}
+
+// The slot of a command's word.
+pub fn slot_of(number: u8, w: u64) -> usize
+    requires { ⌜ number < 64 ⌝ }
+    ensures { λ r. ⌜ r ≡ slotOf number (tileIn w) ⌝ }
+{
+    let entry = slot_entry(number);
+    let tile = ((w >> 24) % 8) as u8;
+    (entry % 32 + entry / 32 * tile) as usize
+}
+
+// The words after the commands of a list that begin before a place. In the loop slot 31 takes the words of commands that set no register.
+pub fn replay_from(file: [u64; 32], list: &[u8], end: usize) -> [u64; 32]
+    ensures { λ r. ⌜ r ≡ wordsUpTo end 0 file (commandsOf (now (list .entry))) ⌝ }
+{
+    let words = list.len() / 8;
+    let unread = file[31];
+    let mut q = file;
+    let mut at: usize = 0;
+    while at < end {
+        let head = rdp_command::head_at(list, at);
+        let number = head.number;
+        let next = at + rdp_words::words_of(number);
+        if words < next {
+            q[31] = unread;
+            return q;
+        }
+        let w = rdp_words::word_at(list, at);
+        let slot = slot_of(number, w);
+        q[slot] = w;
+        at = next;
+    }
+    q[31] = unread;
+    q
+}
+
+// The words of the registers but the tiles.
+fn words_in(file: &[u64; 32]) -> RegisterWords
+    ensures { λ r. ⌜ r ≡ registerWords (now (file .entry)) ⌝ }
+{
+    RegisterWords {
+        key_gb: file[0],
+        key_r: file[1],
+        convert: file[2],
+        scissor: file[3],
+        primitive_depth: file[4],
+        other_modes: file[5],
+        fill_color: file[6],
+        fog_color: file[7],
+        blend_color: file[8],
+        primitive_color: file[9],
+        environment_color: file[10],
+        combine_mode: file[11],
+        texture_image: file[12],
+        depth_image: file[13],
+        color_image: file[14],
+    }
+}
+
+// Each group of registers has the fields of its words, and is set where its word is not 0.
+
+fn colors_of(file: &[u64; 32], fields: ColorFields) -> Colors
+    requires { ⌜ fields ≡ colorFields (registerWords (now file)) ⌝ }
+    ensures { λ r. ⌜ r ≡ colorsBy (isSet (now (file .entry))) (word (now (file .entry))) ⌝ }
+{
+    let fog = fields.fog;
+    let blend = fields.blend;
+    let primitive = fields.primitive;
+    let environment = fields.environment;
+    Colors {
+        fill: FillColorRegister {
+            set: file[6] != 0,
+            color: fields.fill,
+        },
+        fog: ColorRegister {
+            set: file[7] != 0,
+            color: fog,
+        },
+        blend: ColorRegister {
+            set: file[8] != 0,
+            color: blend,
+        },
+        primitive: PrimitiveColorRegister {
+            set: file[9] != 0,
+            color: primitive,
+        },
+        environment: ColorRegister {
+            set: file[10] != 0,
+            color: environment,
+        },
+    }
+}
+
+fn combiner_of(file: &[u64; 32], fields: CombinerFields) -> Combiner
+    requires { ⌜ fields ≡ combinerFields (registerWords (now file)) ⌝ }
+    ensures { λ r. ⌜ r ≡ combinerBy (isSet (now (file .entry))) (word (now (file .entry))) ⌝ }
+{
+    let key_gb = fields.key_gb;
+    let key_r = fields.key_r;
+    let convert = fields.convert;
+    Combiner {
+        combine: CombineRegister {
+            set: file[11] != 0,
+            mode: fields.combine,
+        },
+        key_gb: KeyGbRegister {
+            set: file[0] != 0,
+            key: key_gb,
+        },
+        key_r: KeyRRegister {
+            set: file[1] != 0,
+            key: key_r,
+        },
+        convert: ConvertRegister {
+            set: file[2] != 0,
+            convert,
+        },
+    }
+}
+
+fn modes_of(file: &[u64; 32], fields: ModeFields) -> Modes
+    requires { ⌜ fields ≡ modeFields (registerWords (now file)) ⌝ }
+    ensures { λ r. ⌜ r ≡ modesBy (isSet (now (file .entry))) (word (now (file .entry))) ⌝ }
+{
+    let other = fields.other;
+    let depth = fields.depth;
+    let scissor = fields.scissor;
+    Modes {
+        other: OtherModesRegister {
+            set: file[5] != 0,
+            modes: other,
+        },
+        depth: PrimitiveDepthRegister {
+            set: file[4] != 0,
+            depth,
+        },
+        scissor: ScissorRegister {
+            set: file[3] != 0,
+            scissor,
+        },
+    }
+}
+
+fn images_of(file: &[u64; 32], fields: ImageFields) -> Images
+    requires { ⌜ fields ≡ imageFields (registerWords (now file)) ⌝ }
+    ensures { λ r. ⌜ r ≡ imagesBy (isSet (now (file .entry))) (word (now (file .entry))) ⌝ }
+{
+    let color = fields.color;
+    let texture = fields.texture;
+    Images {
+        color: ImageRegister {
+            set: file[14] != 0,
+            image: color,
+        },
+        texture: ImageRegister {
+            set: file[12] != 0,
+            image: texture,
+        },
+        depth: DepthImageRegister {
+            set: file[13] != 0,
+            address: fields.depth,
+        },
+    }
+}
+
+// A tile by the words of its descriptor and its size.
+fn tile_of(descriptor: u64, size: u64) -> Tile
+    ensures { λ r. ⌜ r ≡ tileWith (not (eqb descriptor 0)) descriptor (not (eqb size 0)) size ⌝ }
+{
+    let fields = rdp_command::tile_fields(descriptor, size);
+    let read = fields.descriptor;
+    let area = fields.area;
+    let upper_left = area.upper_left;
+    let lower_right = area.lower_right;
+    Tile {
+        set: descriptor != 0,
+        descriptor: read,
+        sized: size != 0,
+        upper_left,
+        lower_right,
+    }
+}
+
+fn tiles_of(file: &[u64; 32]) -> [Tile; 8]
+    ensures { λ r. ⌜ r ≡ tilesBy (isSet (now (file .entry))) (word (now (file .entry))) ⌝ }
+{
+    let t0 = tile_of(file[15], file[23]);
+    let t1 = tile_of(file[16], file[24]);
+    let t2 = tile_of(file[17], file[25]);
+    let t3 = tile_of(file[18], file[26]);
+    let t4 = tile_of(file[19], file[27]);
+    let t5 = tile_of(file[20], file[28]);
+    let t6 = tile_of(file[21], file[29]);
+    let t7 = tile_of(file[22], file[30]);
+    [t0, t1, t2, t3, t4, t5, t6, t7]
+}
+
+// The registers of the words.
+pub fn registers_of(file: [u64; 32]) -> Registers
+    ensures { λ r. ⌜ r ≡ registersIn file ⌝ }
+{
+    let fields = rdp_command::register_fields(words_in(&file));
+    let colors = colors_of(&file, fields.colors);
+    let combiner = combiner_of(&file, fields.combiner);
+    let modes = modes_of(&file, fields.modes);
+    let images = images_of(&file, fields.images);
+    let tiles = tiles_of(&file);
+    Registers {
+        colors,
+        combiner,
+        modes,
+        images,
+        tiles,
+    }
+}
