@@ -14,7 +14,7 @@ slot-of-requires : tie.Need-slot-of-requires
 slot-of-requires c κs = search needs
 
 returns : tie.Need-returns
-returns c = rw (← c .before .slot-of .ensures, eq-eqb _ _ (c .if1 .taken))
+returns c = rw (← c .before .slot-of .ensures, eq-eqb _ 31 (c .if1 .taken))
 
 slot-fits : (c : tie.After-slot-of) → c .slot-of .result < 32
 slot-fits c =
@@ -28,7 +28,7 @@ element-write-file : tie.Need-element-write-file
 element-write-file c = slot-fits (c .before)
 
 returns-2 : tie.Need-returns-2
-returns-2 c = rw (← c .before .slot-of .ensures, ne-eqb _ _ (c .if1 .left))
+returns-2 c = rw (← c .before .slot-of .ensures, ne-eqb _ 31 (c .if1 .left))
 
 pub store-spec : {M : Type 1} → statement M
 store-spec = tie.close (tie.spec slot-of-requires returns mul-file element-write-file returns-2)
