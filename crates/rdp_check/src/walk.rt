@@ -3,8 +3,6 @@ ghost use mathlib.Core.Bool.{cond, true};
 ghost use mathlib.Core.Path.{_≡_};
 ghost use Prim.Native.Nat.{_*_, _<_, _≤_};
 ghost use lib.ListN.{length};
-ghost use Rattle.rdp_words.specs.Words.{wordAt, numberIn};
-ghost use Rattle.rdp_words.specs.Kinds.{wordsOf};
 ghost use Rattle.rdp_check.specs.Hazards.{Agrees, entryOf};
 ghost use Rattle.rdp_check.specs.Check.{start, draws, outcomeWithin, checked};
 ghost use Rattle.rdp_check.specs.View.{refusalsBy, code, viewOf, restAfter, restRefusal, refusalWith, Watches, AdvancedIs, stopAt, judgedView};
@@ -48,14 +46,6 @@ pub struct Stop {
     pub number: u32,
     pub place: u32,
     pub view: View,
-}
-
-// The words of the command at a place, by its number.
-pub fn words_at(list: &[u8], place: usize) -> usize
-    ensures { λ r. ⌜ r ≡ wordsOf (numberIn (wordAt (now (list .entry)) place)) ⌝ }
-{
-    let head = rdp_command::head_at(list, place);
-    rdp_words::words_of(head.number)
 }
 
 // The first refusal of a command, or 0: 4, then its refusal as a draw, then a missing sync.
