@@ -3,10 +3,11 @@ ghost use mathlib.Core.Bool.{cond, true};
 ghost use mathlib.Core.Path.{_≡_};
 ghost use Prim.Native.Nat.{_*_, _<_, _≤_};
 ghost use lib.ListN.{length};
+ghost use Rattle.rdp_words.specs.Words.{wordAt, numberIn};
 ghost use Rattle.rdp_check.specs.Hazards.{Agrees, entryOf};
-ghost use Rattle.rdp_check.specs.Check.{start, draws, outcomeWithin, checked};
-ghost use Rattle.rdp_check.specs.View.{refusalsBy, code, viewOf, restAfter, restRefusal, refusalWith, Watches, AdvancedIs, stopAt, judgedView};
-use crate::Checked;
+ghost use Rattle.rdp_check.specs.Check.{start, outcomeWithin};
+ghost use Rattle.rdp_check.specs.Marks.{draws};
+ghost use Rattle.rdp_check.specs.View.{refusalsBy, code, viewOf, stopOf, restAfter, restRefusal, refusalWith, Watches, AdvancedIs, stopAt, judgedView};
 use crate::hazards;
 use crate::table;
 use rdp_command::Head;
@@ -46,6 +47,13 @@ pub struct Stop {
     pub number: u32,
     pub place: u32,
     pub view: View,
+}
+
+// The number of the command at a place.
+pub fn number_at(list: &[u8], place: usize) -> u8
+    ensures { λ r. ⌜ r ≡ numberIn (wordAt (now (list .entry)) place) ⌝ }
+{
+    rdp_words::number_in(rdp_words::word_at(list, place))
 }
 
 // The first refusal of a command, or 0: 4, then its refusal as a draw, then a missing sync.
@@ -245,33 +253,19 @@ pub fn walk(table: &[u8; 1024], list: &[u8], words: usize, view: View, strict: b
 }
 
 // The first refusal of a list that may have so many words: 1 and 2 of the list, then those of its commands.
-pub fn check_within(list: &[u8], most: usize, strict: bool) -> Checked
+pub fn check_within(list: &[u8], most: usize, strict: bool) -> Stop
     requires { ⌜ most ≤ 4096 ⌝ }
-    ensures { λ r. ⌜ r ≡ checked (outcomeWithin most (refusalsBy strict) (now (list .entry))) ⌝ }
+    ensures { λ r. ⌜ r ≡ stopOf (outcomeWithin most (refusalsBy strict) (now (list .entry))) ⌝ }
 {
     let len = list.len();
     let words = len / 8;
+    let rest = no_rest();
     if 8 * most < len {
-        return Checked {
-            number: 1,
-            place: most as u32,
-            hazards: 0,
-        };
+        return answer(1, most, 0, rest);
     }
     if len % 8 != 0 {
-        return Checked {
-            number: 2,
-            place: words as u32,
-            hazards: 0,
-        };
+        return answer(2, words, 0, rest);
     }
     let table = table::step_table();
-    let rest = no_rest();
-    let stop = walk(&table, list, words, View { hazards: 0, rest }, strict);
-    let view = stop.view;
-    Checked {
-        number: stop.number,
-        place: stop.place,
-        hazards: view.hazards,
-    }
+    walk(&table, list, words, View { hazards: 0, rest }, strict)
 }
