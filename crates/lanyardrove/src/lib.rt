@@ -1,6 +1,7 @@
 // The functions for callers in C. Every answer is one 64-bit number, returned in a register; include/lanyardrove.h declares them.
+ghost use mathlib.Core.Bool.{cond};
 ghost use mathlib.Core.Path.{_≡_};
-ghost use Prim.Native.Nat.{_<_, _^_, min};
+ghost use Prim.Native.Nat.{_+_, _<_, _^_, min};
 ghost use lib.ListN.{length};
 ghost use Rattle.rdp_words.specs.Lengths.{commandWords};
 ghost use Rattle.rdp_draw.specs.Draw.{drawMemory};
@@ -23,6 +24,16 @@ fn third_of(count: usize) -> u32
         return count as u32;
     }
     0xFF_FFFF
+}
+
+// A sync that a command requires as a third number: 4 more where it is missing.
+fn third_of_sync(required: u8, missing: bool) -> u32
+    ensures { λ r. ⌜ r ≡ required + cond missing 4 0 ⌝ }
+{
+    if missing {
+        return required as u32 + 4;
+    }
+    required as u32
 }
 
 // The version of this library: major, minor and patch number, eight bits each. The header has the same number.
@@ -48,7 +59,8 @@ pub extern "C" fn lanyardrove_step(hazards: u32, number: u32) -> u64
     ensures { λ r. ⌜ r ≡ packed (stepReply hazards number) ⌝ }
 {
     let step = rdp_check::step((hazards % 16) as u8, (number % 64) as u8);
-    pack(0, step.required as u32 + step.missing as u32 * 4, step.next as u32)
+    let third = third_of_sync(step.required, step.missing);
+    pack(0, third, step.next as u32)
 }
 
 // The check of a list: the first of refusals 1 to 9, or 0 and the words of the list. The third number is the cause.
