@@ -64,12 +64,19 @@ uint64_t lanyardrove_repair(const uint8_t *list, size_t length, uint8_t *work, s
 }
 
 uint64_t lanyardrove_draw(const uint8_t *list, size_t length, uint8_t *memory, size_t memory_length, uint64_t start) {
+    static uint8_t before[65536];
+    if (memory_length) memcpy(before, memory, memory_length);
     const uint64_t a = right_draw(list, length, memory, memory_length, start), number = a >> 56;
     if (wrong(21) && number == 0) memory[memory_length] = 1;
     if (wrong(22) && number == 12 && memory_length) memory[memory_length / 2] ^= 1;  // paints and refuses
     if (wrong(23) && number == 0 && memory_length > 5) memory[5] ^= 0x10;            // a byte that no fill covers
     if (wrong(24) && number == 11) return a + 1;                                     // place
-    if (wrong(25) && number == 0 && memory_length > 65 && memory[64] == memory[65]) memory[64] = 0;  // another colour
+    if (wrong(25) && number == 0)                                                    // another colour
+        for (size_t i = 0; i < memory_length; i++)
+            if (memory[i] != before[i]) {
+                memory[i] ^= 0x10;
+                break;
+            }
     return a;
 }
 
