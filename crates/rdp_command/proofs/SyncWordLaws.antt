@@ -1,4 +1,4 @@
--- A word with a command number in bits 61:56 and all other bits 0, and the syncs that are such words. Assumes nothing.
+-- The syncs whose word is a command number in bits 61:56 with all other bits 0. Assumes nothing.
 use Prim.Native.Nat.{ℕ}
 use mathlib.Core.Path.{_≡_, refl}
 use Rattle.rdp_words.specs.Words.{halfOf, wordAt, bareWord}

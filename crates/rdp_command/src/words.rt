@@ -1,4 +1,4 @@
-// The words of a command, and words and bytes written to a buffer.
+// The words of a command, and a word written to a buffer.
 ghost use mathlib.Core.Path.{_≡_};
 ghost use Prim.Native.Nat.{_+_, _≤_};
 ghost use lib.ListN.{length};

@@ -19,11 +19,6 @@ pub and-true : (a b : Bool) → a && b ≡ true → (a ≡ true) × (b ≡ true)
 and-true true b e = (refl, e)
 and-true false b e = (e, absurd (false≢true e))
 
--- of two tests that do not both pass, one fails
-pub and-cases : {P : Type 0} (a b : Bool) → a && b ≡ false → (a ≡ false → P) → (b ≡ false → P) → P
-and-cases true b e p q = q e
-and-cases false b e p q = p refl
-
 pub or-cases : {P : Type 0} (a b : Bool) → a || b ≡ true → (a ≡ true → P) → (b ≡ true → P) → P
 or-cases true b e p q = p refl
 or-cases false b e p q = q e

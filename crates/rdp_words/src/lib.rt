@@ -88,12 +88,15 @@ pub fn suffix(list: &[u8]) -> &[u8]
     &list[32..end]
 }
 
-// Copies src to the front of out, as far as both go. Callers lend just the part to be written: the compiler then sees that nothing is cut.
+// Copies src to the front of out, as far as both go. Where a caller lends just the part to be written, the compiler sees that nothing is cut.
 pub fn copy(out: &mut [u8], src: &[u8])
     ensures { λ _. ⌜ now (out .exit) ≡ overwrite (take (length (now (out .entry))) (now (src .entry))) (now (out .entry)) ⌝ }
 {
     let mut i: usize = 0;
-    while (i < out.len()) & (i < src.len()) {
+    while i < src.len() {
+        if out.len() <= i {
+            return;
+        }
         out[i] = src[i];
         i += 1;
     }

@@ -1,7 +1,7 @@
 -- `rdp_check::repairing::put_option` meets its contract: the word is copied, or nothing is. Assumes nothing.
 use mathlib.Core.Path.{_≡_, sym, ap, _∙_}
 use mathlib.Core.List.{List, []}
-use Prim.Native.Nat.{ℕ, _+_}
+use Prim.Native.Nat.{ℕ, _+_, _≤_}
 use native.Mathlib.Omega.{arith}
 use borrow.Author.Needs.{needs}
 use lib.ListN.{length}
@@ -36,10 +36,9 @@ sub-copy c = search needs
 part-copy-start : tie.Need-part-copy-start
 part-copy-start c = search needs
 
--- the option's word, after a call that found its number
-module _ (at : tie.After-sync-of) where
-  is-word : optionBytes (at .before .before .before .args .option) ≡ bareWord (at .sync-of .result)
-  is-word = option-word (at .before .before .before .args .option) (at .sync-of .result) (at .before .if1 .left) (at .sync-of .ensures)
+-- the bytes of the option are those of the local array
+is-word : (at : tie.After-sync-of) → optionBytes (at .before .before .before .args .option) ≡ bareWord (at .sync-of .result)
+is-word at = option-word (at .before .before .before .args .option) (at .sync-of .result) (at .before .if1 .left) (at .sync-of .ensures)
 
 part-copy-end : tie.Need-part-copy-end
 part-copy-end c = omega (arith, c .before .before .before .pre, ap length (is-word c))
@@ -61,10 +60,11 @@ returns-2 c =
     let to : ℕ = s .args .to in
     let out : List ℕ = s .args .out .now in
     let e = is-word at in
+    let room : to + 8 ≤ length out = omega (arith, s .pre, ap length e) in
     record {
       after = omega (arith, ap length e);
       output =
-          part-copied (bareWord (at .sync-of .result)) out (copied .copy .last .0) to (to + 8) (omega arith) (omega (arith, s .pre, ap length e)) (copied .copy .ensures) ∙
+          part-copied (bareWord (at .sync-of .result)) out (copied .copy .last .0) to (to + 8) (omega arith) room (copied .copy .ensures) ∙
           ap (λ (b : List ℕ). pasted to b out) (sym e);
     }
 
