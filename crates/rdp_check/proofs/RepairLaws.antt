@@ -6,7 +6,7 @@ use Prim.Native.Nat.{ℕ, zero, suc, _+_, _*_, _/_, _<_, _≤_}
 use native.Mathlib.Omega.{arith}
 use lib.Dec.{T, eqb}
 use lib.ListN.{length, getD, take, drop, replicate, length-map, length-replicate}
-use Rattle.rdp_command.proofs.Bytes.{overwrite-is, take-overwrite, overwrite-twice}
+use Rattle.rdp_words.proofs.OverwriteLaws.{overwrite-is, take-overwrite, overwrite-twice}
 use borrow.Author.Tests.{eqb-true, eqb-false, lt-ltb, le-ltb, ne-eqb}
 use Rattle.rdp_words.specs.Words.{wordAt, overwrite}
 use Rattle.rdp_words.specs.Lengths.{firstNumber}
