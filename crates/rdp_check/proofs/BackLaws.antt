@@ -6,7 +6,7 @@ use native.Mathlib.Omega.{arith}
 use lib.ListN.{length, getD, take, drop, length-append, length-take, length-drop, List·getD-append, take-append-drop}
 use lib.Seq.{drop-cons, take-append-le, take-take, drop-at, drop-length, getD-take}
 use Rattle.rdp_words.specs.Words.{overwrite, pasted}
-use Rattle.rdp_command.proofs.Bytes.{overwrite-is, pasted-is}
+use Rattle.rdp_words.proofs.OverwriteLaws.{overwrite-is, pasted-is}
 use Rattle.rdp_check.specs.Hazards.{nextOf}
 use Rattle.rdp_check.specs.Plan.{syncAt, waitOf}
 use Rattle.rdp_check.specs.Best.{Choice, clearedBy, totalWith, choiceOf, prefer, chosen, best}

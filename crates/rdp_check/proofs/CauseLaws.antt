@@ -21,13 +21,14 @@ use Rattle.rdp_check.specs.Order.{Among}
 use Rattle.rdp_check.specs.Commands.{commandsOf, restOf, wordsIn, joined}
 use Rattle.rdp_check.specs.Marks.{Mark, markP, markT, markD, markG, draws, textured, loads, NoneOf, Stands}
 use Rattle.rdp_check.specs.Cause.{awaited, latest, causeAt, causeOf, IsCause}
-use Rattle.rdp_check.specs.Check.{State, start, ownRefusals, syncRefusals, checkRefusals, outcomeOf, checkOf}
+use Rattle.rdp_check.specs.Check.{State, start, ownRefusals, syncRefusals, checkRefusals, judgeList, checkOf}
 use Rattle.rdp_check.specs.Refusals.{stateAfter, CommandHolds, pastEnd, atCommand, Holds, tooLong, notWords, ofCommands}
-use Rattle.rdp_check.specs.View.{Numbers}
+use Rattle.rdp_check.specs.View.{refusalsBy, Numbers, IsJudged}
 use Rattle.rdp_check.proofs.HazardLaws.{allStates, at-state}
 use Rattle.rdp_check.proofs.MarkLaws.{IsMark, is-P, is-T, is-D, is-G, exactly, state-low}
 use Rattle.rdp_check.proofs.JoinLaws.{Alone, AllAlone, command-some, commands-joined, rest-joined, length-joined, parsed, joined-whole}
-use Rattle.rdp_check.proofs.FirstLaws.{check-first}
+use Rattle.rdp_check.proofs.OrderLaws.{among-parts}
+use Rattle.rdp_check.proofs.FirstLaws.{Numbered, own-numbered, check-numbered, commands-first, check-first}
 use Rattle.rdp_check.proofs.LeftLaws.{Left, none-left, inside, fits, commands-next, left-next}
 use Rattle.rdp_check.proofs.ListLaws.{command-number}
 
@@ -236,30 +237,52 @@ some-sync : (r k : ℕ) → T (eqb r k) → T (not (eqb k 0)) → T (not (eqb r 
 some-sync r k e t = subst (λ (x : ℕ). T (not (eqb x 0))) (sym (eqb→eq r k e)) t
 
 -- 7 to 9 are grounds of a missing sync only
-sync-ground : (s : State) (c : List ℕ) (n : ℕ) → T (between 7 9 n) → Among n (checkRefusals s c) → T (not (eqb (requiredOf (s .hazards) (firstNumber c)) 0))
-unfolding ownRefusals syncRefusals
-sync-ground s c n t (inl h) = absurd (subst (λ (k : ℕ). T (between 7 9 k)) (sym (h .1)) t)
-sync-ground s c n t (inr (inl h)) = absurd (subst (λ (k : ℕ). T (between 7 9 k)) (sym (h .1)) t)
-sync-ground s c n t (inr (inr (inl h))) = absurd (subst (λ (k : ℕ). T (between 7 9 k)) (sym (h .1)) t)
-sync-ground s c n t (inr (inr (inr (inl h)))) = some-sync (requiredOf (s .hazards) (firstNumber c)) 1 (h .0) tt
-sync-ground s c n t (inr (inr (inr (inr (inl h))))) = some-sync (requiredOf (s .hazards) (firstNumber c)) 2 (h .0) tt
-sync-ground s c n t (inr (inr (inr (inr (inr (inl h)))))) = some-sync (requiredOf (s .hazards) (firstNumber c)) 3 (h .0) tt
-sync-ground s c n t (inr (inr (inr (inr (inr (inr h)))))) = absurd h
+own-none : (s : State) (c : List ℕ) (n : ℕ) → T (between 7 9 n) → Among n (ownRefusals s c) → ⊥
+unfolding ownRefusals
+own-none s c n t (inl h) = subst (λ (k : ℕ). T (between 7 9 k)) (sym (h .1)) t
+own-none s c n t (inr (inl h)) = subst (λ (k : ℕ). T (between 7 9 k)) (sym (h .1)) t
+own-none s c n t (inr (inr (inl h))) = subst (λ (k : ℕ). T (between 7 9 k)) (sym (h .1)) t
+own-none s c n t (inr (inr (inr h))) = h
 
-from-command : (list : List ℕ) (n p : ℕ) → T (between 7 9 n) → CommandHolds checkRefusals list n p → Missing list p
-from-command list n p t (pastEnd h) = absurd t
-from-command list n p t (atCommand before c after number split m) =
-    record { before = before; refused = c; after = after; split = split; at-refused = refl; missing = sync-ground (stateAfter start before) c number t m }
+sync-ground : (s : State) (c : List ℕ) (n : ℕ) → Among n (syncRefusals s c) → T (not (eqb (requiredOf (s .hazards) (firstNumber c)) 0))
+unfolding syncRefusals
+sync-ground s c n (inl h) = some-sync (requiredOf (s .hazards) (firstNumber c)) 1 (h .0) tt
+sync-ground s c n (inr (inl h)) = some-sync (requiredOf (s .hazards) (firstNumber c)) 2 (h .0) tt
+sync-ground s c n (inr (inr (inl h))) = some-sync (requiredOf (s .hazards) (firstNumber c)) 3 (h .0) tt
+sync-ground s c n (inr (inr (inr h))) = absurd h
+
+ground-by :
+    (strict : Bool) (s : State) (c : List ℕ) (n : ℕ) → T (between 7 9 n) → Among n (refusalsBy strict s c) →
+    T (not (eqb (requiredOf (s .hazards) (firstNumber c)) 0))
+ground-by true s c n t m = ⊎-elim (λ a. absurd (own-none s c n t a)) (sync-ground s c n) (among-parts n (ownRefusals s c) (syncRefusals s c) m)
+ground-by false s c n t m = absurd (own-none s c n t m)
+
+from-command : (strict : Bool) (list : List ℕ) (n p : ℕ) → T (between 7 9 n) → CommandHolds (refusalsBy strict) list n p → Missing list p
+from-command strict list n p t (pastEnd h) = absurd t
+from-command strict list n p t (atCommand before c after number split m) =
+    let missing = ground-by strict (stateAfter start before) c number t m in
+    record { before = before; refused = c; after = after; split = split; at-refused = refl; missing = missing }
 
 from-list : (list : List ℕ) (n p : ℕ) → T (between 7 9 n) → Holds 4096 checkRefusals list n p → Missing list p
 from-list list n p t (tooLong h) = absurd t
 from-list list n p t (notWords h) = absurd t
-from-list list n p t (ofCommands m q h) = from-command list m q t h
+from-list list n p t (ofCommands m q h) = from-command true list m q t h
 
-pub missing-at : (list : List ℕ) → T (between 7 9 (checkOf list .number)) → Missing list (checkOf list .place)
+missing-at : (list : List ℕ) → T (between 7 9 (checkOf list .number)) → Missing list (checkOf list .place)
 missing-at list t =
     from-list list (checkOf list .number) (checkOf list .place) t
     (check-first list .refused (λ z. subst (λ (k : ℕ). T (between 7 9 k)) z t))
+
+numbered-by : (strict : Bool) → Numbered (refusalsBy strict)
+numbered-by true = check-numbered
+numbered-by false = own-numbered
+
+missing-judged :
+    (strict : Bool) (list : List ℕ) → T (between 7 9 (judgeList (refusalsBy strict) list .number)) →
+    Missing list (judgeList (refusalsBy strict) list .place)
+missing-judged strict list t =
+    from-command strict list _ _ t
+    (commands-first (refusalsBy strict) list (numbered-by strict) .refused (λ z. subst (λ (k : ℕ). T (between 7 9 k)) z t))
 
 joined-append : (bs cs : List (List ℕ)) → joined (bs ++ cs) ≡ joined bs ++ joined cs
 joined-append [] cs = refl
@@ -362,10 +385,10 @@ module _ (list : List ℕ) (number place : ℕ) where
   cause-else t = rw (not-true (between 7 9 number) t)
 
   module _ (t : not (between 7 9 number) ≡ false) where
-    pub missing-of : number ≡ outcomeOf list .number → place ≡ outcomeOf list .place → Missing list place
-    missing-of e f =
-        let d = subst T (ap (between 7 9) e) (not-false (between 7 9 number) t) in
-        rw f (missing-at list d)
+    pub missing-of : IsJudged list number place → Missing list place
+    missing-of j =
+        let d = subst T (ap (between 7 9) (j .is-number)) (not-false (between 7 9 number) t) in
+        subst (Missing list) (sym (j .is-place)) (missing-judged (j .strict) list d)
 
     pub cause-sought :
         (numbers : ℕ) → Numbers numbers (awaited (numberIn (wordAt list place)) .sets) → (found : ℕ) →

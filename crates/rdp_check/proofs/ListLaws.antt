@@ -10,9 +10,7 @@ use borrow.Author.Tests.{eq-eqb, ne-eqb}
 use Rattle.rdp_words.specs.Words.{wordAt, numberIn}
 use Rattle.rdp_words.specs.Kinds.{wordsOf}
 use Rattle.rdp_words.specs.Lengths.{firstNumber, wholeWords}
-use Rattle.rdp_command.specs.Decode.{decodeOf}
 use Rattle.rdp_words.proofs.WordLaws.{word-front}
-use Rattle.rdp_command.proofs.WholeLaws.{decode-whole-later}
 use Rattle.rdp_check.specs.Commands.{commandsFrom, restFrom, commandsOf, restOf}
 use Rattle.rdp_words.proofs.PlaceLaws.{is-whole, word-drop, words-there, some-words, there-at, cut-at}
 
@@ -113,11 +111,6 @@ module _ (list : List ℕ) (at n : ℕ) (is : n ≡ numberIn (wordAt list at)) w
 
     pub command-there : wholeWords (commandAt list at n) ≡ 0 → ⊥
     command-there z = omega (arith, command-whole, some-words list at n is)
-
-    -- decoding at the place gives the command
-    pub decoded-at : decodeOf (drop (8 * at) list) ≡ decodeOf (commandAt list at n)
-    decoded-at =
-        ap decodeOf (sym split-at) ∙ decode-whole-later (commandAt list at n) command-there (drop (8 * (at + wordsOf n)) list)
 
     pub rest-at : restOf (drop (8 * at) list) ≡ restOf (drop (8 * (at + wordsOf n)) list)
     rest-at = rest-head (drop (8 * at) list) there ∙ rw onward

@@ -9,7 +9,7 @@ use lib.ListN.{length, getD, take, drop, set, length-append, length-take, length
 use lib.Seq.{append-snoc, drop-set-lt}
 use Rattle.rdp_words.specs.Words.{wordAt, numberIn, overwrite, pasted}
 use Rattle.rdp_words.specs.Kinds.{wordsOf}
-use Rattle.rdp_command.proofs.Bytes.{overwrite-none, length-overwrite, pasted-after}
+use Rattle.rdp_words.proofs.OverwriteLaws.{overwrite-none, length-overwrite, pasted-after}
 use Rattle.rdp_check.specs.Commands.{commandsFrom, commandsOf, restOf, joined}
 use Rattle.rdp_check.specs.Plan.{applied}
 use Rattle.rdp_check.specs.Best.{numbersOf}

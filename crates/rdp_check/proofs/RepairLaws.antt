@@ -6,18 +6,17 @@ use Prim.Native.Nat.{ℕ, zero, suc, _+_, _*_, _/_, _<_, _≤_}
 use native.Mathlib.Omega.{arith}
 use lib.Dec.{T, eqb}
 use lib.ListN.{length, getD, take, drop, replicate, length-map, length-replicate}
-use Rattle.rdp_command.proofs.Bytes.{overwrite-is, take-overwrite, overwrite-twice}
+use Rattle.rdp_words.proofs.OverwriteLaws.{overwrite-is, take-overwrite, overwrite-twice}
 use borrow.Author.Tests.{eqb-true, eqb-false, lt-ltb, le-ltb, ne-eqb}
 use Rattle.rdp_words.specs.Words.{wordAt, overwrite}
 use Rattle.rdp_words.specs.Lengths.{firstNumber}
 use Rattle.rdp_check.specs.Commands.{commandsOf, joined}
-use Rattle.rdp_check.specs.Check.{State, ownRefusals, repairRefusals}
+use Rattle.rdp_check.specs.Check.{State, ownRefusals, repairRefusals, checked}
 use Rattle.rdp_check.specs.Plan.{applied}
 use Rattle.rdp_check.specs.Best.{best, plan, numbersOf, planned, repairedBytes, leastCycles}
 use Rattle.rdp_check.specs.Work.{notedIn, workOf, optionsIn, insertsOf, Below, dueBytes, WholeList, NotedIs, BackwardIs}
 use Rattle.rdp_check.specs.Repair.{LeastRepair, Repairable, repairAnswer, repairOf, outAfter, workAfter, RepairIs}
-use Rattle.rdp_check.specs.View.{stopOf}
-use Rattle.rdp_check.specs.declared.walk.Stop.{Stop}
+use Rattle.rdp_check.specs.declared.Checked.{Checked}
 use Rattle.rdp_check.specs.declared.Repaired.{Repaired}
 use Rattle.rdp_words.proofs.Tests.{by-test, false-of}
 use Rattle.rdp_words.proofs.PlaceLaws.{number-small}
@@ -155,11 +154,11 @@ fourteen : _≡_ {A = ℕ} 14 0 → ⊥
 fourteen e = omega arith
 
 module _ (list work out : List ℕ) where
-  pub refused : (r : Stop) → r ≡ stopOf (judged list) → (r .number ≡ 0 → ⊥) → RepairIs list work out (repairAnswer (r .number) (r .place) 0) work out
+  pub refused : (r : Checked) → r ≡ checked list (judged list) → (r .number ≡ 0 → ⊥) → RepairIs list work out (repairAnswer (r .number) (r .place) 0) work out
   refused r e z =
-      let number : r .number ≡ judged list .number = ap (λ (x : Stop). x .number) e in
+      let number : r .number ≡ judged list .number = ap (λ (x : Checked). x .number) e in
       untouched list work out _
-      (ap₂ (λ (n p : ℕ). repairAnswer n p 0) number (ap (λ (x : Stop). x .place) e) ∙
+      (ap₂ (λ (n p : ℕ). repairAnswer n p 0) number (ap (λ (x : Checked). x .place) e) ∙
       sym (repair-refused list _ _ (length work) (length out) (λ y. z (number ∙ y)))) z
       (λ y. eqb-false _ _ (false-of _ (outcome-gives notOut repairRefusals own-not-out tt tt tt tt 2048 list)) (sym number ∙ y))
 

@@ -8,8 +8,10 @@ use Rattle.rdp_words.specs.Kinds.{wordsOf}
 use Rattle.rdp_words.specs.Lengths.{firstNumber, wholeWords}
 use Rattle.rdp_words.proofs.PlaceLaws.{words-there}
 use Rattle.rdp_check.specs.Commands.{commandsOf, restOf}
-use Rattle.rdp_check.specs.Check.{State, start, afterCommand, refusalAt, Outcome, settle, judge, judgeList, outcome}
-use Rattle.rdp_check.specs.View.{refusalsBy, viewOf, stopAt, stopOf, settleView, judgeView, judgedView}
+use Rattle.rdp_check.specs.Check.{State, start, afterCommand, refusalAt, Outcome, settle, judge, judgeList, checked}
+use Rattle.rdp_check.specs.Cause.{causeOf}
+use Rattle.rdp_check.specs.View.{refusalsBy, viewOf, stopOf, settleView, judgeView, judgedView}
+use Rattle.rdp_check.specs.declared.Checked.{Checked}
 use Rattle.rdp_check.specs.declared.walk.Rest.{Rest}
 use Rattle.rdp_check.specs.declared.walk.Stop.{Stop}
 use Rattle.rdp_check.proofs.JoinLaws.{Alone, AllAlone, command-some, parsed}
@@ -46,7 +48,10 @@ pub list-seen :
 unfolding viewOf
 list-seen strict list r e q is = is ∙ (λ i. judgedView strict (record { hazards = 0; rest = e i }) 0 list) ∙ sym (judged-seen strict start 0 list)
 
--- at the first view
-pub first-seen : (number place : ℕ) (r : Rest) → r ≡ viewOf start .rest → stopAt number place (record { hazards = 0; rest = r }) ≡ stopOf (outcome number place start)
+-- of the view the check shows the hazards
+abbrev pub shownOf : List ℕ → Stop → Checked
+shownOf list q = record { number = q .number; place = q .place; hazards = q .view .hazards; cause = causeOf list (q .number) (q .place) }
+
+pub shown : (list : List ℕ) (o : Outcome) → shownOf list (stopOf o) ≡ checked list o
 unfolding viewOf
-first-seen number place r e = λ i. stopAt number place (record { hazards = 0; rest = e i })
+shown list o = refl

@@ -113,8 +113,9 @@ outcomeWithin words refusals list =
 abbrev pub outcomeOf : List ℕ → Outcome
 outcomeOf list = outcomeWithin 4096 checkRefusals list
 
+abbrev pub checked : List ℕ → Outcome → Checked
+checked list o = record { number = o .number; place = o .place; hazards = o .state .hazards; cause = causeOf list (o .number) (o .place) }
+
 -- what the check answers
 abbrev pub checkOf : List ℕ → Checked
-checkOf list =
-    let o = outcomeOf list in
-    record { number = o .number; place = o .place; hazards = o .state .hazards; cause = causeOf list (o .number) (o .place) }
+checkOf list = checked list (outcomeOf list)

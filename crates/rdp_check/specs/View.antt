@@ -11,7 +11,7 @@ use Rattle.rdp_command.specs.Reads.{headOf}
 use Rattle.rdp_check.specs.Hazards.{nextOf, requiredOf}
 use Rattle.rdp_check.specs.Commands.{commandsOf, restOf}
 use Rattle.rdp_check.specs.Marks.{draws}
-use Rattle.rdp_check.specs.Check.{State, Refusals, checkRefusals, repairRefusals, Outcome}
+use Rattle.rdp_check.specs.Check.{State, Refusals, checkRefusals, repairRefusals, Outcome, judgeList}
 use Rattle.rdp_check.specs.declared.walk.Rest.{Rest}
 use Rattle.rdp_check.specs.declared.walk.View.{View}
 use Rattle.rdp_check.specs.declared.walk.Advanced.{Advanced}
@@ -74,6 +74,12 @@ refusalWith ended draw required = cond ended 4 (orElse draw (missing required))
 abbrev pub refusalsBy : Bool → Refusals
 refusalsBy true = checkRefusals
 refusalsBy false = repairRefusals
+
+-- number and place of a judgement of a list's commands, by the one or the other
+pub record IsJudged (list : List ℕ) (number place : ℕ) : Type 0 where
+  pub strict : Bool
+  pub is-number : number ≡ judgeList (refusalsBy strict) list .number
+  pub is-place : place ≡ judgeList (refusalsBy strict) list .place
 
 -- the refusal of a draw by what is carried
 abbrev pub restRefusal : Rest → ℕ

@@ -6,8 +6,7 @@ ghost use Prim.Native.Nat.{_<_};
 ghost use Rattle.rdp_words.specs.Kinds.{isAmong};
 ghost use Rattle.rdp_check.specs.Commands.{commandsOf, restOf};
 ghost use Rattle.rdp_check.specs.Cause.{awaited, latest, causeOf};
-ghost use Rattle.rdp_check.specs.Check.{outcomeOf};
-ghost use Rattle.rdp_check.specs.View.{Numbers};
+ghost use Rattle.rdp_check.specs.View.{Numbers, IsJudged};
 use crate::walk;
 
 // Command numbers, a bit for each: the textured draws, and the loads.
@@ -56,7 +55,7 @@ fn latest_among(numbers: u64, list: &[u8], other: usize) -> usize
 
 // The cause of a refusal by 7, 8 or 9, by a second walk up to its place; at every other answer the list's whole words.
 pub fn cause_of(list: &[u8], number: u32, place: u32) -> usize
-    requires { ⌜ (number ≡ outcomeOf (now list) .number) × (place ≡ outcomeOf (now list) .place) ⌝ }
+    requires { ⌜ IsJudged (now list) number place ⌝ }
     ensures { λ r. ⌜ r ≡ causeOf (now (list .entry)) number place ⌝ }
 {
     let words = list.len() / 8;

@@ -191,17 +191,7 @@ pub fn step(hazards: u8, number: u8) -> Transition
 pub fn check(list: &[u8]) -> Checked
     ensures { λ r. ⌜ r ≡ checkOf (now (list .entry)) ⌝ }
 {
-    let stop = walk::check_within(list, 4096, true);
-    let number = stop.number;
-    let place = stop.place;
-    let view = stop.view;
-    let cause = cause::cause_of(list, number, place);
-    Checked {
-        number,
-        place,
-        hazards: view.hazards,
-        cause,
-    }
+    walk::check_within(list, 4096, true)
 }
 
 // Writes to out the list with the syncs that it misses inserted, at the least cycles. The work buffer lends sixteen bytes a command. Refusals 1 to 6 of

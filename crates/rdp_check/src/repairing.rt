@@ -3,7 +3,7 @@ ghost use mathlib.Core.List.{_++_};
 ghost use mathlib.Core.Path.{_≡_};
 ghost use Prim.Native.Nat.{pred, _+_, _*_, _/_, _<_, _≤_, min};
 ghost use lib.ListN.{length, take, drop, replicate};
-ghost use Rattle.rdp_words.specs.Words.{overwrite, pasted};
+ghost use Rattle.rdp_words.specs.Words.{overwrite};
 ghost use Rattle.rdp_check.specs.Commands.{commandsOf};
 ghost use Rattle.rdp_check.specs.Hazards.{Agrees};
 ghost use Rattle.rdp_check.specs.Check.{repairRefusals, outcomeWithin};
@@ -54,18 +54,6 @@ fn note_numbers(list: &[u8], words: usize, work: &mut [u8]) -> usize
     i
 }
 
-// Copies src to an index of out.
-fn copy_to(out: &mut [u8], at: usize, src: &[u8])
-    requires { ⌜ at + length (now src) ≤ length (now out) ⌝ }
-    ensures { λ _. ⌜ now (out .exit) ≡ pasted at (now (src .entry)) (now (out .entry)) ⌝ }
-{
-    let mut i: usize = 0;
-    while i < src.len() {
-        out[at + i] = src[i];
-        i += 1;
-    }
-}
-
 // The backward pass: from the numbers to the choices at each command. The sixteen best totals are carried from command to command. It answers the
 // least cycles.
 fn backward(table: &[u8; 1024], work: &mut [u8], commands: usize) -> u32
@@ -76,10 +64,12 @@ fn backward(table: &[u8; 1024], work: &mut [u8], commands: usize) -> u32
     let mut i = commands;
     while 0 < i {
         i -= 1;
-        let number = work[16 * i];
+        let at = 16 * i;
+        let number = work[at];
         let row = plan::row_before(table, number, totals);
         let choices = row.choices;
-        copy_to(work, 16 * i, &choices);
+        let end = at + 16;
+        rdp_words::copy(&mut work[at..end], &choices);
         totals = row.totals;
     }
     totals[0]
@@ -134,8 +124,9 @@ fn put_option(out: &mut [u8], to: usize, option: u8) -> usize
     }
     let mut word = [0u8; 8];
     word[0] = sync_of(option);
-    copy_to(out, to, &word);
-    to + 8
+    let end = to + 8;
+    rdp_words::copy(&mut out[to..end], &word);
+    end
 }
 
 // Writes the command of so many words at a place, with an option's sync before it, and answers the index after it.
@@ -153,8 +144,9 @@ fn write_command(
     let next = put_option(out, to, option);
     let from = 8 * place;
     let end = from + 8 * words;
-    copy_to(out, next, &list[from..end]);
-    next + 8 * words
+    let after = next + 8 * words;
+    rdp_words::copy(&mut out[next..after], &list[from..end]);
+    after
 }
 
 // Writes the commands of a list with the plan in the work buffer.

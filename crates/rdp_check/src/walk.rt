@@ -5,9 +5,11 @@ ghost use Prim.Native.Nat.{_*_, _<_, _≤_};
 ghost use lib.ListN.{length};
 ghost use Rattle.rdp_words.specs.Words.{wordAt, numberIn};
 ghost use Rattle.rdp_check.specs.Hazards.{Agrees, entryOf};
-ghost use Rattle.rdp_check.specs.Check.{start, outcomeWithin};
+ghost use Rattle.rdp_check.specs.Check.{start, outcomeWithin, checked};
 ghost use Rattle.rdp_check.specs.Marks.{draws};
-ghost use Rattle.rdp_check.specs.View.{refusalsBy, code, viewOf, stopOf, restAfter, restRefusal, refusalWith, Watches, AdvancedIs, stopAt, judgedView};
+ghost use Rattle.rdp_check.specs.View.{refusalsBy, code, viewOf, restAfter, restRefusal, refusalWith, Watches, AdvancedIs, stopAt, judgedView};
+use crate::Checked;
+use crate::cause;
 use crate::hazards;
 use crate::table;
 use rdp_command::Head;
@@ -253,19 +255,39 @@ pub fn walk(table: &[u8; 1024], list: &[u8], words: usize, view: View, strict: b
 }
 
 // The first refusal of a list that may have so many words: 1 and 2 of the list, then those of its commands.
-pub fn check_within(list: &[u8], most: usize, strict: bool) -> Stop
+pub fn check_within(list: &[u8], most: usize, strict: bool) -> Checked
     requires { ⌜ most ≤ 4096 ⌝ }
-    ensures { λ r. ⌜ r ≡ stopOf (outcomeWithin most (refusalsBy strict) (now (list .entry))) ⌝ }
+    ensures { λ r. ⌜ r ≡ checked (now (list .entry)) (outcomeWithin most (refusalsBy strict) (now (list .entry))) ⌝ }
 {
     let len = list.len();
     let words = len / 8;
-    let rest = no_rest();
     if 8 * most < len {
-        return answer(1, most, 0, rest);
+        return Checked {
+            number: 1,
+            place: most as u32,
+            hazards: 0,
+            cause: words,
+        };
     }
     if len % 8 != 0 {
-        return answer(2, words, 0, rest);
+        return Checked {
+            number: 2,
+            place: words as u32,
+            hazards: 0,
+            cause: words,
+        };
     }
     let table = table::step_table();
-    walk(&table, list, words, View { hazards: 0, rest }, strict)
+    let rest = no_rest();
+    let stop = walk(&table, list, words, View { hazards: 0, rest }, strict);
+    let number = stop.number;
+    let place = stop.place;
+    let view = stop.view;
+    let cause = cause::cause_of(list, number, place);
+    Checked {
+        number,
+        place,
+        hazards: view.hazards,
+        cause,
+    }
 }

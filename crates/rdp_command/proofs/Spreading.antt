@@ -18,7 +18,7 @@ use Rattle.rdp_command.specs.Numbers.{numbersFit}
 use Rattle.rdp_command.specs.Steps.{Spread, Usable}
 use Rattle.rdp_command.specs.declared.values.Numbers.{Numbers}
 use Rattle.rdp_command.specs.declared.Command.{Command}
-use Rattle.rdp_command.proofs.Bytes.{length-overwrite}
+use Rattle.rdp_words.proofs.OverwriteLaws.{length-overwrite}
 
 -- what is shown of a command's case holds of a command that equals it
 pub spread-as : {c d : Command} {r : Numbers} → c ≡ d → Spread d r → Spread c r

@@ -24,7 +24,8 @@ use Rattle.rdp_words.proofs.Tests.{by-test, and-true}
 use Rattle.rdp_words.proofs.KindLaws.{words-pos}
 use Rattle.rdp_command.proofs.TableLaws.{layout-readable}
 use Rattle.rdp_command.proofs.AnswerLaws.{answer, whole, nonzero-words}
-use Rattle.rdp_command.proofs.Bytes.{empty, packed-long, length-overwrite}
+use Rattle.rdp_words.proofs.OverwriteLaws.{length-overwrite}
+use Rattle.rdp_command.proofs.Bytes.{empty, packed-long}
 use Rattle.rdp_words.proofs.WordLaws.{word-back, word-whole, word-front}
 use Rattle.rdp_command.proofs.LayoutLaws.{word-lt, words-back}
 use Rattle.rdp_command.proofs.GroupLaws.{command-back, values-read}

@@ -101,7 +101,8 @@ fn write_whole(
 {
     let base = n - suffix.len() / 8;
     write_base(table, number, numbers, base, out);
-    words::copy(out, 8 * base, suffix);
+    let at = 8 * base;
+    rdp_words::copy(&mut out[at..], suffix);
 }
 
 // The bytes due after a command's base.

@@ -1,8 +1,8 @@
-// The words of a command, and words and bytes written to a buffer.
+// The words of a command, and a word written to a buffer.
 ghost use mathlib.Core.Path.{_≡_};
 ghost use Prim.Native.Nat.{_+_, _≤_};
 ghost use lib.ListN.{length};
-ghost use Rattle.rdp_words.specs.Words.{bytesOf, overwrite, pasted};
+ghost use Rattle.rdp_words.specs.Words.{bytesOf, pasted};
 ghost use Rattle.rdp_command.specs.Decode.{ownWord};
 
 // Word k of a command of n words, which is not read where the command has no such word.
@@ -14,26 +14,6 @@ pub fn own_word(list: &[u8], n: usize, k: usize) -> u64
     } else {
         0
     }
-}
-
-// Copies src to the front of out.
-fn copy_front(out: &mut [u8], src: &[u8])
-    requires { ⌜ length (now src) ≤ length (now out) ⌝ }
-    ensures { λ _. ⌜ now (out .exit) ≡ overwrite (now (src .entry)) (now (out .entry)) ⌝ }
-{
-    let mut i = 0;
-    while i < src.len() {
-        out[i] = src[i];
-        i += 1;
-    }
-}
-
-// Copies src to an index of out.
-pub fn copy(out: &mut [u8], at: usize, src: &[u8])
-    requires { ⌜ at + length (now src) ≤ length (now out) ⌝ }
-    ensures { λ _. ⌜ now (out .exit) ≡ pasted at (now (src .entry)) (now (out .entry)) ⌝ }
-{
-    copy_front(&mut out[at..], src);
 }
 
 // Writes a word at an index, most significant byte first.
@@ -51,5 +31,6 @@ pub fn put_word(out: &mut [u8], at: usize, w: u64)
         ((w >> 8) % 0x100) as u8,
         (w % 0x100) as u8,
     ];
-    copy(out, at, &bytes);
+    let end = at + 8;
+    rdp_words::copy(&mut out[at..end], &bytes);
 }

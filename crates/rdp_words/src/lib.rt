@@ -1,9 +1,9 @@
-// A list of commands as words: the word at a place, the number of a command, its words, and the bytes after a triangle's base.
+// A list of commands as words: the word at a place, the number of a command, its words, and the bytes after a triangle's base; and a copy of bytes.
 ghost use mathlib.Core.Path.{_≡_};
 ghost use Prim.Native.Nat.{_<_, _*_, _+_, _≤_, _^_};
-ghost use lib.ListN.{length, drop};
+ghost use lib.ListN.{length, take, drop};
 ghost use denote.Ref.{ptr};
-ghost use Rattle.rdp_words.specs.Words.{halfOf, wordAt, numberIn};
+ghost use Rattle.rdp_words.specs.Words.{halfOf, wordAt, numberIn, overwrite};
 ghost use Rattle.rdp_words.specs.Kinds.{wordsOf, isAmong};
 ghost use Rattle.rdp_words.specs.Lengths.{commandWords, wholeWords, suffixOf, suffixStart};
 
@@ -93,4 +93,18 @@ pub fn suffix(list: &[u8]) -> &[u8]
     }
     let end = 8 * n;
     &list[32..end]
+}
+
+// Copies src to the front of out, as far as both go. Where a caller lends just the part to be written, the compiler sees that nothing is cut.
+pub fn copy(out: &mut [u8], src: &[u8])
+    ensures { λ _. ⌜ now (out .exit) ≡ overwrite (take (length (now (out .entry))) (now (src .entry))) (now (out .entry)) ⌝ }
+{
+    let mut i: usize = 0;
+    while i < src.len() {
+        if out.len() <= i {
+            return;
+        }
+        out[i] = src[i];
+        i += 1;
+    }
 }

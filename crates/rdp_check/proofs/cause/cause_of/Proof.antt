@@ -10,7 +10,7 @@ use Rattle.rdp_check.proofs.cause.cause_of.Tie as tie
 
 -- a command misses a sync at the place
 missing : (c : tie.After-number-at) → Missing (c .before .before .before .args .list .now) (c .before .before .before .args .place)
-missing c = let p = c .before .before .before .pre in missing-of _ _ _ (c .before .if1 .left) (p .0) (p .1)
+missing c = missing-of _ _ _ (c .before .if1 .left) (c .before .before .before .pre)
 
 returns : tie.Need-returns
 returns c = cause-else _ _ _ (c .if1 .taken)

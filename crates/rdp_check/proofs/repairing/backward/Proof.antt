@@ -1,9 +1,10 @@
 -- `rdp_check::repairing::backward` meets its contract: the choices stand from command i on, and the totals are those from i on. Assumes nothing.
 use mathlib.Core.Path.{_≡_, refl, sym, ap, _∙_}
 use mathlib.Core.List.{List}
-use Prim.Native.Nat.{ℕ, suc, _*_, _-_, _<_, _≤_}
+use Prim.Native.Nat.{ℕ, suc, _+_, _*_, _-_, _<_, _≤_}
 use native.Mathlib.Omega.{arith}
 use lib.ListN.{length, getD, drop}
+use Rattle.rdp_words.proofs.OverwriteLaws.{part-copied}
 use Rattle.rdp_check.specs.Best.{best}
 use Rattle.rdp_check.specs.Work.{tabulate, notedIn}
 use Rattle.rdp_check.proofs.BackLaws.{backTo, back-start, back-end, no-numbers-left, length-back, length-choices, number-below, totals-bounded, turn-totals, turn-work}
@@ -57,8 +58,8 @@ module _ (c : tie.In-loop Inv-loop μ-loop) where
 sub-i : tie.Need-sub-i Inv-loop μ-loop
 sub-i c = omega arith
 
-mul-number : tie.Need-mul-number Inv-loop μ-loop
-mul-number c = omega arith
+mul-at : tie.Need-mul-at Inv-loop μ-loop
+mul-at c = omega arith
 
 slice-read-number : tie.Need-slice-read-number Inv-loop μ-loop
 slice-read-number c = omega (arith, length-now (c .before), room (c .before))
@@ -72,33 +73,39 @@ row-before-requires c κs =
       totals-bounded (first-work t) (count t) (room t) (index t) (in-range t) _ (is-now t) _ (are-totals t) _ refl (s .pre .1),
     )
 
-mul-copy-to : tie.Need-mul-copy-to Inv-loop μ-loop
-mul-copy-to c = omega arith
+add-end : tie.Need-add-end Inv-loop μ-loop
+add-end c = omega arith
 
-slice-aggregate-copy-to : tie.Need-slice-aggregate-copy-to Inv-loop μ-loop
-slice-aggregate-copy-to c = sym (ap length (c .before .before .before .row-before .ensures .choices-are) ∙ length-choices _ _)
+sub-copy : tie.Need-sub-copy Inv-loop μ-loop
+sub-copy c = omega arith
 
-copy-to-requires : tie.Need-copy-to-requires Inv-loop μ-loop
-copy-to-requires c κs =
-    let row = c .before .before .before in
-    let t = row .before .before in
-    omega (
-      arith,
-      ap length (row .row-before .ensures .choices-are),
-      length-choices (getD (t .before .loop .work) (16 * index t) 0) (λ k. getD (t .before .loop .totals) k 0),
-      length-now t,
-      room t,
-    )
+part-copy-start : tie.Need-part-copy-start Inv-loop μ-loop
+part-copy-start c = omega arith
+
+part-copy-end : tie.Need-part-copy-end Inv-loop μ-loop
+part-copy-end c = let t = c .before .before .before in omega (arith, length-now t, room t)
+
+sixteen : (row : tie.After-row-before Inv-loop μ-loop) → length (row .row-before .result .choices) ≡ 16
+sixteen row = ap length (row .row-before .ensures .choices-are) ∙ length-choices _ _
+
+slice-aggregate-copy : tie.Need-slice-aggregate-copy Inv-loop μ-loop
+slice-aggregate-copy c = sym (sixteen (c .before .before .before))
+
+copy-requires : tie.Need-copy-requires Inv-loop μ-loop
+copy-requires c κs = tt
 
 loop-less : tie.Need-loop-less Inv-loop μ-loop
 loop-less c = omega arith
 
 loop-again : tie.Need-loop-again Inv-loop μ-loop
 loop-again c =
-    let row = c .before .before .before .before .before .before .before in
-    let t = row .before .before in (
+    let copied = c .before .before .before in
+    let row = copied .before .before .before .before in
+    let t = row .before .before in
+    let at : ℕ = 16 * index t in (
       omega arith,
-      c .before .before .before .copy-to .ensures ∙
+      part-copied (row .row-before .result .choices) (t .before .loop .work) (copied .copy .last .0) at (at + 16) (omega (arith, sixteen row))
+          (omega (arith, length-now t, room t)) (copied .copy .ensures) ∙
           turn-work (first-work t) (count t) (room t) (index t) (in-range t) _ (is-now t) _ (are-totals t) _ refl _ (row .row-before .ensures .choices-are),
       turn-totals (first-work t) (count t) (room t) (index t) (in-range t) _ (is-now t) _ (are-totals t) _ refl _ (row .row-before .ensures .totals-are),
     )
@@ -131,12 +138,15 @@ backward-spec =
     μ-loop
     loop-holds
     sub-i
-    mul-number
+    mul-at
     slice-read-number
     row-before-requires
-    mul-copy-to
-    slice-aggregate-copy-to
-    copy-to-requires
+    add-end
+    sub-copy
+    part-copy-start
+    part-copy-end
+    slice-aggregate-copy
+    copy-requires
     loop-less
     loop-again
     array-read-result

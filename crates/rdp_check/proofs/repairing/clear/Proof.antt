@@ -5,7 +5,7 @@ use Prim.Native.Nat.{ℕ, _-_, _≤_}
 use native.Mathlib.Omega.{arith}
 use borrow.Author.Fill.{fill-more}
 use lib.ListN.{length, set, drop, replicate, length-set, length-replicate}
-use Rattle.rdp_command.proofs.Bytes.{overwrite-is}
+use Rattle.rdp_words.proofs.OverwriteLaws.{overwrite-is}
 use Rattle.rdp_check.proofs.repairing.clear.Statement.{statement}
 use Rattle.rdp_check.proofs.repairing.clear.Tie as tie
 

@@ -7,7 +7,7 @@ use borrow.Author.Needs.{needs}
 use lib.ListN.{length, take, drop, length-append, length-take, length-drop}
 use Rattle.rdp_words.specs.Words.{pasted}
 use Rattle.rdp_check.specs.Work.{optionBytes}
-use Rattle.rdp_command.proofs.Bytes.{pasted-append}
+use Rattle.rdp_words.proofs.OverwriteLaws.{pasted-append, part-copied}
 use Rattle.rdp_check.proofs.repairing.write_command.Statement.{statement}
 use Rattle.rdp_check.proofs.repairing.write_command.Tie as tie
 
@@ -23,26 +23,32 @@ mul-end c = search needs
 add-end : tie.Need-add-end
 add-end c = search needs
 
-sub-copy-to : tie.Need-sub-copy-to
-sub-copy-to c = search needs
+mul-after : tie.Need-mul-after
+mul-after c = search needs
 
-part-copy-to-start : tie.Need-part-copy-to-start
-part-copy-to-start c = search needs
+add-after : tie.Need-add-after
+add-after c = search needs
 
-part-copy-to-end : tie.Need-part-copy-to-end
-part-copy-to-end c = search needs
+sub-copy : tie.Need-sub-copy
+sub-copy c = search needs
 
-copy-to-requires : tie.Need-copy-to-requires
-copy-to-requires c κs =
-    let s = c .before .before .before .before .before .before .before .before in
-    let p = c .before .before .before .before .put-option in
-    omega (arith, p .ensures .after, p .kept .0, s .pre .1, length-take (8 * s .args .place + 8 * s .args .words - 8 * s .args .place) (drop (8 * s .args .place) (s .args .list .now)))
+part-copy-start : tie.Need-part-copy-start
+part-copy-start c = search needs
 
-mul-result : tie.Need-mul-result
-mul-result c = search needs
+part-copy-end : tie.Need-part-copy-end
+part-copy-end c = search needs
 
-add-result : tie.Need-add-result
-add-result c = search needs
+sub-copy-2 : tie.Need-sub-copy-2
+sub-copy-2 c = search needs
+
+part-copy-start-2 : tie.Need-part-copy-start-2
+part-copy-start-2 c = search needs
+
+part-copy-end-2 : tie.Need-part-copy-end-2
+part-copy-end-2 c = search needs
+
+copy-requires : tie.Need-copy-requires
+copy-requires c κs = search needs
 
 same-length : tie.Need-same-length
 same-length c = search needs
@@ -58,13 +64,16 @@ returns c =
     let word : List ℕ = optionBytes (s .args .option) in
     let out : List ℕ = s .args .out .now in
     let to : ℕ = s .args .to in
+    let next : ℕ = put .put-option .result in
     let part : from + n - from ≡ n = omega arith in
     let size : length (take n (drop from list)) ≡ n = simp (length-take, length-drop) (omega (arith, s .pre .0)) in
+    let sized : length (take (from + n - from) (drop from list)) ≡ n = ap (λ (k : ℕ). length (take k (drop from list))) part ∙ size in
     record {
       after = omega (arith, put .put-option .ensures .after, size, length-append word (take n (drop from list)));
       output =
-          copied .copy-to .ensures ∙
-          ap (λ (k : ℕ). pasted (put .put-option .result) (take k (drop from list)) (put .put-option .last .0)) part ∙
+          part-copied (take (from + n - from) (drop from list)) (put .put-option .last .0) (copied .copy .last .0) next (next + n)
+          (omega (arith, sized)) (omega (arith, put .put-option .ensures .after, put .put-option .kept .0, s .pre .1)) (copied .copy .ensures) ∙
+          ap (λ (k : ℕ). pasted next (take k (drop from list)) (put .put-option .last .0)) part ∙
           ap₂ (λ (k : ℕ) (l : List ℕ). pasted k (take n (drop from list)) l) (put .put-option .ensures .after) (put .put-option .ensures .output) ∙
           pasted-append to word (take n (drop from list)) out (omega (arith, s .pre .1));
     }
@@ -77,11 +86,14 @@ write-command-spec =
     mul-from
     mul-end
     add-end
-    sub-copy-to
-    part-copy-to-start
-    part-copy-to-end
-    copy-to-requires
-    mul-result
-    add-result
+    mul-after
+    add-after
+    sub-copy
+    part-copy-start
+    part-copy-end
+    sub-copy-2
+    part-copy-start-2
+    part-copy-end-2
+    copy-requires
     same-length
     returns)

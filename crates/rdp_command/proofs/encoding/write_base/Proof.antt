@@ -7,7 +7,8 @@ use borrow.Author.Needs.{needs}
 use denote.Ref.{now}
 use Rattle.rdp_words.specs.Words.{bytesOf, overwrite, pasted}
 use Rattle.rdp_command.specs.Encode.{packedBytes}
-use Rattle.rdp_command.proofs.Bytes.{length-overwrite, packed-long, packed-none, packed-more}
+use Rattle.rdp_words.proofs.OverwriteLaws.{length-overwrite}
+use Rattle.rdp_command.proofs.Bytes.{packed-long, packed-none, packed-more}
 use Rattle.rdp_command.proofs.encoding.write_base.Statement.{statement}
 use Rattle.rdp_command.proofs.encoding.write_base.Tie as tie
 

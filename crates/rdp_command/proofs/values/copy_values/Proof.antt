@@ -5,7 +5,7 @@ use native.Mathlib.Omega.{arith}
 use lib.ListN.{length, set, getD}
 use denote.Ref.{now}
 use borrow.Author.Needs.{needs}
-use Rattle.rdp_command.proofs.Bytes.{copied, copied-more, copied-all, length-copied}
+use Rattle.rdp_words.proofs.OverwriteLaws.{copied, copied-more, copied-all, length-copied}
 use Rattle.rdp_command.proofs.values.copy_values.Statement.{statement}
 use Rattle.rdp_command.proofs.values.copy_values.Tie as tie
 
