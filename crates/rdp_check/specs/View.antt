@@ -1,5 +1,5 @@
 -- What the check's loop carries and reads, as a view of the state and of a command. No public contract cites this.
-use Prim.Native.Nat.{ℕ, zero, suc, _+_, _<_}
+use Prim.Native.Nat.{ℕ, zero, suc, _+_, _%_, _<_}
 use mathlib.Core.Bool.{Bool, true, false, cond, not, _&&_, _||_}
 use mathlib.Core.List.{List, [], _∷_}
 use mathlib.Core.Path.{_≡_}
@@ -117,6 +117,10 @@ stopAt number place v = record { number = number; place = place; view = v }
 -- what an outcome shows of its state
 abbrev pub stopOf : Outcome → Stop
 stopOf o = stopAt (o .number) (o .place) (viewOf (o .state))
+
+-- a state with the low four bits of its hazards
+abbrev pub lowOf : State → State
+lowOf s = record { hazards = s .hazards % 16; ended = s .ended; registers = s .registers }
 
 -- the judgement of commands by the view alone
 abbrev pub endView : View → ℕ → List ℕ → Stop

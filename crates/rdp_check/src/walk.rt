@@ -88,7 +88,7 @@ fn no_rest() -> Rest
 }
 
 // The code of a register that is set.
-fn set_code(special: bool) -> u8
+pub fn set_code(special: bool) -> u8
     ensures { λ r. ⌜ r ≡ code true special ⌝ }
 {
     if special {

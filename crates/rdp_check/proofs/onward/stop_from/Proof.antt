@@ -1,0 +1,53 @@
+-- `rdp_check::onward::stop_from` meets its contract: the whole words of bytes have their commands, and a cut command is no refusal. Assumes nothing.
+use mathlib.Core.Bool.{true}
+use mathlib.Core.List.{List}
+use mathlib.Core.Path.{_≡_, sym, _∙_}
+use Prim.Native.Nat.{ℕ, _*_, _/_, _%_}
+use native.Mathlib.Nat.{mod-lt}
+use native.Mathlib.Omega.{arith}
+use lib.Dec.{lit<}
+use lib.ListN.{length, take}
+use lib.Seq.{length-take-le}
+use borrow.Author.Needs.{needs}
+use Rattle.rdp_check.specs.Checkpoint.{stateAt}
+use Rattle.rdp_check.specs.View.{viewOf, lowOf, judgedView}
+use Rattle.rdp_check.proofs.OnwardLaws.{whole-commands}
+use Rattle.rdp_check.proofs.onward.stop_from.Statement.{statement}
+use Rattle.rdp_check.proofs.onward.stop_from.Tie as tie
+
+long : (bs : List ℕ) → length (take (8 * (length bs / 8)) bs) ≡ 8 * (length bs / 8)
+long bs = length-take-le (8 * (length bs / 8)) bs (omega arith)
+
+mul-end : tie.Need-mul-end
+mul-end c = search needs
+
+rest-at-requires : tie.Need-rest-at-requires
+rest-at-requires c κs = search needs
+
+step-table-requires : tie.Need-step-table-requires
+step-table-requires c κs = search needs
+
+slice-aggregate-walk : tie.Need-slice-aggregate-walk
+slice-aggregate-walk c = sym (long (c .before .before .before .before .before .before .args .bytes .now))
+
+walk-requires : tie.Need-walk-requires
+walk-requires c κs =
+    let k = c .before .before .before .before .before .before in
+    (c .before .before .step-table .ensures, (long (k .args .bytes .now), (omega (arith, k .pre), mod-lt (k .args .before .hazards) (lit< tt))))
+
+uncut-requires : tie.Need-uncut-requires
+uncut-requires c κs = search needs
+
+returns : tie.Need-returns
+unfolding viewOf
+returns c =
+    let w = c .before .before in
+    let k = w .before .before .before .before in
+    let a = k .before .before .before .args in
+    let s = lowOf (stateAt (a .before)) in
+    whole-commands s (a .bytes .now) _
+    (w .walk .ensures ∙ (λ i. judgedView true (record { hazards = a .before .hazards % 16; rest = k .rest-at .ensures i }) 0 (take (8 * (length (a .bytes .now) / 8)) (a .bytes .now)))) _
+    (c .before .uncut .ensures)
+
+pub stop-from-spec : {M : Type 1} → statement M
+stop-from-spec = tie.close (tie.spec mul-end rest-at-requires step-table-requires slice-aggregate-walk walk-requires uncut-requires returns)
