@@ -64,8 +64,8 @@ static inline uint32_t lanyardrove_place(uint64_t answer) { return (uint32_t)ans
 static inline uint32_t lanyardrove_third(uint64_t answer) { return (uint32_t)(answer >> 32) & 0xFFFFFFu; }
 
 /* The third number by its meaning: the cause that the check gives, the cycles that a repair inserted, the number of a decoded
-   command. The last two are 0 at a refusal. In the answers of drawing and encoding the third number is 0. Of a step: the
-   hazards after it, and the sync that it requires and misses (0 none, 1 Sync Load, 2 Sync Tile, 3 Sync Pipe). */
+   command. The last two are 0 at a refusal. In the answers of drawing and encoding the third number is 0.
+   Of a step's answer the place is the hazards after it, and the third number's low two bits are the sync required. */
 static inline uint32_t lanyardrove_cause(uint64_t checked) { return lanyardrove_third(checked); }
 static inline uint32_t lanyardrove_cycles(uint64_t repaired) { return lanyardrove_third(repaired); }
 static inline uint32_t lanyardrove_command(uint64_t decoded) { return lanyardrove_third(decoded); }
@@ -92,9 +92,9 @@ enum lanyardrove_hazard {
    Answers 0, the hazards after the command as the place, as if it ran also where it misses a sync, and as the third number
    the sync that it requires: 0 none, 1 Sync Load, 2 Sync Tile, 3 Sync Pipe, and 4 more where it is missing. A sync is required
    exactly where it is missing, so the third number is 0, 5, 6 or 7: lanyardrove_required gives 0 to 3.
-   With lanyardrove_words a list is walked so, whether the check accepts it or not:
-       answer = lanyardrove_step(hazards, (uint32_t)(word >> 56)), hazards = lanyardrove_hazards(answer),
-       place += lanyardrove_words(word), word being the one at the place. */
+   With lanyardrove_words a list is walked command by command, whether the check accepts it or not; word is the one at place:
+       hazards = lanyardrove_hazards(lanyardrove_step(hazards, (uint32_t)(word >> 56)));
+       place += lanyardrove_words(word); */
 uint64_t lanyardrove_step(uint32_t hazards, uint32_t number);
 
 /* The repair of a list: writes it to the front of out with the Sync Load, Sync Tile and Sync Pipe words inserted that it
