@@ -10,7 +10,6 @@ ghost use Rattle.rdp_check.specs.Check.{checkRefusals, judge};
 ghost use Rattle.rdp_check.specs.Checkpoint.{stateAt};
 ghost use Rattle.rdp_check.specs.View.{code, viewOf, stopOf, lowOf};
 use crate::Checkpoint;
-use crate::table;
 use crate::walk;
 use crate::walk::Rest;
 use crate::walk::Stop;
@@ -73,8 +72,8 @@ pub fn stop_from(before: Checkpoint, bytes: &[u8]) -> Stop
     let end = 8 * words;
     let hazards = before.hazards % 16;
     let rest = rest_at(before);
-    let table = table::step_table();
-    let stop = walk::walk(&table, &bytes[..end], words, View { hazards, rest }, true);
+    let caused = walk::walk_on(&bytes[..end], words, View { hazards, rest }, true, false);
+    let stop = caused.stop;
     let number = uncut(stop.number);
     let view = stop.view;
     Stop {

@@ -1,7 +1,7 @@
 -- `rdp_check::onward::stop_from` meets its contract: the whole words of bytes have their commands, and a cut command is no refusal. Assumes nothing.
-use mathlib.Core.Bool.{true}
+use mathlib.Core.Bool.{true, false≢true}
 use mathlib.Core.List.{List}
-use mathlib.Core.Path.{_≡_, sym, _∙_}
+use mathlib.Core.Path.{_≡_, sym, ap, _∙_}
 use Prim.Native.Nat.{ℕ, _*_, _/_, _%_}
 use native.Mathlib.Nat.{mod-lt}
 use native.Mathlib.Omega.{arith}
@@ -24,16 +24,13 @@ mul-end c = search needs
 rest-at-requires : tie.Need-rest-at-requires
 rest-at-requires c κs = search needs
 
-step-table-requires : tie.Need-step-table-requires
-step-table-requires c κs = search needs
+slice-aggregate-walk-on : tie.Need-slice-aggregate-walk-on
+slice-aggregate-walk-on c = sym (long (c .before .before .before .before .args .bytes .now))
 
-slice-aggregate-walk : tie.Need-slice-aggregate-walk
-slice-aggregate-walk c = sym (long (c .before .before .before .before .before .before .args .bytes .now))
-
-walk-requires : tie.Need-walk-requires
-walk-requires c κs =
-    let k = c .before .before .before .before .before .before in
-    (c .before .before .step-table .ensures, (long (k .args .bytes .now), (omega (arith, k .pre), mod-lt (k .args .before .hazards) (lit< tt))))
+walk-on-requires : tie.Need-walk-on-requires
+walk-on-requires c κs =
+    let k = c .before .before .before .before in
+    (long (k .args .bytes .now), (omega (arith, k .pre), (mod-lt (k .args .before .hazards) (lit< tt), λ e. absurd (false≢true e))))
 
 uncut-requires : tie.Need-uncut-requires
 uncut-requires c κs = search needs
@@ -41,13 +38,14 @@ uncut-requires c κs = search needs
 returns : tie.Need-returns
 unfolding viewOf
 returns c =
-    let w = c .before .before in
-    let k = w .before .before .before .before in
+    let w = c .before .before .before in
+    let k = w .before .before in
     let a = k .before .before .before .args in
     let s = lowOf (stateAt (a .before)) in
+    let e = ap (λ q. q .stop) (w .walk-on .ensures) in
     whole-commands s (a .bytes .now) _
-    (w .walk .ensures ∙ (λ i. judgedView true (record { hazards = a .before .hazards % 16; rest = k .rest-at .ensures i }) 0 (take (8 * (length (a .bytes .now) / 8)) (a .bytes .now)))) _
+    (e ∙ (λ i. judgedView true (record { hazards = a .before .hazards % 16; rest = k .rest-at .ensures i }) 0 (take (8 * (length (a .bytes .now) / 8)) (a .bytes .now)))) _
     (c .before .uncut .ensures)
 
 pub stop-from-spec : {M : Type 1} → statement M
-stop-from-spec = tie.close (tie.spec mul-end rest-at-requires step-table-requires slice-aggregate-walk walk-requires uncut-requires returns)
+stop-from-spec = tie.close (tie.spec mul-end rest-at-requires slice-aggregate-walk-on walk-on-requires uncut-requires returns)
