@@ -72,7 +72,7 @@ pub fn stop_from(before: Checkpoint, bytes: &[u8]) -> Stop
     let end = 8 * words;
     let hazards = before.hazards % 16;
     let rest = rest_at(before);
-    let caused = walk::walk_on(&bytes[..end], words, View { hazards, rest }, true, false);
+    let caused = walk::walk_on(&bytes[..end], View { hazards, rest }, true, false);
     let stop = caused.stop;
     let number = uncut(stop.number);
     let view = stop.view;

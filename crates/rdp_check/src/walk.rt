@@ -1,7 +1,7 @@
 // The walk over a list's commands that finds the first refusal.
 ghost use mathlib.Core.Bool.{cond, true};
 ghost use mathlib.Core.Path.{_≡_};
-ghost use Prim.Native.Nat.{_*_, _<_, _≤_};
+ghost use Prim.Native.Nat.{_*_, _%_, _<_, _≤_};
 ghost use lib.ListN.{length};
 ghost use Rattle.rdp_words.specs.Words.{wordAt, numberIn};
 ghost use Rattle.rdp_check.specs.Hazards.{Agrees, entryOf};
@@ -262,10 +262,11 @@ fn walk(table: &[u8; 1024], list: &[u8], words: usize, view: View, strict: bool)
 
 // The walk over a list of whole words from a view on; where they are the whole list, also the cause of a refusal by 7, 8 or 9. The one place that calls the
 // walk, which the compiler then puts here: the check, the repair and the portions all come by.
-pub fn walk_on(list: &[u8], words: usize, view: View, strict: bool, whole: bool) -> Caused
-    requires { ⌜ (length (now list) ≡ 8 * words) × ((words ≤ 4096) × ((view .hazards < 16) × (whole ≡ true → view ≡ viewOf start))) ⌝ }
+pub fn walk_on(list: &[u8], view: View, strict: bool, whole: bool) -> Caused
+    requires { ⌜ (length (now list) % 8 ≡ 0) × ((length (now list) ≤ 32768) × ((view .hazards < 16) × (whole ≡ true → view ≡ viewOf start))) ⌝ }
     ensures { λ r. ⌜ r ≡ causedBy whole (now (list .entry)) (judgedView strict view 0 (now (list .entry))) ⌝ }
 {
+    let words = list.len() / 8;
     let table = table::step_table();
     let stop = walk(&table, list, words, view, strict);
     let cause = cause::cause_of(list, stop.number, stop.place, whole);
@@ -296,7 +297,7 @@ pub fn check_within(list: &[u8], most: usize, strict: bool) -> Checked
         };
     }
     let rest = no_rest();
-    let caused = walk_on(list, words, View { hazards: 0, rest }, strict, true);
+    let caused = walk_on(list, View { hazards: 0, rest }, strict, true);
     let stop = caused.stop;
     let view = stop.view;
     Checked {

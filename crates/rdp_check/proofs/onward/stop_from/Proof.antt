@@ -30,7 +30,8 @@ slice-aggregate-walk-on c = sym (long (c .before .before .before .before .args .
 walk-on-requires : tie.Need-walk-on-requires
 walk-on-requires c κs =
     let k = c .before .before .before .before in
-    (long (k .args .bytes .now), (omega (arith, k .pre), (mod-lt (k .args .before .hazards) (lit< tt), λ e. absurd (false≢true e))))
+    let e = long (k .args .bytes .now) in
+    (omega (arith, e), (omega (arith, e, k .pre), (mod-lt (k .args .before .hazards) (lit< tt), λ e. absurd (false≢true e))))
 
 uncut-requires : tie.Need-uncut-requires
 uncut-requires c κs = search needs

@@ -33,7 +33,7 @@ no-rest-requires c κs = search needs
 walk-on-requires : tie.Need-walk-on-requires
 walk-on-requires c κs =
     let s = c .before .before .before .before in
-    (omega (arith, c .before .if2 .left), (omega (arith, c .before .before .if1 .left, s .pre), (lit< tt, λ e. first-view _ (c .no-rest .ensures))))
+    (c .before .if2 .left, (omega (arith, c .before .before .if1 .left, s .pre), (lit< tt, λ e. first-view _ (c .no-rest .ensures))))
 
 returns-3 : tie.Need-returns-3
 unfolding outcomeWithin

@@ -2,6 +2,7 @@
 use mathlib.Core.Bool.{cond}
 use mathlib.Core.Path.{ap, _∙_}
 use Prim.Native.Nat.{_/_}
+use native.Mathlib.Omega.{arith}
 use lib.ListN.{length}
 use borrow.Author.Needs.{needs}
 use Rattle.rdp_check.specs.Cause.{causeOf}
@@ -13,7 +14,9 @@ step-table-requires : tie.Need-step-table-requires
 step-table-requires c κs = search needs
 
 walk-requires : tie.Need-walk-requires
-walk-requires c κs = search needs
+walk-requires c κs =
+    let s = c .before .before .before in
+    (c .before .step-table .ensures, (omega (arith, s .pre .0), (omega (arith, s .pre .1 .0), s .pre .1 .1 .0)))
 
 cause-of-requires : tie.Need-cause-of-requires
 cause-of-requires c κs =
