@@ -2,7 +2,7 @@
  * Lanyardrove: checks, repairs, draws, decodes and encodes command lists of the Nintendo 64's display processor (RDP).
  *
  * Link with build/liblanyardrove.a (`make`) and the C library. The functions allocate nothing, keep no state between calls,
- * use less than 4 KiB of stack and touch only the bytes that they are lent, so calls on different buffers may run at the
+ * use less than 8 KiB of stack and touch only the bytes that they are lent, so calls on different buffers may run at the
  * same time. Lists that are only read may be shared.
  *
  * A list is 64-bit words, most significant byte first, at any alignment. Places are counted in words from 0.

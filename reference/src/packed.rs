@@ -6,6 +6,8 @@
 use crate::answer::{Ground, Refusal};
 use crate::kinds::{words_from, Sync};
 use crate::marks::Marks;
+use crate::record::{self, Record};
+use crate::stream::Told;
 use crate::{check, decode, draw, encode, repair};
 
 /// An answer in its three parts.
@@ -129,4 +131,28 @@ fn sync_number(sync: Sync) -> u32 {
         Sync::Pipe => 3,
         Sync::Full => unreachable!("no command needs a Sync Full"),
     }
+}
+
+fn told(answer: Told) -> u64 {
+    packed(answer.number as u8, answer.place as usize, 0)
+}
+
+/// `lanyardrove_stream_feed`.
+pub fn feed(record: &mut Record, portion: &[u8]) -> u64 {
+    let mut stream = record::unpack(record);
+    let answer = stream.feed(portion);
+    if !stream.is_damaged() {
+        record::pack(&stream, record);
+    }
+    told(answer)
+}
+
+/// `lanyardrove_stream_close`.
+pub fn close(record: &mut Record) -> u64 {
+    let mut stream = record::unpack(record);
+    let answer = stream.close();
+    if !stream.is_damaged() {
+        record::pack(&stream, record);
+    }
+    told(answer)
 }
