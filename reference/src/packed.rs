@@ -7,7 +7,7 @@ use crate::answer::{Ground, Refusal};
 use crate::kinds::{words_from, Sync};
 use crate::marks::Marks;
 use crate::record::{self, Record};
-use crate::stream::Told;
+use crate::stream::{Stream, Told};
 use crate::{check, decode, draw, encode, repair};
 
 /// An answer in its three parts.
@@ -139,19 +139,20 @@ fn told(answer: Told) -> u64 {
 
 /// `lanyardrove_stream_feed`.
 pub fn feed(record: &mut Record, portion: &[u8]) -> u64 {
-    let mut stream = record::unpack(record);
-    let answer = stream.feed(portion);
-    if !stream.is_damaged() {
-        record::pack(&stream, record);
-    }
-    told(answer)
+    called(record, |stream| stream.feed(portion))
 }
 
 /// `lanyardrove_stream_close`.
 pub fn close(record: &mut Record) -> u64 {
-    let mut stream = record::unpack(record);
-    let answer = stream.close();
-    if !stream.is_damaged() {
+    called(record, Stream::close)
+}
+
+/// A call on a record, which is written only where the stream has changed.
+fn called(record: &mut Record, call: impl FnOnce(&mut Stream) -> Told) -> u64 {
+    let before = record::unpack(record);
+    let mut stream = before.clone();
+    let answer = call(&mut stream);
+    if stream != before {
         record::pack(&stream, record);
     }
     told(answer)

@@ -18,7 +18,9 @@ static ARCHIVE: Foreign = foreign!(
     lanyardrove_decode,
     lanyardrove_encode,
     lanyardrove_words,
-    lanyardrove_step
+    lanyardrove_step,
+    lanyardrove_stream_feed,
+    lanyardrove_stream_close
 );
 
 /// The arguments: seed, number of cases, first case.

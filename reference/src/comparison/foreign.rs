@@ -2,6 +2,7 @@
 
 use crate::comparison::side::Side;
 use crate::packed;
+use crate::record::Record;
 
 pub type Check = unsafe extern "C" fn(*const u8, usize) -> u64;
 pub type Repair = unsafe extern "C" fn(*const u8, usize, *mut u8, usize, *mut u8, usize) -> u64;
@@ -11,6 +12,8 @@ pub type Encode =
     unsafe extern "C" fn(u32, *const u64, usize, *const u8, usize, *mut u8, usize) -> u64;
 pub type Words = unsafe extern "C" fn(u64) -> u64;
 pub type Step = unsafe extern "C" fn(u32, u32) -> u64;
+pub type Feed = unsafe extern "C" fn(*mut Record, *const u8, usize) -> u64;
+pub type Close = unsafe extern "C" fn(*mut Record) -> u64;
 
 /// Functions that ask of their pointers only that each lends as much as the
 /// length after it says.
@@ -23,6 +26,8 @@ pub struct Foreign {
     pub encode: Option<Encode>,
     pub words: Option<Words>,
     pub step: Option<Step>,
+    pub feed: Option<Feed>,
+    pub close: Option<Close>,
 }
 
 /// Declares functions of C by their names, and gives them as a `Foreign`: check,
@@ -32,7 +37,9 @@ pub struct Foreign {
 macro_rules! foreign {
     (
         $check:ident, $repair:ident, $draw:ident
-        $(, $decode:ident, $encode:ident, $words:ident, $step:ident)?
+        $(
+            , $decode:ident, $encode:ident, $words:ident, $step:ident, $feed:ident, $close:ident
+        )?
     ) => {{
         extern "C" {
             fn $check(list: *const u8, list_length: usize) -> u64;
@@ -69,6 +76,12 @@ macro_rules! foreign {
                 ) -> u64;
                 fn $words(first_word: u64) -> u64;
                 fn $step(hazards: u32, number: u32) -> u64;
+                fn $feed(
+                    record: *mut $crate::record::Record,
+                    portion: *const u8,
+                    portion_length: usize,
+                ) -> u64;
+                fn $close(record: *mut $crate::record::Record) -> u64;
             )?
         }
         $crate::comparison::foreign::Foreign {
@@ -79,6 +92,8 @@ macro_rules! foreign {
             encode: $crate::foreign!($($encode)?),
             words: $crate::foreign!($($words)?),
             step: $crate::foreign!($($step)?),
+            feed: $crate::foreign!($($feed)?),
+            close: $crate::foreign!($($close)?),
         }
     }};
     () => { None };
@@ -141,6 +156,20 @@ impl Side for Foreign {
         match self.step {
             Some(step) => unsafe { step(hazards, number) },
             None => packed::step(hazards, number),
+        }
+    }
+
+    fn feed(&self, record: &mut Record, portion: &[u8]) -> u64 {
+        match self.feed {
+            Some(feed) => unsafe { feed(record, portion.as_ptr(), portion.len()) },
+            None => packed::feed(record, portion),
+        }
+    }
+
+    fn close(&self, record: &mut Record) -> u64 {
+        match self.close {
+            Some(close) => unsafe { close(record) },
+            None => packed::close(record),
         }
     }
 }
