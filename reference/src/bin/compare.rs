@@ -15,12 +15,12 @@ static ARCHIVE: Foreign = foreign!(
     lanyardrove_check,
     lanyardrove_repair,
     lanyardrove_draw,
+    lanyardrove_stream_feed,
+    lanyardrove_stream_close,
     lanyardrove_decode,
     lanyardrove_encode,
     lanyardrove_words,
-    lanyardrove_step,
-    lanyardrove_stream_feed,
-    lanyardrove_stream_close
+    lanyardrove_step
 );
 
 /// The arguments: seed, number of cases, first case.

@@ -21,25 +21,23 @@ pub struct Foreign {
     pub check: Check,
     pub repair: Repair,
     pub draw: Draw,
+    pub feed: Feed,
+    pub close: Close,
     /// Where there is none, this crate's stands in.
     pub decode: Option<Decode>,
     pub encode: Option<Encode>,
     pub words: Option<Words>,
     pub step: Option<Step>,
-    pub feed: Option<Feed>,
-    pub close: Option<Close>,
 }
 
 /// Declares functions of C by their names, and gives them as a `Foreign`: check,
-/// repair and draw, and the others where there are such. They touch no bytes but
-/// those lent, and write only those lent for writing.
+/// repair, draw, feed and close, and the others where there are such. They touch no
+/// bytes but those lent, and write only those lent for writing.
 #[macro_export]
 macro_rules! foreign {
     (
-        $check:ident, $repair:ident, $draw:ident
-        $(
-            , $decode:ident, $encode:ident, $words:ident, $step:ident, $feed:ident, $close:ident
-        )?
+        $check:ident, $repair:ident, $draw:ident, $feed:ident, $close:ident
+        $(, $decode:ident, $encode:ident, $words:ident, $step:ident)?
     ) => {{
         extern "C" {
             fn $check(list: *const u8, list_length: usize) -> u64;
@@ -58,6 +56,12 @@ macro_rules! foreign {
                 memory_length: usize,
                 start: u64,
             ) -> u64;
+            fn $feed(
+                record: *mut $crate::record::Record,
+                portion: *const u8,
+                portion_length: usize,
+            ) -> u64;
+            fn $close(record: *mut $crate::record::Record) -> u64;
             $(
                 fn $decode(
                     list: *const u8,
@@ -76,24 +80,18 @@ macro_rules! foreign {
                 ) -> u64;
                 fn $words(first_word: u64) -> u64;
                 fn $step(hazards: u32, number: u32) -> u64;
-                fn $feed(
-                    record: *mut $crate::record::Record,
-                    portion: *const u8,
-                    portion_length: usize,
-                ) -> u64;
-                fn $close(record: *mut $crate::record::Record) -> u64;
             )?
         }
         $crate::comparison::foreign::Foreign {
             check: $check,
             repair: $repair,
             draw: $draw,
+            feed: $feed,
+            close: $close,
             decode: $crate::foreign!($($decode)?),
             encode: $crate::foreign!($($encode)?),
             words: $crate::foreign!($($words)?),
             step: $crate::foreign!($($step)?),
-            feed: $crate::foreign!($($feed)?),
-            close: $crate::foreign!($($close)?),
         }
     }};
     () => { None };
@@ -160,16 +158,10 @@ impl Side for Foreign {
     }
 
     fn feed(&self, record: &mut Record, portion: &[u8]) -> u64 {
-        match self.feed {
-            Some(feed) => unsafe { feed(record, portion.as_ptr(), portion.len()) },
-            None => packed::feed(record, portion),
-        }
+        unsafe { (self.feed)(record, portion.as_ptr(), portion.len()) }
     }
 
     fn close(&self, record: &mut Record) -> u64 {
-        match self.close {
-            Some(close) => unsafe { close(record) },
-            None => packed::close(record),
-        }
+        unsafe { (self.close)(record) }
     }
 }
