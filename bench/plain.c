@@ -311,10 +311,37 @@ static inline __attribute__((always_inline)) uint64_t judge(const uint8_t *list,
     return undrawable != 0 ? undrawable : answer(0, 0, words);
 }
 
+/* The place of the latest command that set the hazard for which a sync is missing at a place. A command sets it if, after that command alone,
+   the refused one would need a sync. */
+static size_t latest_setter(const uint8_t *list, size_t place)
+{
+    const uint8_t *refused = steps[number_at(list + 8 * place)];
+    size_t latest = 0;
+    for (size_t at = 0; at < place;) {
+        unsigned number = number_at(list + 8 * at);
+        unsigned hazards = steps[number][0] & 15;
+        if (refused[hazards] >> 4 != NO_NEED)
+            latest = at;
+        at += words_in(number);
+    }
+    return latest;
+}
+
+/* The check's third number (request #101): the cause at 7 to 9, else the list's whole words, in 24 bits. */
+static size_t cause_of(const uint8_t *list, size_t list_length, uint64_t judged)
+{
+    if (judged >> 56 >= 7)
+        return latest_setter(list, (uint32_t)judged);
+    size_t words = list_length / 8;
+    return words < 0xFFFFFF ? words : 0xFFFFFF;
+}
+
 uint64_t plain_check(const uint8_t *list, size_t list_length)
 {
-    uint64_t refusal = length_refusal(list_length, 4096);
-    return refusal != 0 ? refusal : judge(list, list_length / 8, true, NULL);
+    uint64_t judged = length_refusal(list_length, 4096);
+    if (judged == 0)
+        judged = judge(list, list_length / 8, true, NULL);
+    return judged | (uint64_t)cause_of(list, list_length, judged) << 32;
 }
 
 /* The repair. A choice is the next hazards plus 16 times the option: nothing, Load, Tile or Pipe before the command. */

@@ -1,6 +1,8 @@
 /* The parts of an answer, and what it means. */
 #include "cli.h"
 
+#include <string.h>
+
 Answer answer_of(uint64_t packed)
 {
     return (Answer){ lanyardrove_number(packed), lanyardrove_third(packed), lanyardrove_place(packed) };
@@ -9,6 +11,11 @@ Answer answer_of(uint64_t packed)
 bool is_accepted(Answer answer)
 {
     return answer.number == LANYARDROVE_ACCEPTED;
+}
+
+bool is_missing_sync(Answer answer)
+{
+    return answer.number >= LANYARDROVE_SYNC_LOAD_MISSING && answer.number <= LANYARDROVE_SYNC_PIPE_MISSING;
 }
 
 int status_of(Answer answer)
@@ -34,8 +41,14 @@ static const char *refusal_text(unsigned number)
     }
 }
 
-/* What an answer means, in one line. */
-void explain(const List *list, Answer answer, Purpose purpose, char *text, size_t room)
+/* The place of the command that a missing sync has to wait for. Drawing refuses as the check does and names no cause: the check is asked. */
+static uint32_t cause_of(const List *list, Answer answer, Purpose purpose)
+{
+    return purpose == FOR_CHECK ? answer.third : lanyardrove_cause(lanyardrove_check(list->bytes, list->length));
+}
+
+/* What an answer means, without a cause. */
+static void explain(const List *list, Answer answer, Purpose purpose, char *text, size_t room)
 {
     unsigned place = answer.place;
     switch (answer.number) {
@@ -51,12 +64,26 @@ void explain(const List *list, Answer answer, Purpose purpose, char *text, size_
     }
 }
 
+/* What an answer means; of a missing sync also for which command it is missing. */
+Meaning meaning_of(const List *list, Answer answer, Purpose purpose)
+{
+    static const char between[] = ", for the ";
+    Meaning meaning;
+    explain(list, answer, purpose, meaning.text, sizeof meaning.text);
+    meaning.cause = strlen(meaning.text);
+    if (is_missing_sync(answer)) {
+        unsigned place = cause_of(list, answer, purpose);
+        snprintf(meaning.text + meaning.cause, sizeof meaning.text - meaning.cause, "%s%s at word %u", between, name_at(list, place), place);
+        meaning.cause += strlen(between);
+    }
+    return meaning;
+}
+
 /* `number place`, and on the next line what it means. */
 void print_answer(FILE *stream, const List *list, Answer answer, Purpose purpose)
 {
-    char meaning[MEANING_ROOM];
-    explain(list, answer, purpose, meaning, sizeof meaning);
-    fprintf(stream, "%u %u\n%s\n", answer.number, (unsigned)answer.place, meaning);
+    Meaning meaning = meaning_of(list, answer, purpose);
+    fprintf(stream, "%u %u\n%s\n", answer.number, (unsigned)answer.place, meaning.text);
 }
 
 /* Why the check refuses, for a person who does not know the rule. */

@@ -8,14 +8,13 @@ typedef struct {
 /* With several lists the verdict is one line, with the list's name. */
 static void print_verdict(const Arguments *arguments, const char *path, const List *list, Answer answer)
 {
-    char meaning[MEANING_ROOM];
     if (arguments->quiet)
         printf("%u %u\n", answer.number, (unsigned)answer.place);
     else if (arguments->count <= 1)
         print_answer(stdout, list, answer, FOR_CHECK);
     else {
-        explain(list, answer, FOR_CHECK, meaning, sizeof meaning);
-        printf("%u %u %s: %s\n", answer.number, (unsigned)answer.place, path, meaning);
+        Meaning meaning = meaning_of(list, answer, FOR_CHECK);
+        printf("%u %u %s: %s\n", answer.number, (unsigned)answer.place, path, meaning.text);
     }
 }
 

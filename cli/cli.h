@@ -32,18 +32,23 @@ bool is_same_file(const char *path, const char *other);
 
 typedef struct {
     unsigned number; /* an enum lanyardrove_ground */
-    uint32_t third;  /* cycles of repair, command number of decode */
+    uint32_t third;  /* cause of the check, cycles of repair, command number of decode */
     uint32_t place;
 } Answer;
 
 typedef enum { FOR_CHECK, FOR_REPAIR, FOR_DRAW } Purpose;
 
-#define MEANING_ROOM 160 /* bytes that the longest meaning fits in */
+/* What an answer means, in one line. */
+typedef struct {
+    char text[160]; /* the longest fits in */
+    size_t cause;   /* where the text names the command that a missing sync has to wait for; its end where it names none */
+} Meaning;
 
 Answer answer_of(uint64_t packed);
 bool is_accepted(Answer answer);
+bool is_missing_sync(Answer answer);
 int status_of(Answer answer);
-void explain(const List *list, Answer answer, Purpose purpose, char *text, size_t room);
+Meaning meaning_of(const List *list, Answer answer, Purpose purpose);
 void print_answer(FILE *stream, const List *list, Answer answer, Purpose purpose);
 const char *reason_of(unsigned number);
 

@@ -4,9 +4,10 @@
 
 #include <inttypes.h>
 #include <stdlib.h>
+#include <string.h>
 #include <unistd.h>
 
-#define WIDTH 80 /* columns of the field lines */
+#define WIDTH 80 /* columns of the lines that are broken */
 
 typedef struct {
     bool colour;
@@ -17,6 +18,7 @@ typedef struct {
 
 #define RED "\033[1;31m"
 #define GREEN "\033[1;32m"
+#define YELLOW "\033[1;33m"
 #define BOLD "\033[1m"
 #define DIM "\033[2m"
 #define RESET "\033[0m"
@@ -58,24 +60,57 @@ static void print_further_words(const Dump *dump, const Command *command)
     }
 }
 
-/* The ground stands at the line of the refused command. */
+/* How many bytes of a text go into a line: all, or those before the last space that fits. */
+static size_t line_length(const char *text, size_t most)
+{
+    size_t length = strlen(text);
+    if (length > most)
+        for (length = most; length > 0 && text[length] != ' '; length--) { }
+    return length;
+}
+
+/* A note on the command above it. */
+static void print_note(const Dump *dump, const char *colour, const char *note)
+{
+    static const char first[] = "        >> ", further[] = "           ";
+    const char *start = first;
+    fputs(style(dump, colour), stdout);
+    for (size_t length; (length = line_length(note, WIDTH - strlen(start))) > 0; start = further) {
+        printf("%s%.*s\n", start, (int)length, note);
+        note += length + (note[length] == ' ');
+    }
+    fputs(style(dump, RESET), stdout);
+}
+
+/* Why the command is refused stands at its line. */
 static void print_refusal(const Dump *dump)
 {
-    char meaning[MEANING_ROOM];
-    explain(dump->list, dump->answer, FOR_CHECK, meaning, sizeof meaning);
-    printf("        %s>> refused, %u %u: %s%s\n", style(dump, RED), dump->answer.number, (unsigned)dump->answer.place, meaning,
-           style(dump, RESET));
+    char note[256];
+    Meaning meaning = meaning_of(dump->list, dump->answer, FOR_CHECK);
+    snprintf(note, sizeof note, "refused, %u %u: %s", dump->answer.number, (unsigned)dump->answer.place, meaning.text);
+    print_note(dump, RED, note);
+}
+
+/* The command that it has to wait for is marked too. */
+static void print_cause(const Dump *dump)
+{
+    char note[64];
+    snprintf(note, sizeof note, "causes the refusal at word %u", (unsigned)dump->answer.place);
+    print_note(dump, YELLOW, note);
 }
 
 static void print_command(const Dump *dump, const Command *command)
 {
     bool refused = dump->answer.number >= LANYARDROVE_PAST_END && command->place == dump->answer.place;
+    bool causes = is_missing_sync(dump->answer) && command->place == dump->answer.third;
     char hazards[64];
     hazards_text(hazards_before(dump->prober, command->place), hazards, sizeof hazards);
     printf("%6zu  %016" PRIX64 "  %s%-24s%s  hazards: %s\n", command->place, word_at(dump->list->bytes, command->place),
-           style(dump, refused ? RED : BOLD), command_name(command->number), style(dump, RESET), hazards);
+           style(dump, refused ? RED : causes ? YELLOW : BOLD), command_name(command->number), style(dump, RESET), hazards);
     if (refused)
         print_refusal(dump);
+    if (causes)
+        print_cause(dump);
     print_further_words(dump, command);
     if (command->whole)
         print_fields(dump, command);

@@ -26,8 +26,9 @@ static const Help helps[] = {
       "Usage: lanyardrove check [-q] [FILE]..\n"
       "Prints 'number place' for a list, then what it means. Number 0 accepts the\n"
       "list, and the place is the number of its words; any other number is the first\n"
-      "refusal, at a word of the list. Without FILE the list is read from standard\n"
-      "input. With several files there is a line for each, and a count.\n\n"
+      "refusal, at a word of the list. Of a missing sync it says also for which command\n"
+      "it is missing. Without FILE the list is read from standard input. With several\n"
+      "files there is a line for each, and a count.\n\n"
       "  -q, --quiet   print 'number place' alone\n"
       "  --help        print this\n" },
     { "repair",
@@ -42,8 +43,9 @@ static const Help helps[] = {
       "Usage: lanyardrove dump [FILE]\n"
       "Shows the verdict, then the list command by command: place, words, name, the\n"
       "hazards before it (pipe, tile, draw, load) and every field. At the refused\n"
-      "command stands why. The hazards after it are not known. Without FILE the list\n"
-      "is read from standard input.\n\n"
+      "command stands why, and the command that it has to wait for is marked. The\n"
+      "hazards after the refused command are not known. Without FILE the list is read\n"
+      "from standard input.\n\n"
       "  --help   print this\n" },
     { "draw",
       "Usage: lanyardrove draw FILE --memory BYTES [--start ADDRESS]\n"
@@ -64,7 +66,8 @@ static const Help helps[] = {
       "Usage: lanyardrove report FILE -o OUT\n"
       "Writes a page in HTML, which needs no other file: the verdict, the hazards\n"
       "along the list, the syncs that a repair would insert, the picture if it can be\n"
-      "drawn, and the commands. It is written for a refused list too.\n\n"
+      "drawn, and the commands, with links to the refused one and to the one that it\n"
+      "has to wait for. It is written for a refused list too.\n\n"
       "  -o, --output OUT   the file to write\n"
       "  --help             print this\n" }
 };

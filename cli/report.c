@@ -7,6 +7,15 @@
 /* An address has 26 bits, and a picture at most 1,024 rows of 1,024 pixels of 4 bytes: all of them are inside. */
 #define MEMORY_BYTES (72u * 1024u * 1024u)
 
+/* The row of the command at a place; `count` where there is none. */
+static size_t row_at(const Rows *rows, size_t place)
+{
+    size_t row = 0;
+    while (row < rows->count && rows->rows[row].place != place)
+        row++;
+    return row;
+}
+
 /* The commands of the words that a list may have, with the hazards before each. */
 static bool rows_of(const List *list, Answer answer, Rows *rows)
 {
@@ -17,10 +26,8 @@ static bool rows_of(const List *list, Answer answer, Rows *rows)
     bool done = prober != NULL && rows->rows != NULL;
     for (size_t place = 0; done && place < words && command_at(list, place, &command); place += command.words)
         rows->rows[rows->count++] = (Row){ place, hazards_before(prober, place) };
-    rows->refused = rows->count;
-    for (size_t i = 0; answer.number >= LANYARDROVE_PAST_END && i < rows->count; i++)
-        if (rows->rows[i].place == answer.place)
-            rows->refused = i;
+    rows->refused = answer.number >= LANYARDROVE_PAST_END ? row_at(rows, answer.place) : rows->count;
+    rows->cause = is_missing_sync(answer) ? row_at(rows, answer.third) : rows->count;
     prober_free(prober);
     return done;
 }

@@ -27,6 +27,7 @@ typedef struct {
     Row *rows;
     size_t count;
     size_t refused; /* the row of the refused command; `count` where none is */
+    size_t cause;   /* the row of the command that it has to wait for; `count` where none is */
 } Rows;
 
 typedef struct {
@@ -46,6 +47,7 @@ typedef struct {
 
 void style_add(Text *text);
 void page_add(Text *text, const Report *report);
+void meaning_add(Text *text, const Report *report);
 void strip_add(Text *text, const Rows *rows);
 void table_add(Text *text, const Report *report);
 

@@ -20,20 +20,29 @@ static void add_head(Text *text, const Report *report)
 /* `number place` and what it means, in the middle of a sentence. */
 static void add_answer(Text *text, const List *list, Answer answer, Purpose purpose)
 {
-    char meaning[MEANING_ROOM];
-    explain(list, answer, purpose, meaning, sizeof meaning);
+    Meaning meaning = meaning_of(list, answer, purpose);
     text_add(text, "<code>%u %u</code>, ", answer.number, (unsigned)answer.place);
-    text_add_escaped(text, meaning);
+    text_add_escaped(text, meaning.text);
+}
+
+/* What the check's answer means. The cause that it names leads to its row. */
+void meaning_add(Text *text, const Report *report)
+{
+    Meaning meaning = meaning_of(&report->list, report->answer, FOR_CHECK), before = meaning;
+    bool linked = report->rows.cause < report->rows.count;
+    before.text[before.cause] = '\0';
+    text_add_escaped(text, before.text);
+    text_add(text, linked ? "<a href=\"#cause\">" : "");
+    text_add_escaped(text, meaning.text + meaning.cause);
+    text_add(text, linked ? "</a>" : "");
 }
 
 static void add_verdict(Text *text, const Report *report)
 {
-    char meaning[MEANING_ROOM];
     bool accepted = is_accepted(report->answer);
-    explain(&report->list, report->answer, FOR_CHECK, meaning, sizeof meaning);
     text_add(text, "<section id=\"verdict\" class=\"verdict %s\">\n<p class=\"word\">%s</p>\n<p class=\"meaning\">",
              accepted ? "is-accepted" : "is-refused", accepted ? "Accepted" : "Refused");
-    text_add_escaped(text, meaning);
+    meaning_add(text, report);
     text_add(text, "</p>\n");
     if (!accepted)
         text_add(text, "<p class=\"why\">%s</p>\n", reason_of(report->answer.number));
@@ -61,8 +70,11 @@ static void add_hazards(Text *text, const Report *report)
     if (report->rows.count == 0)
         return;
     text_add(text, "<h2>Hazards before each command</h2>\n<p class=\"note\">A hazard is earlier work that may still run. The list goes from left "
-                   "to right, one column for each command.%s</p>\n",
-             is_accepted(report->answer) ? "" : " Red marks the refused command; grey is not known, because it comes after a refused command.");
+                   "to right, one column for each command.");
+    if (!is_accepted(report->answer))
+        text_add(text, " Red marks the refused command%s; grey is not known, because it comes after a refused command.",
+                 is_missing_sync(report->answer) ? ", yellow the one that it has to wait for" : "");
+    text_add(text, "</p>\n");
     strip_add(text, &report->rows);
     if (report->repaired_rows.count > 0) {
         text_add(text, "<p class=\"note\">The same of the repaired list:</p>\n");

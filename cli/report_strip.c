@@ -22,6 +22,14 @@ static void add_bars(Text *text, const Rows *rows, unsigned bit)
     }
 }
 
+/* A frame around the column of a row, if there is one. */
+static void add_frame(Text *text, const Rows *rows, size_t row, const char *name, const char *title)
+{
+    if (row < rows->count)
+        text_add(text, "<rect class=\"h-%s\" x=\"%zu\" y=\"0\" width=\"1\" height=\"%d\" vector-effect=\"non-scaling-stroke\">"
+                       "<title>%s: word %zu</title></rect>\n", name, row, LINES * LINE, title, rows->rows[row].place);
+}
+
 void strip_add(Text *text, const Rows *rows)
 {
     text_add(text, "<div class=\"strip\"><div class=\"labels\">");
@@ -32,9 +40,8 @@ void strip_add(Text *text, const Rows *rows)
     add_bars(text, rows, LINES);
     for (unsigned bit = 0; bit < LINES; bit++)
         add_bars(text, rows, bit);
-    if (rows->refused < rows->count)
-        text_add(text, "<rect class=\"h-refused\" x=\"%zu\" y=\"0\" width=\"1\" height=\"%d\" vector-effect=\"non-scaling-stroke\">"
-                       "<title>refused: word %zu</title></rect>\n", rows->refused, LINES * LINE, rows->rows[rows->refused].place);
+    add_frame(text, rows, rows->cause, "cause", "causes the refusal");
+    add_frame(text, rows, rows->refused, "refused", "refused");
     text_add(text, "</svg>\n<div class=\"ends\"><span>word %zu</span><span>word %zu</span></div></div>\n", rows->rows[0].place,
              rows->rows[rows->count - 1].place);
 }

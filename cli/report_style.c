@@ -3,11 +3,11 @@
 
 static const char colours[] =
     ":root{color-scheme:light dark;--ink:#1c2128;--soft:#57606a;--paper:#ffffff;--panel:#f4f6f8;--line:#d5dbe1;--link:#0a58b5;\n"
-    "--bad:#b3160b;--bad-soft:#fde5e3;--good:#1a6e2e;--good-soft:#e3f4e5;\n"
+    "--bad:#b3160b;--bad-soft:#fde5e3;--good:#1a6e2e;--good-soft:#e3f4e5;--wait:#7a5600;--wait-soft:#fff3c9;\n"
     "--pipe:#b8540f;--tile:#7a4fb5;--draw:#1f6fb2;--load:#3a7d34;--unknown:#c3c9d0}\n"
     "@media screen and (prefers-color-scheme:dark){:root{--ink:#e4e8ec;--soft:#9aa5b1;--paper:#14181d;--panel:#1f252c;--line:#39424c;\n"
     "--link:#7db7ff;"
-    "--bad:#ff8f85;--bad-soft:#4a1d1a;--good:#7ed491;--good-soft:#173a20;\n"
+    "--bad:#ff8f85;--bad-soft:#4a1d1a;--good:#7ed491;--good-soft:#173a20;--wait:#e5bd4f;--wait-soft:#3b2f0d;\n"
     "--pipe:#f0954f;--tile:#b895ee;--draw:#62b0f0;--load:#79c471;--unknown:#4a535d}}\n";
 
 static const char page[] =
@@ -36,6 +36,7 @@ static const char strips[] =
     ".strip .ends{grid-column:2;display:flex;justify-content:space-between;color:var(--soft);font-size:.8rem}\n"
     ".h-pipe{fill:var(--pipe)}.h-tile{fill:var(--tile)}.h-draw{fill:var(--draw)}.h-load{fill:var(--load)}.h-unknown{fill:var(--unknown)}\n"
     ".h-refused{fill:var(--bad);fill-opacity:.18;stroke:var(--bad);stroke-width:2}\n"
+    ".h-cause{fill:#f2c230;fill-opacity:.4;stroke:var(--wait);stroke-width:2}\n"
     ".legend{display:grid;grid-template-columns:repeat(auto-fit,minmax(min(26rem,100%),1fr));gap:.15rem 1.5rem;font-size:.9rem;padding:0;\n"
     "margin:.2rem 0;list-style:none}.legend svg{width:.8rem;height:.8rem;margin-right:.45rem}\n";
 
@@ -46,7 +47,9 @@ static const char table[] =
     ".place{text-align:right;font-variant-numeric:tabular-nums}.name{white-space:nowrap;font-weight:600}\n"
     ".field{display:inline-block;margin-right:.9rem;color:var(--soft)}.field b{color:var(--ink);font-weight:600}\n"
     "tr.refused td{background:var(--bad-soft)}tr.refused td:first-child{box-shadow:inset .4rem 0 var(--bad)}\n"
-    "#refused{scroll-margin-top:7rem}.reason{color:var(--bad);font-weight:700}tr.inserted td{background:var(--good-soft);color:var(--good)}\n";
+    "tr.cause td{background:var(--wait-soft)}tr.cause td:first-child{box-shadow:inset .4rem 0 var(--wait)}\n"
+    "#refused,#cause{scroll-margin-top:7rem}.reason{color:var(--bad);font-weight:700}.cause .reason{color:var(--wait)}\n"
+    ".reason a,.meaning a{color:inherit}tr.inserted td{background:var(--good-soft);color:var(--good)}\n";
 
 /* In a narrow window each command is a block. */
 static const char narrow[] =
@@ -55,7 +58,8 @@ static const char narrow[] =
     "td{border:0;padding:.1rem .5rem;grid-column:2;min-width:0;overflow-wrap:anywhere}.place{grid-column:1;grid-row:1}.name{grid-row:1}\n"
     "td:empty{display:none}.hazards::before{content:\"hazards before: \";color:var(--soft)}\n"
     "tr.refused{background:var(--bad-soft);box-shadow:inset .4rem 0 var(--bad)}tr.inserted{background:var(--good-soft)}\n"
-    "tr.refused td,tr.inserted td{background:none}tr.refused td:first-child{box-shadow:none}}\n";
+    "tr.cause{background:var(--wait-soft);box-shadow:inset .4rem 0 var(--wait)}\n"
+    "tr.refused td,tr.cause td,tr.inserted td{background:none}tr.refused td:first-child,tr.cause td:first-child{box-shadow:none}}\n";
 
 static const char print[] =
     "@media print{html{font-size:11px}body{font-size:1rem;max-width:none;padding:0}.show{display:none}h2{break-after:avoid}\n"

@@ -32,27 +32,38 @@ static void add_fields(Text *text, const Command *command)
 /* Why a command is refused: what it waits for, where a sync is missing. */
 static void add_reason(Text *text, const Report *report)
 {
-    char meaning[MEANING_ROOM];
-    explain(&report->list, report->answer, FOR_CHECK, meaning, sizeof meaning);
     text_add(text, "<div class=\"reason\">&#9654; Refused, %u %u: ", report->answer.number, (unsigned)report->answer.place);
-    text_add_escaped(text, meaning);
+    meaning_add(text, report);
     text_add(text, "</div>");
+}
+
+/* Which command has to wait for this one. */
+static void add_cause(Text *text, const Report *report)
+{
+    text_add(text, "<div class=\"reason\">&#9654; Causes the refusal at <a href=\"#refused\">word %u</a></div>", (unsigned)report->answer.place);
+}
+
+static const char *row_start(const Report *report, size_t row)
+{
+    if (row == report->rows.refused)
+        return "<tr id=\"refused\" class=\"refused\">";
+    return row == report->rows.cause ? "<tr id=\"cause\" class=\"cause\">" : "<tr>";
 }
 
 static void add_row(Text *text, const Report *report, size_t row)
 {
     Command command;
     char hazards[64];
-    bool refused = row == report->rows.refused;
     if (!command_at(&report->list, report->rows.rows[row].place, &command))
         return;
     hazards_text(report->rows.rows[row].hazards, hazards, sizeof hazards);
-    text_add(text, refused ? "<tr id=\"refused\" class=\"refused\">" : "<tr>");
-    text_add(text, "<td class=\"place\">%zu</td><td class=\"words\">", command.place);
+    text_add(text, "%s<td class=\"place\">%zu</td><td class=\"words\">", row_start(report, row), command.place);
     add_words(text, &report->list, &command);
     text_add(text, "</td><td class=\"name\">%s</td><td>", command_name(command.number));
-    if (refused)
+    if (row == report->rows.refused)
         add_reason(text, report);
+    if (row == report->rows.cause)
+        add_cause(text, report);
     add_fields(text, &command);
     text_add(text, "</td><td class=\"hazards\">%s</td></tr>\n", hazards);
 }

@@ -122,7 +122,7 @@ int LLVMFuzzerTestOneInput(const uint8_t *data, size_t size) {
     DEMAND(number <= 12 && third_of(answer) == 0);
     note(1, number * 16 + (unsigned)(64 - __builtin_clzll(place + 1)));
     if (number_of(check)) {
-        DEMAND(answer == check);
+        DEMAND(number == number_of(check) && place == place_of(check));
         return 0;
     }
     DEMAND(number == 0 || (number >= 10 && place < words && is_draw(command_number(list + 8 * place))));

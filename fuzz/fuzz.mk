@@ -12,8 +12,9 @@ FUZZ_HEADERS := fuzz/lent.h fuzz/lists.h fuzz/fields.h fuzz/library.h $(wildcard
 FUZZ_NAMES := $(FUZZ_DRIVERS:%=-u lanyardrove_%)
 
 # the versions of fuzz/wrong.c that each driver has to find
-FUZZ_WRONG := check:1 check:2 check:3 check:4 check:5 check:6 repair:11 repair:12 repair:13 repair:14 repair:15 repair:16 \
-    draw:21 draw:22 draw:23 draw:24 draw:25 decode:31 decode:32 decode:33 decode:34 encode:41 encode:42 encode:43 encode:44 encode:45
+FUZZ_WRONG := check:1 check:2 check:3 check:4 check:5 check:6 check:7 check:8 check:9 check:10 \
+    repair:11 repair:12 repair:13 repair:14 repair:15 repair:16 draw:21 draw:22 draw:23 draw:24 draw:25 \
+    decode:31 decode:32 decode:33 decode:34 encode:41 encode:42 encode:43 encode:44 encode:45
 
 .PHONY: fuzz-build fuzz fuzz-wrong fuzz-memcheck fuzz-always
 fuzz-build: $(FUZZ_DRIVERS:%=$(FUZZ_OUT)/%) $(FUZZ_OUT)/blocks $(FUZZ_OUT)/memcheck
@@ -39,7 +40,7 @@ $(FUZZ_OUT)/memcheck: fuzz/memcheck.c fuzz/lent.c fuzz/lists.c fuzz/fields.c $(F
 	clang $(FUZZ_FLAGS) -gdwarf-4 -o $@ fuzz/memcheck.c fuzz/lent.c fuzz/lists.c fuzz/fields.c $(FUZZ_ARCHIVE)
 
 # The library's functions renamed, behind those of fuzz/wrong.c
-$(FUZZ_OUT)/wrong.o: $(FUZZ_OUT)/lanyardrove.o fuzz/wrong.c
+$(FUZZ_OUT)/wrong.o: $(FUZZ_OUT)/lanyardrove.o fuzz/wrong.c fuzz/lists.h
 	objcopy $(foreach d,$(FUZZ_DRIVERS),--redefine-sym lanyardrove_$(d)=right_$(d)) $< $(FUZZ_OUT)/right.o
 	clang $(FUZZ_FLAGS) -c -o $(FUZZ_OUT)/wrong-only.o fuzz/wrong.c
 	ld -r -o $@ $(FUZZ_OUT)/right.o $(FUZZ_OUT)/wrong-only.o

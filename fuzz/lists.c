@@ -23,7 +23,11 @@ unsigned command_number(const uint8_t *word) { return word[0] & 63; }
 
 static bool is_triangle(unsigned number) { return number / 8 == 1; }
 
-bool is_draw(unsigned number) { return is_triangle(number) || number == 0x24 || number == 0x25 || number == 0x36; }
+static bool is_texture_rectangle(unsigned number) { return number == 0x24 || number == 0x25; }
+
+bool is_draw(unsigned number) { return is_triangle(number) || is_texture_rectangle(number) || number == 0x36; }
+
+bool is_textured(unsigned number) { return is_texture_rectangle(number) || (is_triangle(number) && number & 2); }
 
 bool is_load(unsigned number) { return number == 0x30 || number == 0x33 || number == 0x34; }
 
@@ -34,7 +38,7 @@ bool is_attribute(unsigned number) {
 
 size_t words_of(unsigned number) {
     if (is_triangle(number)) return 4 + (number & 4 ? 8 : 0) + (number & 2 ? 8 : 0) + (number & 1 ? 2 : 0);
-    return number == 0x24 || number == 0x25 ? 2 : 1;
+    return is_texture_rectangle(number) ? 2 : 1;
 }
 
 size_t whole_at(const uint8_t *list, size_t words, size_t place) {

@@ -27,6 +27,7 @@ size_t chosen_length(const struct input *in, int k, size_t enough, size_t most);
 
 unsigned command_number(const uint8_t *word);
 bool is_draw(unsigned number);
+bool is_textured(unsigned number);  // a draw with texture
 bool is_load(unsigned number);
 bool is_attribute(unsigned number);
 size_t words_of(unsigned number);

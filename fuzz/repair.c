@@ -51,7 +51,10 @@ static unsigned cycles_of(const uint8_t *word) {
     return word[0] == 0x26 ? 25 : word[0] == 0x28 ? 33 : word[0] == 0x27 ? 50 : 0;
 }
 
-static bool passes(const uint8_t *list, size_t words) { return lanyardrove_check(list, 8 * words) == words; }
+static bool passes(const uint8_t *list, size_t words) {
+    const uint64_t check = lanyardrove_check(list, 8 * words);
+    return number_of(check) == 0 && place_of(check) == words;
+}
 
 // The new list with the sync at a place left out, or with another one there.
 static uint8_t other[ROOM];

@@ -1,4 +1,5 @@
 // Wrong versions of the library, to see that the drivers find faults: WRONG=1.. chooses one. The functions right_.. are the library's own, renamed.
+#include "lists.h"
 #include <stddef.h>
 #include <stdint.h>
 #include <stdlib.h>
@@ -18,14 +19,30 @@ static int wrong(int version) {
     return chosen == version;
 }
 
+// A check's answer with another cause.
+static uint64_t with_cause(uint64_t answer, uint64_t cause) { return (answer & ~(0xFFFFFFull << 32)) | cause << 32; }
+
+// The first or the latest draw before a place.
+static size_t draw_before(const uint8_t *list, size_t place, bool latest) {
+    size_t found = place;
+    for (size_t at = 0; at < place; at += words_of(command_number(list + 8 * at)))
+        if (is_draw(command_number(list + 8 * at)) && (latest || found == place)) found = at;
+    return found;
+}
+
 uint64_t lanyardrove_check(const uint8_t *list, size_t length) {
     if (wrong(1)) read = list[length];
     if (wrong(2) && length > 100) read = list[-1];
     const uint64_t a = right_check(list, length), number = a >> 56;
-    if (wrong(3) && number == 7) return a + (1ull << 32);             // a third number
-    if (wrong(4) && number == 8) return length / 8;                   // accepts
-    if (wrong(5) && number == 6) return a + 1;                        // place
-    if (wrong(6) && number == 0 && length > 200) return 9ull << 56 | 3;  // refuses
+    const size_t place = (uint32_t)a;
+    if (wrong(3) && number == 7) return a + (1ull << 32);                                    // the word after the cause
+    if (wrong(4) && number == 8) return with_cause(length / 8, length / 8);                  // accepts
+    if (wrong(5) && number == 6) return a + 1;                                               // place
+    if (wrong(6) && number == 0 && length > 200) return with_cause(9ull << 56 | 3, 2);       // refuses
+    if (wrong(7) && number == 9) return with_cause(a, draw_before(list, place, false));      // the first draw instead of the latest
+    if (wrong(8) && number == 8) return with_cause(a, draw_before(list, place, true));       // a draw for a textured draw
+    if (wrong(9) && number >= 7) return with_cause(a, place);                                // the refused command's own place
+    if (wrong(10) && number == 0) return with_cause(a, 0);                                   // no words at acceptance
     return a;
 }
 
@@ -47,12 +64,19 @@ uint64_t lanyardrove_repair(const uint8_t *list, size_t length, uint8_t *work, s
 }
 
 uint64_t lanyardrove_draw(const uint8_t *list, size_t length, uint8_t *memory, size_t memory_length, uint64_t start) {
+    static uint8_t before[65536];
+    if (memory_length) memcpy(before, memory, memory_length);
     const uint64_t a = right_draw(list, length, memory, memory_length, start), number = a >> 56;
     if (wrong(21) && number == 0) memory[memory_length] = 1;
     if (wrong(22) && number == 12 && memory_length) memory[memory_length / 2] ^= 1;  // paints and refuses
     if (wrong(23) && number == 0 && memory_length > 5) memory[5] ^= 0x10;            // a byte that no fill covers
     if (wrong(24) && number == 11) return a + 1;                                     // place
-    if (wrong(25) && number == 0 && memory_length > 65 && memory[64] == memory[65]) memory[64] = 0;  // another colour
+    if (wrong(25) && number == 0)                                                    // another colour
+        for (size_t i = 0; i < memory_length; i++)
+            if (memory[i] != before[i]) {
+                memory[i] ^= 0x10;
+                break;
+            }
     return a;
 }
 

@@ -13,7 +13,7 @@
  * and they are the caller's to keep. Every content and every length is otherwise allowed.
  *
  * Answers. Each function but the version answers one 64-bit number, whose parts lanyardrove_number, lanyardrove_place and
- * lanyardrove_third (or _cycles, _command) give. Number 0 says that all went well; any other is the first refusal that
+ * lanyardrove_third (or _cause, _cycles, _command) give. Number 0 says that all went well; any other is the first refusal that
  * holds: 1 and 2 of the list, then command by command 3, 4, 5, 6 and 7 to 9, then those that the function adds, in the order
  * of its description. A refusal leaves every byte as it was, but for the repair's work buffer at 14.
  */
@@ -32,7 +32,7 @@ extern "C" {
    A release steps the major number where a function of the last release is gone, takes other parameters, or answers or
    writes anything else for some input; else the minor number where a function is added; else the patch number. The numbers
    after the one that steps become 0. */
-#define LANYARDROVE_VERSION 0x010000
+#define LANYARDROVE_VERSION 0x020000
 
 uint32_t lanyardrove_version(void);
 
@@ -62,12 +62,18 @@ static inline uint32_t lanyardrove_number(uint64_t answer) { return (uint32_t)(a
 static inline uint32_t lanyardrove_place(uint64_t answer) { return (uint32_t)answer; }
 static inline uint32_t lanyardrove_third(uint64_t answer) { return (uint32_t)(answer >> 32) & 0xFFFFFFu; }
 
-/* The third number by its meaning: the cycles that a repair inserted, the number of a decoded command. It is 0 at a refusal,
-   and in the answers of the other functions. */
+/* The third number by its meaning: the cause that the check gives, the cycles that a repair inserted, the number of a decoded
+   command. The last two are 0 at a refusal. In the answers of drawing and encoding the third number is 0. */
+static inline uint32_t lanyardrove_cause(uint64_t checked) { return lanyardrove_third(checked); }
 static inline uint32_t lanyardrove_cycles(uint64_t repaired) { return lanyardrove_third(repaired); }
 static inline uint32_t lanyardrove_command(uint64_t decoded) { return lanyardrove_third(decoded); }
 
-/* The check of a list: 0 at the number of its words, or the first of refusals 1 to 9. The list is read only. */
+/* The check of a list: 0 at the number of its words, or the first of refusals 1 to 9. The list is read only.
+   The third number is the cause. At 7, 8 and 9 it is the place of the command that the missing sync has to wait for, the
+   latest of its kind before the refused one: for a refused draw a load, for a load a draw, for a Set Tile a textured draw
+   (a triangle with texture, a texture rectangle), for a command that sets an attribute a draw.
+   At every other answer it is the list's whole words, list_length / 8 rounded down, also at 1; it is at most 16,777,215,
+   which stands for that and more (a list of 128 MiB and up). */
 uint64_t lanyardrove_check(const uint8_t *list, size_t list_length);
 
 /* The repair of a list: writes it to the front of out with the Sync Load, Sync Tile and Sync Pipe words inserted that it

@@ -49,6 +49,20 @@ def misses_sync(hazards, number):
             or (number in LOADS and "draw" in hazards) or (is_draw(number) and "load" in hazards))
 
 
+def commands_of(given):
+    """Place and number of each command of a list's words."""
+    place = 0
+    while place < len(given):
+        number = given[place] >> 56 & 63
+        yield place, number
+        place += words_of(number)
+
+
+def cause_of(given, number):
+    """The place of the command for which a sync is missing before one more command: the latest that alone makes it miss one."""
+    return max(place for place, here in commands_of(given) if misses_sync(after(set(), here), number))
+
+
 def accepted_list(rng, setup, commands):
     """A random list that the check accepts, and the hazards before each of its commands. Without a setup nothing is drawn."""
     data, hazards, expected = list(setup), set(), [set() for _ in setup]

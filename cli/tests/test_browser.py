@@ -11,7 +11,7 @@ from support import C, R, S, png_pixels, read, run, same, test, words, write
 # Where the parts of the page are, whether something else covers them, and their text as it is shown.
 PROBE = """<script>
 const parts = {};
-for (const id of ["verdict", "refused"]) {
+for (const id of ["verdict", "refused", "cause"]) {
     const part = document.getElementById(id);
     if (part === null)
         continue;
@@ -23,6 +23,7 @@ parts.overflow = document.documentElement.scrollWidth - document.documentElement
 document.body.dataset.parts = JSON.stringify(parts);
 </script>"""
 RED, RED_INK, GREEN = "fde5e3", "b3160b", "e3f4e5"
+YELLOW, YELLOW_INK = "fff3c9", "7a5600"
 
 
 def browse(page, width, height, *arguments):
@@ -70,15 +71,16 @@ def a_refused_list_is_seen_as_such():
     same(run("report", "g.rdp", "-o", "g.html")[0], 1)
     for width, height in ((1000, 1800), (500, 2400)):
         parts = parts_of("g.html", width, height)
-        verdict, refused = parts["verdict"], parts["refused"]
-        same((verdict["seen"], refused["seen"], parts["overflow"]), (True, True, 0), width)
+        verdict, refused, cause = parts["verdict"], parts["refused"], parts["cause"]
+        same((verdict["seen"], refused["seen"], cause["seen"], parts["overflow"]), (True, True, True, 0), width)
         assert verdict["box"][1] < 150 and verdict["box"][3] - verdict["box"][1] > 80, verdict  # on top of the page
-        assert verdict["text"].startswith("Refused\n") and "word 4: Set Fill Color requires Sync Pipe" in verdict["text"], verdict
+        assert verdict["text"].startswith("Refused\n") and "word 4: Set Fill Color requires Sync Pipe, for the Fill Rectangle at word 3" in verdict["text"], verdict
         assert refused["box"][2] - refused["box"][0] > 0.8 * width and refused["box"][3] - refused["box"][1] > 30, refused
         assert "37000000F801003F" in refused["text"] and "Refused, 9 4: word 4: Set Fill Color requires Sync Pipe" in refused["text"], refused
+        assert "3600800800004004" in cause["text"] and "Causes the refusal at word 4" in cause["text"], cause
         rows = colours_of("g.html", width, height)
-        for part in (verdict, refused):
-            assert share(rows, part["box"], RED) > 0.6 and share(rows, part["box"], RED_INK) > 0.005, (width, part)
+        for part, soft, ink in ((verdict, RED, RED_INK), (refused, RED, RED_INK), (cause, YELLOW, YELLOW_INK)):
+            assert share(rows, part["box"], soft) > 0.6 and share(rows, part["box"], ink) > 0.005, (width, part)
 
 
 @browser_test
@@ -86,6 +88,6 @@ def an_accepted_list_is_seen_as_such():
     write("i.rdp", words(*S, C, R))
     same(run("report", "i.rdp", "-o", "i.html")[0], 0)
     parts = parts_of("i.html", 900, 700)
-    assert "refused" not in parts and parts["verdict"]["text"].startswith("Accepted\n"), parts
+    assert not {"refused", "cause"} & set(parts) and parts["verdict"]["text"].startswith("Accepted\n"), parts
     rows = colours_of("i.html", 900, 700)
     assert share(rows, parts["verdict"]["box"], GREEN) > 0.6 and all(RED not in row for row in rows)

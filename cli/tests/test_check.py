@@ -1,10 +1,14 @@
 """lanyardrove check."""
+import functools
 import os
+import random
 import re
 import shutil
+import struct
 import subprocess
 
-from support import C, N, ONE_CYCLE, R, S, TOOL, example, read, run, same, test, words, write
+from rules import NAMES, accepted_list, after, cause_of, commands_of, misses_sync, words_of
+from support import C, L, LOAD, N, ONE_CYCLE, PIPE, R, S, TILE, TOOL, example, read, run, same, test, words, write
 
 
 def example_table():
@@ -34,17 +38,50 @@ def check_says_what_an_answer_means():
             (words(0x29 << 56, N), "4 1\nword 1: No Operation stands after Sync Full"),
             (triangle, "5 0\nword 0: Fill Triangle (STZ) draws with other modes, colour image or scissor not set in this list"),
             (words(S[0], 0x3F00000700000000, S[2], R), "6 3\nword 3: Fill Rectangle draws in FILL mode on a 4-bit colour image"),
-            (words(*S, R, 0x34 << 56), "7 4\nword 4: Load Tile requires Sync Load"),
-            (words(ONE_CYCLE, *S[1:], 0x24 << 56, 0, 0x35 << 56), "8 5\nword 5: Set Tile requires Sync Tile"),
-            (words(*S, R, C), "9 4\nword 4: Set Fill Color requires Sync Pipe")):
+            (words(*S, R, L), "7 4\nword 4: Load Tile requires Sync Load, for the Fill Rectangle at word 3"),
+            (words(*S, L, R), "7 4\nword 4: Fill Rectangle requires Sync Load, for the Load Tile at word 3"),
+            (words(ONE_CYCLE, *S[1:], 0x24 << 56, 0, 0x35 << 56), "8 5\nword 5: Set Tile requires Sync Tile, for the Texture Rectangle at word 3"),
+            (words(*S, R, C), "9 4\nword 4: Set Fill Color requires Sync Pipe, for the Fill Rectangle at word 3")):
         same(run("check", stdin=data), (0 if text[0] == "0" else 1, text + "\n", ""))
+
+
+@test
+def check_names_the_latest_command_that_the_sync_has_to_wait_for():
+    triangle = [0x0F << 56, *[R] * 21]  # the words after its first are no draws
+    textured = [ONE_CYCLE, *S[1:], 0x24 << 56, 0]
+    for given, text in (
+            ([*S, R, *[N] * 796, R, *[N] * 11, C], "word 812: Set Fill Color requires Sync Pipe, for the Fill Rectangle at word 800"),
+            ([*S, R, *[N] * 4091, C], "word 4095: Set Fill Color requires Sync Pipe, for the Fill Rectangle at word 3"),
+            ([*S, *triangle, C], "word 25: Set Fill Color requires Sync Pipe, for the Fill Triangle (STZ) at word 3"),
+            ([*S, L, 0x30 << 56, R, R], "word 5: Fill Rectangle requires Sync Load, for the Load TLUT at word 4"),
+            ([*textured, R, 0x08 << 56, 0, 0, 0, 0x35 << 56], "word 10: Set Tile requires Sync Tile, for the Texture Rectangle at word 3"),
+            ([*textured, R, C], "word 6: Set Fill Color requires Sync Pipe, for the Fill Rectangle at word 5"),
+            ([*S, R, PIPE, R, TILE, LOAD, C], "word 8: Set Fill Color requires Sync Pipe, for the Fill Rectangle at word 5")):
+        status, out, err = run("check", stdin=words(*given))
+        same((status, out.split("\n")[1], err), (1, text, ""))
+
+
+@test
+def check_names_the_cause_in_random_lists():
+    rng, tried = random.Random(4), 0
+    for _ in range(60):
+        data = accepted_list(rng, [ONE_CYCLE, *S[1:]], rng.randrange(4, 60))[0]
+        given = struct.unpack(f">{len(data) // 8}Q", data)
+        hazards = functools.reduce(lambda before, command: after(before, command[1]), commands_of(given), set())
+        for number in [n for n in range(64) if misses_sync(hazards, n)][:3]:
+            out = run("check", stdin=data + words(number << 56, *[0] * (words_of(number) - 1)))[1]
+            cause = cause_of(given, number)
+            assert out.endswith(f", for the {NAMES[given[cause] >> 56]} at word {cause}\n"), out
+            tried += 1
+    assert tried > 100, tried
 
 
 @test
 def check_of_several_files_has_a_line_each_and_a_count():
     accepted, refused = example("i.rdp"), example("g.rdp")
     same(run("check", accepted, refused, "-", stdin=words(N)), (1, "\n".join((
-        f"0 5 {accepted}: accepted: 5 words", f"9 4 {refused}: word 4: Set Fill Color requires Sync Pipe", "0 1 -: accepted: 1 word",
+        f"0 5 {accepted}: accepted: 5 words", f"9 4 {refused}: word 4: Set Fill Color requires Sync Pipe, for the Fill Rectangle at word 3",
+        "0 1 -: accepted: 1 word",
         "3 lists: 2 accepted, 1 refused", "")), ""))
     same(run("check", "-q", accepted, refused), (1, "0 5\n9 4\n", ""))
     status, out, _ = run("check", accepted, example("a.rdp"))

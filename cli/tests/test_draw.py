@@ -36,6 +36,8 @@ def draw_writes_nothing_at_a_refusal():
         for output in ("out.bin", "out.png"):
             status, out, err = run("draw", *arguments, "-o", output)
             same((status, out.split("\n")[0], err), (1, answer, ""), arguments)
+    same(run("draw", example("g.rdp"), "--memory", "64", "-o", "out.bin")[1].split("\n")[1],
+         "word 4: Set Fill Color requires Sync Pipe, for the Fill Rectangle at word 3")
     same(run("draw", "odd.rdp", "--memory", "64", "-o", "out.bin")[1].split("\n")[1],
          "word 3: Fill Rectangle draws on a colour image whose address is no multiple of 64")
     same(run("draw", example("i.rdp"), "--memory", "20", "--start", "19", "-o", "out.bin")[1].split("\n")[1:], [

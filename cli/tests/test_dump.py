@@ -43,16 +43,35 @@ def dump_shows_names_fields_and_hazards():
     same(found[4][4], {"color": "0xF801003F"})
 
 
+def notes(text):
+    """Each note of a dump, in one line, with the place of the command above it."""
+    found = re.findall(r"^ *(\d+)  [0-9A-F]{16}  .* hazards: .*\n {8}>> (.*(?:\n {11}\S.*)*)\n", text, re.M)
+    same(len(found), text.count(">>"), text)
+    return [(int(place), re.sub(r"\n {11}", " ", note)) for place, note in found]
+
+
 @test
 def dump_shows_the_refusal_at_its_line_and_what_follows():
     text = dumped(words(*S, R, C, L, FULL), 1)
-    assert text.startswith("9 4\nword 4: Set Fill Color requires Sync Pipe\n"), text
-    lines = text.split("\n")
-    at = [i for i, line in enumerate(lines) if line == "        >> refused, 9 4: word 4: Set Fill Color requires Sync Pipe"]
-    same(len(at), 1)
-    assert "  Set Fill Color  " in lines[at[0] - 1] and "color=0xF801003F" in lines[at[0] + 1], text
+    meaning = "word 4: Set Fill Color requires Sync Pipe, for the Fill Rectangle at word 3"
+    assert text.startswith(f"9 4\n{meaning}\n"), text
+    assert "        >> refused, 9 4: word 4: Set Fill Color requires Sync Pipe, for the Fill\n           Rectangle at word 3\n        color=" in text, text
+    same(notes(text), [(3, "causes the refusal at word 4"), (4, f"refused, 9 4: {meaning}")])
     same([c[2:4] for c in dumped_commands(text)][5:], [["Load Tile", "unknown"], ["Sync Full", "unknown"]])
     assert ">>" not in dumped(read(example("i.rdp")), 0)
+
+
+@test
+def dump_marks_the_command_that_the_sync_has_to_wait_for():
+    triangle = [0x0F << 56, *[R] * 21]
+    for given, cause, place in (([*S, *triangle, C], 3, 25), ([*S, R, *[N] * 4091, C], 3, 4095), ([*S, R, *[N] * 796, R, *[N] * 11, C], 800, 812),
+                                ([*S, L, L, R], 4, 5), ([ONE_CYCLE, *S[1:], 0x25 << 56, 0, R, 0x35 << 56], 3, 6)):
+        found = notes(dumped(words(*given), 1))
+        same((found[0], [n[0] for n in found]), ((cause, f"causes the refusal at word {place}"), [cause, place]))
+    same(notes(dumped(read(example("e.rdp")), 1)), [(0, "refused, 5 0: word 0: Fill Triangle (STZ) draws with other modes, colour image or scissor "
+                                                        "not set in this list")])
+    for name in ("d.rdp", "f.rdp"):
+        same(len(notes(dumped(read(example(name)), 1))), 1, name)
 
 
 @test

@@ -60,17 +60,41 @@ def reported(data, status, name="list.rdp"):
 def report_of_a_refused_list():
     page = reported(words(*S, R, C), 1)
     verdict = re.search(r'<section id="verdict" class="verdict is-refused">(.*?)</section>', page.source, re.S)[1]
-    assert '<p class="word">Refused</p>' in verdict and "word 4: Set Fill Color requires Sync Pipe" in verdict, verdict
+    assert '<p class="word">Refused</p>' in verdict and "word 4: Set Fill Color requires Sync Pipe, for the <a" in verdict, verdict
     assert "A draw may still use what this command changes" in verdict and '<a href="#refused">' in verdict, verdict
     assert "<code>9 4</code>" in page.source
     refused = page.rows_of("refused")
     same(len(refused), 1)
-    assert "37000000F801003F" in refused[0] and "Refused, 9 4: word 4: Set Fill Color requires Sync Pipe" in refused[0], refused
+    assert "37000000F801003F" in refused[0] and "Refused, 9 4: word 4: Set Fill Color requires Sync Pipe, for the" in refused[0], refused
     same(len([row for row in page.rows_of("inserted") if "+ Sync Pipe" in row]), 1)
     assert "1 sync would be inserted, 50 cycles" in page.text and "Sync Pipe before word 4, Set Fill Color" in page.text
     same(page.source.count('class="strip"'), 2)  # the list and the repaired list
     assert "drawn by the repaired list" in page.text
     same(page.picture(), (8, 4, bytes(96)))  # the colour is set after the rectangle
+
+
+@test
+def report_names_links_and_marks_the_cause():
+    triangle = [0x0F << 56, *[R] * 21]
+    for given, place, cause, name in (([*S, R, C], 4, 3, "Fill Rectangle"), ([*S, *triangle, C], 25, 3, "Fill Triangle (STZ)"),
+                                      ([*S, R, *[N] * 796, R, *[N] * 11, C, L], 812, 800, "Fill Rectangle"), ([*S, L, L, R], 5, 4, "Load Tile")):
+        page = reported(words(*given), 1)
+        link = f', for the <a href="#cause">{name} at word {cause}</a></'
+        verdict, rows = page.source.split("<table>")
+        same((verdict.count(link), rows.count(link), page.source.count('id="cause"')), (1, 1, 1))
+        same([text.split()[0] for text in page.rows_of("cause")], [str(cause)])
+        assert f'Causes the refusal at <a href="#refused">word {place}</a>' in page.source
+        assert f"causes the refusal: word {cause}" in page.text and ", yellow the one that it has to wait for" in page.text
+
+
+@test
+def report_of_other_refusals_names_no_cause():
+    for name in ("b.rdp", "c1.rdp", "d.rdp", "e.rdp", "f.rdp", "i.rdp"):
+        page = reported(read(example(name)), 0 if name == "i.rdp" else 1)
+        assert 'href="#cause"' not in page.source and 'class="cause"' not in page.source and 'class="h-cause"' not in page.source, name
+    page = reported(words(*S, R, C, 0x24 << 56), 1)  # a missing sync, and later a command that is cut: no repair, and the check's refusal in drawing
+    assert "The list cannot be repaired: 3 5" in page.text, page.text
+    assert "The list cannot be drawn: 9 4, word 4: Set Fill Color requires Sync Pipe, for the Fill Rectangle at word 3." in page.text, page.text
 
 
 @test
@@ -124,8 +148,9 @@ def report_shows_hazards_along_the_list():
     strips = re.findall(r'<svg viewBox="0 0 (\d+) 72".*?>(.*?)</svg>', page.source, re.S)
     bars = [re.findall(r'<rect class="h-(\w+)" x="(\d+)" y="(\d+)" width="(\d+)" height="(\d+)"', strip) for _, strip in strips]
     same([columns for columns, _ in strips], ["7", "8"])
-    # before words 4 and 5 pipe and draw; from word 6 on unknown, on all four lines; the refused command is word 5
-    same(bars[0], [("unknown", "6", "0", "1", "72"), ("pipe", "4", "2", "2", "14"), ("draw", "4", "38", "2", "14"), ("refused", "5", "0", "1", "72")])
+    # before words 4 and 5 pipe and draw; from word 6 on unknown, on all four lines; the refused command is word 5, for the draw at word 3
+    same(bars[0], [("unknown", "6", "0", "1", "72"), ("pipe", "4", "2", "2", "14"), ("draw", "4", "38", "2", "14"), ("cause", "3", "0", "1", "72"),
+                   ("refused", "5", "0", "1", "72")])
     # repaired: S R N Pipe L C
     same(bars[1], [("pipe", "4", "2", "2", "14"), ("draw", "4", "38", "2", "14"), ("load", "7", "56", "1", "14")])
     assert "pipe: before the commands at words 4 to 5" in page.text

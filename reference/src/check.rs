@@ -1,10 +1,10 @@
-//! The check of a whole list: grounds 1 to 9.
+//! The check of a whole list: grounds 1 to 9, and what caused the last three.
 
 use crate::answer::{Ground, Refusal};
-use crate::kinds::{commands, is_draw, words, Sync};
+use crate::kinds::{commands, is_draw, words, Command, Sync};
 use crate::marks::Marks;
 use crate::registers::Registers;
-use crate::words::{command_number, WORD_BYTES};
+use crate::words::{command_number, word_at, WORD_BYTES};
 
 /// The longest list that the check takes, in bytes.
 pub const CHECK_LIMIT: usize = 32_768;
@@ -16,6 +16,9 @@ pub const CHECK_LIMIT: usize = 32_768;
 pub struct Checked {
     /// The words in the list, or the refusal.
     pub outcome: Result<usize, Refusal>,
+    /// Request #101: "For grounds 7, 8 and 9 .. the place of the command that
+    /// caused it .. Its other answers give the list's whole words instead."
+    pub cause: usize,
     pub marks: Marks,
     pub registers: Registers,
 }
@@ -38,9 +41,42 @@ pub fn walk(list: &[u8], limit: usize, syncs: Syncs) -> Checked {
     let outcome = length_test(list, limit).and_then(|()| walk_commands(list, &mut state, syncs));
     Checked {
         outcome,
+        cause: cause(list, outcome),
         marks: state.marks,
         registers: state.registers,
     }
+}
+
+/// The place of the command that caused a missing sync, else the whole words.
+fn cause(list: &[u8], outcome: Result<usize, Refusal>) -> usize {
+    match outcome {
+        Err(refusal) if is_missing_sync(refusal.ground) => cause_of_need(list, refusal.place),
+        _ => list.len() / WORD_BYTES,
+    }
+}
+
+fn is_missing_sync(ground: Ground) -> bool {
+    matches!(
+        ground,
+        Ground::SyncLoadMissing | Ground::SyncTileMissing | Ground::SyncPipeMissing
+    )
+}
+
+/// "The latest draw, textured draw or load that set the mark." A command sets the
+/// mark that another needs cleared if it alone would make that other one miss a
+/// sync.
+fn cause_of_need(list: &[u8], place: usize) -> usize {
+    let needy = command_number(word_at(list, place));
+    let sets_the_mark = |command: &Command| {
+        let marks = Marks::default().after(command.number());
+        marks.missing_sync(needy).is_some()
+    };
+    commands(list)
+        .take_while(|command| command.place < place)
+        .filter(sets_the_mark)
+        .last()
+        .expect("a mark was set by a command")
+        .place
 }
 
 /// Grounds 1 and 2.

@@ -1,6 +1,7 @@
 //! The answers as the C functions give them, each in one 64-bit number: bits
 //! 63:56 the number, bits 31:0 the place (words written, at 0), bits 55:32 the
-//! third number (cycles for repair, command number for decode, else 0).
+//! third number (cause for check, cycles for repair, command number for decode,
+//! else 0).
 
 use crate::answer::{Ground, Refusal};
 use crate::{check, decode, draw, encode, repair};
@@ -28,32 +29,35 @@ impl Answer {
     }
 }
 
-fn accepted(place: usize, third: u32) -> u64 {
+fn packed(number: u8, place: usize, third: u32) -> u64 {
     let place = u32::try_from(place).expect("a place has 32 bits");
     Answer {
-        number: 0,
+        number,
         place,
         third,
     }
     .pack()
 }
 
-/// A refusal's third number is 0.
-fn refused(refusal: Refusal) -> u64 {
-    let place = u32::try_from(refusal.place).expect("a place has 32 bits");
-    Answer {
-        number: refusal.ground as u8,
-        place,
-        third: 0,
-    }
-    .pack()
+fn accepted(place: usize, third: u32) -> u64 {
+    packed(0, place, third)
 }
+
+/// A refusal's third number is 0, but for the check's.
+fn refused(refusal: Refusal) -> u64 {
+    packed(refusal.ground as u8, refusal.place, 0)
+}
+
+/// The greatest third number. As a cause it stands for that and more.
+const MOST_THIRD: usize = 0xFF_FFFF;
 
 /// `lanyardrove_check`.
 pub fn check(list: &[u8]) -> u64 {
-    match check::check(list).outcome {
-        Ok(words) => accepted(words, 0),
-        Err(refusal) => refused(refusal),
+    let checked = check::check(list);
+    let cause = checked.cause.min(MOST_THIRD) as u32;
+    match checked.outcome {
+        Ok(words) => packed(0, words, cause),
+        Err(refusal) => packed(refusal.ground as u8, refusal.place, cause),
     }
 }
 

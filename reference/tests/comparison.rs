@@ -4,6 +4,7 @@
 use reference::comparison::calls::Function;
 use reference::comparison::run::{run, Difference};
 use reference::comparison::side::{Reference, Side};
+use reference::kinds::{commands, is_draw};
 
 const SEED: u64 = 7;
 const CASES: u64 = 4_000;
@@ -22,6 +23,12 @@ fn the_reference_agrees_with_itself() {
 enum Fault {
     /// The place is one off at ground 9.
     PlaceAtGround9,
+    /// The cause is the first draw of the list and not the latest.
+    FirstDraw,
+    /// At ground 8 the cause is the latest draw, textured or not.
+    AnyDraw,
+    /// Over the limit the cause is the words that a list may have.
+    WordsOverLimit,
     /// One painted byte is wrong.
     MemoryByte,
     /// A refused draw has written one byte.
@@ -45,6 +52,20 @@ enum Fault {
 /// The reference with one fault.
 struct Faulty(Fault);
 
+/// A check's answer with another cause.
+fn with_cause(answer: u64, cause: usize) -> u64 {
+    answer & !(0xFF_FFFF << 32) | (cause as u64) << 32
+}
+
+/// The places of the draws before the place of an answer.
+fn draws(list: &[u8], answer: u64) -> impl Iterator<Item = usize> + '_ {
+    commands(list)
+        .map(|command| (command.place, command.number()))
+        .take_while(move |(place, _)| *place < answer as u32 as usize)
+        .filter(|(_, number)| is_draw(*number))
+        .map(|(place, _)| place)
+}
+
 fn ground(answer: u64) -> u64 {
     answer >> 56
 }
@@ -58,8 +79,14 @@ fn flip_last(bytes: &mut [u8]) {
 impl Side for Faulty {
     fn check(&self, list: &[u8]) -> u64 {
         let answer = Reference.check(list);
-        let off = self.0 == Fault::PlaceAtGround9 && ground(answer) == 9;
-        answer + u64::from(off)
+        let cause = match (self.0, ground(answer)) {
+            (Fault::PlaceAtGround9, 9) => return answer + 1,
+            (Fault::FirstDraw, 9) => draws(list, answer).next(),
+            (Fault::AnyDraw, 8) => draws(list, answer).last(),
+            (Fault::WordsOverLimit, 1) => Some(4_096),
+            _ => None,
+        };
+        cause.map_or(answer, |cause| with_cause(answer, cause))
     }
 
     fn repair(&self, list: &[u8], work: &mut [u8], out: &mut [u8]) -> u64 {
@@ -123,6 +150,9 @@ fn found(fault: Fault) -> Difference {
 fn every_fault_is_found_in_its_function() {
     let faults = [
         (Fault::PlaceAtGround9, Function::Check),
+        (Fault::FirstDraw, Function::Check),
+        (Fault::AnyDraw, Function::Check),
+        (Fault::WordsOverLimit, Function::Check),
         (Fault::MemoryByte, Function::Draw),
         (Fault::MemoryAtRefusal, Function::Draw),
         (Fault::WorkKept, Function::Repair),

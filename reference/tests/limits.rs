@@ -5,8 +5,8 @@ mod common;
 
 use common::*;
 use reference::answer::Ground;
-use reference::check::check;
 use reference::draw::draw;
+use reference::packed::{self, Answer};
 use reference::repair::{repair, Repaired};
 use reference::words::bytes_of;
 
@@ -30,15 +30,26 @@ fn scissor_right_edge() {
 
 #[test]
 fn check_takes_32768_bytes() {
-    assert_eq!(answer(check(&[0; 32_768]).outcome), (0, 4_096));
-    assert_eq!(answer(check(&[0; 32_769]).outcome), (1, 4_096));
-    assert_eq!(answer(check(&[0; 32_776]).outcome), (1, 4_096));
-    assert_eq!(answer(check(&[0; 32_767]).outcome), (2, 4_095));
+    assert_eq!(caused_bytes(&[0; 32_768]), (0, 4_096, 4_096));
+    assert_eq!(caused_bytes(&[0; 32_769]), (1, 4_096, 4_096));
+    assert_eq!(caused_bytes(&[0; 32_776]), (1, 4_096, 4_097));
+    assert_eq!(caused_bytes(&[0; 32_767]), (2, 4_095, 4_095));
 }
 
 #[test]
 fn check_does_not_read_a_list_that_is_too_long() {
-    assert_eq!(answer(check(&[0x36; 40_000]).outcome), (1, 4_096));
+    assert_eq!(caused_bytes(&[0x36; 40_000]), (1, 4_096, 5_000));
+}
+
+/// The third number has 24 bits: 16,777,215 stands for that and more.
+#[test]
+fn the_words_of_a_list_of_128_mib() {
+    let list = vec![0; 128 << 20];
+    let third = |length| Answer::unpack(packed::check(&list[..length])).third;
+    assert_eq!(third(list.len() - 16), 16_777_214);
+    assert_eq!(third(list.len() - 8), 16_777_215);
+    assert_eq!(third(list.len() - 1), 16_777_215);
+    assert_eq!(third(list.len()), 16_777_215);
 }
 
 #[test]

@@ -111,6 +111,9 @@ static uint64_t random_word(void) {
 #define N 0x0000000000000000u
 #define C 0x37000000F801003Fu
 #define L 0x3400000000000000u
+#define TLUT 0x3000000000000000u
+#define SET_TILE 0x3500000000000000u
+#define TEXTURED 0x2400000000000000u /* the first word of a texture rectangle */
 #define LOAD 0x2600000000000000u
 #define PIPE 0x2700000000000000u
 #define TILE 0x2800000000000000u
@@ -121,6 +124,7 @@ static void parts(void) {
     CHECK(lanyardrove_version() == LANYARDROVE_VERSION);
     CHECK(lanyardrove_number(answer) == LANYARDROVE_SYNC_PIPE_MISSING);
     CHECK(lanyardrove_third(answer) == 100001);
+    CHECK(lanyardrove_cause(answer) == 100001);
     CHECK(lanyardrove_cycles(answer) == 100001);
     CHECK(lanyardrove_command(answer) == 100001);
     CHECK(lanyardrove_place(answer) == 4);
@@ -166,7 +170,7 @@ static void null_pointers(void) {
     ANSWERS(lanyardrove_encode(0, NULL, 0, an_out.bytes, 8, NULL, 0), 15, 0, 0);
 }
 
-/* ---- The check: examples A to H, cut lists, the longest. */
+/* ---- The check: examples A to H, cut lists, the longest. The third number is the list's whole words, and at 7 to 9 the cause. */
 
 static void check_lists(void) {
     const uint64_t c1[] = {0x2400000000000000u};
@@ -180,30 +184,87 @@ static void check_lists(void) {
     ANSWERS(lanyardrove_check(a_list.bytes, 0), 0, 0, 0); /* A */
     memset(a_list.bytes, 0, 8);
     ANSWERS(lanyardrove_check(a_list.bytes, 7), 2, 0, 0); /* B */
-    ANSWERS(lanyardrove_check(a_list.bytes, 8), 0, 0, 1);
-    ANSWERS(lanyardrove_check(a_list.bytes, LIST(c1)), 3, 0, 0);
+    ANSWERS(lanyardrove_check(a_list.bytes, 8), 0, 1, 1);
+    ANSWERS(lanyardrove_check(a_list.bytes, LIST(c1)), 3, 1, 0);
     fresh(&a_list);
     memset(a_list.bytes, 0, 22 * 8);
     put(a_list.bytes, 0x0F00000000000000u);
-    ANSWERS(lanyardrove_check(a_list.bytes, 21 * 8), 3, 0, 0); /* D */
-    ANSWERS(lanyardrove_check(a_list.bytes, 22 * 8), 5, 0, 0); /* E */
-    for (i = 0; i < 22; i++) ANSWERS(lanyardrove_check(a_list.bytes, 8 * i), i ? 3 : 0, 0, 0);
+    ANSWERS(lanyardrove_check(a_list.bytes, 21 * 8), 3, 21, 0); /* D */
+    ANSWERS(lanyardrove_check(a_list.bytes, 22 * 8), 5, 22, 0); /* E */
+    for (i = 0; i < 22; i++) ANSWERS(lanyardrove_check(a_list.bytes, 8 * i), i ? 3 : 0, (unsigned)i, 0);
     for (i = 0; i < 22 * 8; i++)
-        if (i % 8) ANSWERS(lanyardrove_check(a_list.bytes, i), 2, 0, (unsigned)(i / 8));
-    ANSWERS(lanyardrove_check(a_list.bytes, LIST(f)), 4, 0, 1);
-    ANSWERS(lanyardrove_check(a_list.bytes, LIST(g)), 9, 0, 4);
-    ANSWERS(lanyardrove_check(a_list.bytes, LIST(h_tile)), 9, 0, 5);
-    ANSWERS(lanyardrove_check(a_list.bytes, LIST(h_pipe)), 0, 0, 6);
+        if (i % 8) ANSWERS(lanyardrove_check(a_list.bytes, i), 2, (unsigned)(i / 8), (unsigned)(i / 8));
+    ANSWERS(lanyardrove_check(a_list.bytes, LIST(f)), 4, 2, 1);
+    ANSWERS(lanyardrove_check(a_list.bytes, LIST(g)), 9, 3, 4);
+    ANSWERS(lanyardrove_check(a_list.bytes, LIST(h_tile)), 9, 3, 5);
+    ANSWERS(lanyardrove_check(a_list.bytes, LIST(h_pipe)), 0, 6, 6);
     CHECK(begins(a_list.bytes, h_pipe, 6) && untouched_from(&a_list, 48));
 
     fresh(&a_list);
     memset(a_list.bytes, 0, 32784);
-    ANSWERS(lanyardrove_check(a_list.bytes, 32760), 0, 0, 4095);
-    ANSWERS(lanyardrove_check(a_list.bytes, 32767), 2, 0, 4095);
-    ANSWERS(lanyardrove_check(a_list.bytes, 32768), 0, 0, 4096);
-    ANSWERS(lanyardrove_check(a_list.bytes, 32769), 1, 0, 4096);
-    ANSWERS(lanyardrove_check(a_list.bytes, 32776), 1, 0, 4096);
+    ANSWERS(lanyardrove_check(a_list.bytes, 32760), 0, 4095, 4095);
+    ANSWERS(lanyardrove_check(a_list.bytes, 32767), 2, 4095, 4095);
+    ANSWERS(lanyardrove_check(a_list.bytes, 32768), 0, 4096, 4096);
+    ANSWERS(lanyardrove_check(a_list.bytes, 32769), 1, 4096, 4096);
+    ANSWERS(lanyardrove_check(a_list.bytes, 32776), 1, 4097, 4096);
     CHECK(all_are(a_list.bytes, 32784, 0) && untouched_from(&a_list, 32784));
+}
+
+/* The cause of a missing sync: the latest command that set the hazard, and none that only looks like one. */
+static void check_causes(void) {
+    const uint64_t i[] = {S, C, R}, j[] = {S, R, L, C}, k[] = {S, R, L, R}, m[] = {S, R, N, C};
+    const uint64_t four_bits[] = {S1, 0x3F00000700000000u, S3, R, N};
+    const uint64_t latest_load[] = {S, L, TLUT, N, R};            /* a draw waits for the latest load and not the first, */
+    const uint64_t latest_draw[] = {S, R, R, N, L};               /* a load for the latest draw, */
+    const uint64_t after_load[] = {S, L, LOAD, R, L};             /* and not for a load, */
+    const uint64_t textured[] = {S, TEXTURED, 0, R, SET_TILE};    /* a Set Tile for a textured draw, though another came later, */
+    const uint64_t attribute[] = {S, TEXTURED, 0, R, C};          /* an attribute for any draw; */
+    const uint64_t short_sync[] = {S, R, PIPE, R, TILE, LOAD, C}; /* and syncs may stand between that do not serve */
+    static uint64_t words[4096];
+    size_t n;
+
+    ANSWERS(lanyardrove_check(a_list.bytes, LIST(i)), 0, 5, 5);
+    ANSWERS(lanyardrove_check(a_list.bytes, LIST(j)), 7, 3, 4);
+    ANSWERS(lanyardrove_check(a_list.bytes, LIST(k)), 7, 3, 4);
+    ANSWERS(lanyardrove_check(a_list.bytes, LIST(m)), 9, 3, 5);
+    ANSWERS(lanyardrove_check(a_list.bytes, LIST(four_bits)), 6, 5, 3);
+    ANSWERS(lanyardrove_check(a_list.bytes, LIST(latest_load)), 7, 4, 6);
+    ANSWERS(lanyardrove_check(a_list.bytes, LIST(latest_draw)), 7, 4, 6);
+    ANSWERS(lanyardrove_check(a_list.bytes, LIST(after_load)), 7, 5, 6);
+    ANSWERS(lanyardrove_check(a_list.bytes, LIST(textured)), 8, 3, 6);
+    ANSWERS(lanyardrove_check(a_list.bytes, LIST(attribute)), 9, 5, 6);
+    ANSWERS(lanyardrove_check(a_list.bytes, LIST(short_sync)), 9, 5, 8);
+
+    /* a triangle of 22 words: those after its first are no draws, whatever they hold */
+    words[0] = S1;
+    words[1] = S2;
+    words[2] = S3;
+    words[3] = 0x0F00000000000000u;
+    for (n = 4; n < 25; n++) words[n] = R;
+    words[n++] = C;
+    words[n++] = R;
+    ANSWERS(lanyardrove_check(a_list.bytes, list_of(words, n)), 9, 3, 25);
+    words[25] = SET_TILE;
+    ANSWERS(lanyardrove_check(a_list.bytes, list_of(words, n)), 8, 3, 25);
+    /* the whole list between the two */
+    for (n = 25; n < 4095; n++) words[n] = N;
+    words[n++] = C;
+    ANSWERS(lanyardrove_check(a_list.bytes, list_of(words, n)), 9, 3, 4095);
+    CHECK(begins(a_list.bytes, words, n) && untouched_from(&a_list, 8 * n));
+}
+
+/* A list of 128 MiB has more whole words than 24 bits hold. It is refused by its length, so its pages are never touched. */
+static void check_most_words(void) {
+    const size_t most = (size_t)1 << 27;
+    uint8_t *list = (uint8_t *)calloc(most + 8, 1);
+    CHECK(list != NULL);
+    if (list == NULL) return;
+    ANSWERS(lanyardrove_check(list, most - 16), 1, 16777214, 4096);
+    ANSWERS(lanyardrove_check(list, most - 8), 1, 16777215, 4096);
+    ANSWERS(lanyardrove_check(list, most - 1), 1, 16777215, 4096);
+    ANSWERS(lanyardrove_check(list, most), 1, 16777215, 4096);
+    ANSWERS(lanyardrove_check(list, most + 8), 1, 16777215, 4096);
+    free(list);
 }
 
 /* ---- The repair: examples J, K and M, refusals, the longest. */
@@ -223,7 +284,7 @@ static void repairs(const uint64_t *words, size_t n, unsigned commands, const ui
     expect(begins(an_out.bytes, repaired, m) && untouched_from(&an_out, 8 * m), "the repaired list, and nothing beyond", line);
     expect(all_are(a_work.bytes, 16 * commands, 0) && untouched_from(&a_work, 16 * commands), "0 zeroes the work buffer", line);
     expect(begins(a_list.bytes, words, n) && untouched_from(&a_list, length), "the given list stays", line);
-    expect_answer(lanyardrove_check(an_out.bytes, 8 * m), 0, 0, (unsigned)m, line);
+    expect_answer(lanyardrove_check(an_out.bytes, 8 * m), 0, (unsigned)m, (unsigned)m, line);
     /* room to spare changes nothing */
     fresh(&a_work);
     fresh(&an_out);
@@ -293,7 +354,7 @@ static void repair_lists(void) {
 
 /* Any list of one-word commands that the repair accepts: what it writes passes, and the words that it adds are its cycles. */
 static void random_repairs(void) {
-    static const uint64_t some[] = {R, R, L, L, C, N, TILE, LOAD, PIPE, 0x3500000000000000u, S1, S3, 0x3E00000000000000u};
+    static const uint64_t some[] = {R, R, L, L, C, N, TILE, LOAD, PIPE, SET_TILE, S1, S3, 0x3E00000000000000u};
     uint64_t words[40];
     size_t n, i, round;
     for (round = 0; round < 2000; round++) {
@@ -321,7 +382,7 @@ static void random_repairs(void) {
         CHECK(lanyardrove_number(answer) == 0 && at == n && n + added == lanyardrove_place(answer));
         CHECK(cycles == lanyardrove_cycles(answer) && (added == 0 || added + 4 <= n));
         CHECK(untouched_from(&an_out, 8 * (n + added)) && untouched_from(&a_work, 16 * n));
-        ANSWERS(lanyardrove_check(an_out.bytes, 8 * (n + added)), 0, 0, (unsigned)(n + added));
+        ANSWERS(lanyardrove_check(an_out.bytes, 8 * (n + added)), 0, (unsigned)(n + added), (unsigned)(n + added));
         answer = lanyardrove_check(a_list.bytes, 8 * n);
         CHECK((lanyardrove_number(answer) == 0) == (added == 0));
     }
@@ -606,6 +667,8 @@ int main(void) {
     parts();
     null_pointers();
     check_lists();
+    check_causes();
+    check_most_words();
     repair_lists();
     random_repairs();
     draw_lists();

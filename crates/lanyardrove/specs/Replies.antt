@@ -1,5 +1,5 @@
 -- What the C functions answer: a number, a third number and a place, as one 64-bit number.
-use Prim.Native.Nat.{ℕ, _+_, _*_, _/_, _%_, _^_}
+use Prim.Native.Nat.{ℕ, _+_, _*_, _/_, _%_, _^_, min}
 use mathlib.Core.Bool.{cond}
 use mathlib.Core.List.{List}
 use mathlib.Core.Path.{_≡_}
@@ -33,12 +33,17 @@ packed r = r .number * 2 ^ 56 + r .third * 2 ^ 32 + r .place
 abbrev pub unpacked : ℕ → Reply
 unpacked w = reply (w / 2 ^ 56) (w / 2 ^ 32 % 2 ^ 24) (w % 2 ^ 32)
 
+-- the most that a third number can be; where it stands for a count of words, it stands for that and more
+abbrev pub mostThird : ℕ
+mostThird = 0xFFFFFF
+
 -- an answer that has no third number
 abbrev pub plain : Answer → Reply
 plain a = reply (a .number) 0 (a .place)
 
+-- the check: the third number is the cause
 abbrev pub checkReply : List ℕ → Reply
-checkReply list = reply (checkOf list .number) 0 (checkOf list .place)
+checkReply list = reply (checkOf list .number) (min (checkOf list .cause) mostThird) (checkOf list .place)
 
 -- the repair: the third number is the cycles
 abbrev pub repairReply : Repaired → Reply

@@ -1,9 +1,9 @@
 // The functions for callers in C. Every answer is one 64-bit number, returned in a register; include/lanyardrove.h declares them.
 ghost use mathlib.Core.Path.{_≡_};
-ghost use Prim.Native.Nat.{_<_, _^_};
+ghost use Prim.Native.Nat.{_<_, _^_, min};
 ghost use lib.ListN.{length};
 ghost use Rattle.rdp_draw.specs.Draw.{drawMemory};
-ghost use Rattle.lanyardrove.specs.Replies.{reply, packed, checkReply, RepairReplies, drawReply, decodeReply, decodeFields, encodeReply, encodeBytes};
+ghost use Rattle.lanyardrove.specs.Replies.{reply, mostThird, packed, checkReply, RepairReplies, drawReply, decodeReply, decodeFields, encodeReply, encodeBytes};
 use rdp_command::Decoded;
 
 // An answer as one number: the number of the refusal in bits 63:56, a third number in bits 55:32, the place in bits 31:0.
@@ -14,21 +14,31 @@ fn pack(number: u32, third: u32, place: u32) -> u64
     number as u64 * 0x0100_0000_0000_0000 + third as u64 * 0x1_0000_0000 + place as u64
 }
 
+// A count as a third number: at most 16,777,215, which stands for that and more.
+fn third_of(count: usize) -> u32
+    ensures { λ r. ⌜ r ≡ min count mostThird ⌝ }
+{
+    if count < 0xFF_FFFF {
+        return count as u32;
+    }
+    0xFF_FFFF
+}
+
 // The version of this library: major, minor and patch number, eight bits each. The header has the same number.
 #[no_mangle]
 pub extern "C" fn lanyardrove_version() -> u32
-    ensures { λ r. ⌜ r ≡ 0x010000 ⌝ }
+    ensures { λ r. ⌜ r ≡ 0x020000 ⌝ }
 {
-    0x010000
+    0x020000
 }
 
-// The check of a list: the first of refusals 1 to 9, or 0 and the words of the list.
+// The check of a list: the first of refusals 1 to 9, or 0 and the words of the list. The third number is the cause.
 #[no_mangle]
 pub extern "C" fn lanyardrove_check(list: &[u8]) -> u64
     ensures { λ r. ⌜ r ≡ packed (checkReply (now (list .entry))) ⌝ }
 {
     let checked = rdp_check::check(list);
-    pack(checked.number, 0, checked.place)
+    pack(checked.number, third_of(checked.cause), checked.place)
 }
 
 // The repair of a list: the first of refusals 1 to 6, 13 and 14, or 0, the cycles and the words written.

@@ -182,7 +182,7 @@ module _ (refusals : Refusals) where
       no-zero-command n p (atCommand before c after number split m) z =
           known (stateAfter start before) c (subst (λ (k : ℕ). Among k (refusals (stateAfter start before) c)) z m)
 
-      commands-first : IsFirst (CommandHolds refusals list) order (wordsIn cs) (judgeList refusals list .number) (judgeList refusals list .place)
+      pub commands-first : IsFirst (CommandHolds refusals list) order (wordsIn cs) (judgeList refusals list .number) (judgeList refusals list .place)
       commands-first =
           let e : 0 + wordsIn cs ≡ wordsIn cs = omega arith in
           answered (CommandHolds refusals list) order (wordsIn cs) to-commands from-commands (λ p h. no-zero-command 0 p h refl)

@@ -1,6 +1,7 @@
 pub mod TableTests
 pub mod HazardLaws
 pub mod ListLaws
+pub mod LeftLaws
 pub mod JoinLaws
 pub mod KeptLaws
 pub mod ViewLaws
@@ -10,6 +11,7 @@ pub mod WalkLaws
 pub mod OrderLaws
 pub mod FirstLaws
 pub mod MarkLaws
+pub mod CauseLaws
 pub mod SyncLaws
 pub mod ChoiceLaws
 pub mod LeastLaws

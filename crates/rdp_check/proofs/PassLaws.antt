@@ -15,7 +15,8 @@ use Rattle.rdp_check.specs.Plan.{applied}
 use Rattle.rdp_check.specs.Best.{numbersOf}
 use Rattle.rdp_check.specs.Work.{tabulate, notedIn, optionsIn, Below, optionBytes, dueBytes, WholeList, NotedIs, WrittenIs}
 use Rattle.rdp_words.proofs.PlaceLaws.{some-words}
-use Rattle.rdp_check.proofs.ListLaws.{commandAt, commands-at, rest-at, rest-past, command-number}
+use Rattle.rdp_check.proofs.ListLaws.{command-number}
+use Rattle.rdp_check.proofs.LeftLaws.{Left, none-left, inside, fits, commands-next, left-next}
 use Rattle.rdp_check.proofs.RepairedLaws.{count-most}
 use Rattle.rdp_check.proofs.TabulateLaws.{noted-more}
 use Rattle.rdp_check.proofs.WriteLaws.{applied-next}
@@ -24,69 +25,36 @@ use Rattle.rdp_check.proofs.WriteLaws.{applied-next}
 
 pub record Reached (list : List ℕ) (words at i : ℕ) : Type 0 where
   pub whole : WholeList list words
-  pub within : at ≤ words
-  pub none : restOf (drop (8 * at) list) ≡ []
+  pub left : Left list words at
   pub count : i + length (commandsOf (drop (8 * at) list)) ≡ length (commandsOf list)
 
 pub reached-first : (list : List ℕ) (words : ℕ) → WholeList list words → Reached list words 0 0
-reached-first list words w = record { whole = w; within = omega arith; none = w .none; count = omega arith }
+reached-first list words w = record { whole = w; left = record { long = w .long; within = omega arith; none = w .none }; count = omega arith }
 
 -- at most a command a word
 pub count-few : {list : List ℕ} {words at i : ℕ} → Reached list words at i → length (commandsOf list) ≤ 2048
 count-few {list} r = omega (arith, count-most list (r .whole .none), r .whole .long, r .whole .few)
 
-commands-none : commandsOf [] ≡ []
-unfolding commandsFrom
-commands-none = refl
-
 module _ {list : List ℕ} {words at i : ℕ} (r : Reached list words at i) where
-  pub none-left : words ≤ at → commandsOf (drop (8 * at) list) ≡ []
-  none-left h =
-      let le : length list ≤ 8 * at = omega (arith, r .whole .long) in
-      ap commandsOf (drop-of-length-le list le) ∙ commands-none
-
   pub all-passed : words ≤ at → i ≡ length (commandsOf list)
-  all-passed h = omega (arith, r .count, ap length (none-left h))
+  all-passed h = omega (arith, r .count, ap length (none-left (r .left) h))
 
   module _ (more : at < words) (n : ℕ) (is : n ≡ numberIn (wordAt list at)) (count : ℕ) (long : count ≡ wordsOf n) where
-    pub inside : at + count ≤ words
-    inside =
-        elim (decLe (at + count) words) [
-          | yes h ↦ h
-          | no h ↦
-              let past : words < at + count = lt-of-not-le h in
-              let empty = sym (rest-past list at n is (omega (arith, r .whole .long))) ∙ r .none in
-              absurd (omega (arith, ap length empty, length-drop (8 * at) list, r .whole .long))
-        ]
-
-    fits : at + wordsOf n ≤ length list / 8
-    fits = omega (arith, inside, r .whole .long)
-
-    onward : 8 * (at + wordsOf n) ≡ 8 * (at + count)
-    onward = omega arith
-
-    pub commands-next : commandsOf (drop (8 * at) list) ≡ commandAt list at n ∷ commandsOf (drop (8 * (at + count)) list)
-    commands-next = commands-at list at n is fits ∙ ap (λ (k : ℕ). commandAt list at n ∷ commandsOf (drop k list)) onward
-
     pub one-more : i < length (commandsOf list)
-    one-more = omega (arith, r .count, ap length commands-next)
-
-    pub falls : words - (at + count) < words - at
-    falls = omega (arith, some-words list at n is)
+    one-more = omega (arith, r .count, ap length (commands-next (r .left) more n is count long))
 
     pub reached-next : Reached list words (at + count) (i + 1)
     reached-next =
         record {
           whole = r .whole;
-          within = inside;
-          none = ap (λ (k : ℕ). restOf (drop k list)) (sym onward) ∙ sym (rest-at list at n is fits) ∙ r .none;
-          count = omega (arith, r .count, ap length commands-next);
+          left = left-next (r .left) more n is count long;
+          count = omega (arith, r .count, ap length (commands-next (r .left) more n is count long));
         }
 
     pub numbers-next : numbersOf (commandsOf (drop (8 * at) list)) ≡ n ∷ numbersOf (commandsOf (drop (8 * (at + count)) list))
     numbers-next =
-        ap numbersOf commands-next ∙
-        ap (λ (k : ℕ). k ∷ numbersOf (commandsOf (drop (8 * (at + count)) list))) (command-number list at n is fits)
+        ap numbersOf (commands-next (r .left) more n is count long) ∙
+        ap (λ (k : ℕ). k ∷ numbersOf (commandsOf (drop (8 * (at + count)) list))) (command-number list at n is (fits (r .left) more n is count long))
 
 -- ---- noting the numbers
 
@@ -110,7 +78,7 @@ module _ {list : List ℕ} {words : ℕ} {work₀ work : List ℕ} {at i : ℕ} 
         numbers =
             ap (notedIn work) (sym (all-passed (t .reached) h)) ∙
             sym (append-nil (notedIn work i)) ∙
-            ap (λ (cs : List (List ℕ)). notedIn work i ++ numbersOf cs) (sym (none-left (t .reached) h)) ∙
+            ap (λ (cs : List (List ℕ)). notedIn work i ++ numbersOf cs) (sym (none-left (t .reached .left) h)) ∙
             t .numbers;
         beyond = t .beyond;
       }
@@ -180,7 +148,7 @@ module _ {list : List ℕ} {words : ℕ} {work out₀ out : List ℕ} {at m i to
   unfolding applied
   all-written h =
       let none : dueFrom list work at i m ≡ [] =
-      ap (λ (cs : List (List ℕ)). joined (applied (optionsIn (length cs) (drop (16 * i) work) m) cs)) (none-left (w .reached) h) in
+      ap (λ (cs : List (List ℕ)). joined (applied (optionsIn (length cs) (drop (16 * i) work) m) cs)) (none-left (w .reached .left) h) in
       w .output ∙
       ap (λ (l : List ℕ). overwrite l out₀)
       (sym (append-nil (w .done)) ∙ ap (λ (l : List ℕ). w .done ++ l) (sym none) ∙ w .due)
@@ -201,7 +169,7 @@ module _ {list : List ℕ} {words : ℕ} {work out₀ out : List ℕ} {at m i to
         let rest : List (List ℕ) = commandsOf (drop (8 * (at + count)) list) in
         let c : List ℕ = take (8 * count) (drop (8 * at) list) in
         ap (λ (cs : List (List ℕ)). joined (applied (optionsIn (length cs) (drop (16 * i) work) m) cs))
-        (commands-next (w .reached) more n is count long ∙ ap (λ (k : ℕ). take (8 * k) (drop (8 * at) list) ∷ rest) (sym long)) ∙
+        (commands-next (w .reached .left) more n is count long ∙ ap (λ (k : ℕ). take (8 * k) (drop (8 * at) list) ∷ rest) (sym long)) ∙
         applied-next c rest work i m ∙
         sym (append-assoc (optionBytes (choice / 16)) c _)
 
@@ -211,7 +179,7 @@ module _ {list : List ℕ} {words : ℕ} {work out₀ out : List ℕ} {at m i to
 
     command-long : length (take (8 * count) (drop (8 * at) list)) ≡ 8 * count
     command-long =
-        simp (length-take, length-drop) (omega (arith, inside (w .reached) more n is count long, w .reached .whole .long))
+        simp (length-take, length-drop) (omega (arith, inside (w .reached .left) more n is count long, w .reached .whole .long))
 
     pub turn-fits : to + length (optionBytes (choice / 16)) + 8 * count ≤ length out
     turn-fits =
@@ -228,7 +196,7 @@ module _ {list : List ℕ} {words : ℕ} {work out₀ out : List ℕ} {at m i to
         )
 
     pub in-list : 8 * (at + count) ≤ length list
-    in-list = omega (arith, inside (w .reached) more n is count long, w .reached .whole .long)
+    in-list = omega (arith, inside (w .reached .left) more n is count long, w .reached .whole .long)
 
     pub writing-next : (next : ℕ) (out′ : List ℕ) → WrittenIs turn to next out out′ → Writing list words work out₀ out′ (at + count) (choice % 16) (i + 1) next
     writing-next next out′ r =

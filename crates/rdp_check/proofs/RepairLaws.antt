@@ -154,7 +154,7 @@ fourteen : _≡_ {A = ℕ} 14 0 → ⊥
 fourteen e = omega arith
 
 module _ (list work out : List ℕ) where
-  pub refused : (r : Checked) → r ≡ checked (judged list) → (r .number ≡ 0 → ⊥) → RepairIs list work out (repairAnswer (r .number) (r .place) 0) work out
+  pub refused : (r : Checked) → r ≡ checked list (judged list) → (r .number ≡ 0 → ⊥) → RepairIs list work out (repairAnswer (r .number) (r .place) 0) work out
   refused r e z =
       let number : r .number ≡ judged list .number = ap (λ (x : Checked). x .number) e in
       untouched list work out _

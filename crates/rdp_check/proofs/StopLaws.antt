@@ -9,6 +9,7 @@ use Rattle.rdp_words.specs.Lengths.{firstNumber, wholeWords}
 use Rattle.rdp_words.proofs.PlaceLaws.{words-there}
 use Rattle.rdp_check.specs.Commands.{commandsOf, restOf}
 use Rattle.rdp_check.specs.Check.{State, start, afterCommand, refusalAt, Outcome, settle, judge, judgeList, checked}
+use Rattle.rdp_check.specs.Cause.{causeOf}
 use Rattle.rdp_check.specs.View.{refusalsBy, viewOf, stopOf, settleView, judgeView, judgedView}
 use Rattle.rdp_check.specs.declared.Checked.{Checked}
 use Rattle.rdp_check.specs.declared.walk.Rest.{Rest}
@@ -40,19 +41,17 @@ judge-seen strict s at (c ∷ cs) rest h =
 pub judged-seen : (strict : Bool) (s : State) (at : ℕ) (bs : List ℕ) → stopOf (judge (refusalsBy strict) s at (commandsOf bs) (restOf bs)) ≡ judgedView strict (viewOf s) at bs
 judged-seen strict s at bs = judge-seen strict s at (commandsOf bs) (restOf bs) (parsed bs .alone)
 
--- of the view the check shows the hazards
-abbrev pub shownOf : Stop → Checked
-shownOf q = record { number = q .number; place = q .place; hazards = q .view .hazards }
-
-pub shown : (o : Outcome) → shownOf (stopOf o) ≡ checked o
-unfolding viewOf
-shown o = refl
-
 -- from the first view on
-pub list-shown :
+pub list-seen :
     (strict : Bool) (list : List ℕ) (r : Rest) → r ≡ viewOf start .rest → (q : Stop) → q ≡ judgedView strict (record { hazards = 0; rest = r }) 0 list →
-    shownOf q ≡ checked (judgeList (refusalsBy strict) list)
+    q ≡ stopOf (judgeList (refusalsBy strict) list)
 unfolding viewOf
-list-shown strict list r e q is =
-    ap shownOf (is ∙ (λ i. judgedView strict (record { hazards = 0; rest = e i }) 0 list) ∙ sym (judged-seen strict start 0 list)) ∙
-    shown (judgeList (refusalsBy strict) list)
+list-seen strict list r e q is = is ∙ (λ i. judgedView strict (record { hazards = 0; rest = e i }) 0 list) ∙ sym (judged-seen strict start 0 list)
+
+-- of the view the check shows the hazards
+abbrev pub shownOf : List ℕ → Stop → Checked
+shownOf list q = record { number = q .number; place = q .place; hazards = q .view .hazards; cause = causeOf list (q .number) (q .place) }
+
+pub shown : (list : List ℕ) (o : Outcome) → shownOf list (stopOf o) ≡ checked list o
+unfolding viewOf
+shown list o = refl

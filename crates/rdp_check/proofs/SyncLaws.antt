@@ -12,7 +12,7 @@ use Rattle.rdp_command.specs.declared.Command.{Command}
 use Rattle.rdp_command.specs.declared.Command.the-variants.{SyncLoad, SyncTile, SyncPipe}
 use Rattle.rdp_words.proofs.Tests.{below}
 use Rattle.rdp_command.proofs.SyncWordLaws.{SyncWord, sync-words}
-use Rattle.rdp_check.specs.Check.{draws}
+use Rattle.rdp_check.specs.Marks.{draws}
 use Rattle.rdp_check.specs.Hazards.{Hazards, hazardsOf, codeOf, hazardsAfter, requiredBy, nextOf, requiredOf}
 use Rattle.rdp_check.specs.Syncs.{Sync, loadSync, tileSync, pipeSync, syncNumber, syncWait, syncWord}
 use Rattle.rdp_check.specs.Plan.{waitOf, syncAt}

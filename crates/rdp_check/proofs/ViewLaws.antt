@@ -16,7 +16,8 @@ use Rattle.rdp_command.specs.declared.Command.{Command}
 use Rattle.rdp_words.proofs.Tests.{by-test, neither}
 use Rattle.rdp_check.specs.Hazards.{nextOf, requiredOf, entryOf}
 use Rattle.rdp_check.specs.Registers.{registersAfter, afterDecoded}
-use Rattle.rdp_check.specs.Check.{State, afterCommand, draws, ready, fourBitFill, ownRefusals, syncRefusals, refusalAt}
+use Rattle.rdp_check.specs.Marks.{draws}
+use Rattle.rdp_check.specs.Check.{State, afterCommand, ready, fourBitFill, ownRefusals, syncRefusals, refusalAt}
 use Rattle.rdp_check.specs.Order.{ground, firstOf}
 use Rattle.rdp_check.specs.View.{code, codeRefusal, view, viewOf, restAfter, viewAfter, orElse, missing, refusalWith, refusalsBy, restRefusal, viewRefusal, setsRest, isWatched, Watches, AdvancedIs}
 use Rattle.rdp_check.specs.declared.Registers.{Registers}

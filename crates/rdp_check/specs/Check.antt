@@ -4,12 +4,14 @@ use mathlib.Core.Bool.{Bool, false, cond, _&&_, _||_, not}
 use mathlib.Core.List.{List, [], _∷_, _++_}
 use lib.Dec.{ltb, eqb}
 use lib.ListN.{length}
-use Rattle.rdp_words.specs.Kinds.{isDraw, kindOf, wordsOf}
+use Rattle.rdp_words.specs.Kinds.{wordsOf}
 use Rattle.rdp_words.specs.Lengths.{firstNumber}
 use Rattle.rdp_command.specs.Decode.{decodeOf}
 use Rattle.rdp_check.specs.Hazards.{nextOf, requiredOf}
 use Rattle.rdp_check.specs.Order.{Ground, ground, firstOf}
 use Rattle.rdp_check.specs.Commands.{commandsOf, restOf}
+use Rattle.rdp_check.specs.Marks.{draws}
+use Rattle.rdp_check.specs.Cause.{causeOf}
 use Rattle.rdp_check.specs.Registers.{noRegisters, afterDecoded}
 use Rattle.rdp_check.specs.declared.Registers.{Registers}
 use Rattle.rdp_check.specs.declared.Checked.{Checked}
@@ -32,10 +34,6 @@ afterCommand s c =
       ended = eqb (firstNumber c) 0x29 || s .ended;
       registers = afterDecoded (s .registers) (decodeOf c);
     }
-
--- a number is a draw's
-abbrev pub draws : ℕ → Bool
-draws n = isDraw (kindOf n)
 
 -- modes, colour image and scissor are set in this list
 abbrev pub ready : Registers → Bool
@@ -115,9 +113,9 @@ outcomeWithin words refusals list =
 abbrev pub outcomeOf : List ℕ → Outcome
 outcomeOf list = outcomeWithin 4096 checkRefusals list
 
-abbrev pub checked : Outcome → Checked
-checked o = record { number = o .number; place = o .place; hazards = o .state .hazards }
+abbrev pub checked : List ℕ → Outcome → Checked
+checked list o = record { number = o .number; place = o .place; hazards = o .state .hazards; cause = causeOf list (o .number) (o .place) }
 
 -- what the check answers
 abbrev pub checkOf : List ℕ → Checked
-checkOf list = checked (outcomeOf list)
+checkOf list = checked list (outcomeOf list)

@@ -2,10 +2,11 @@ pub mod Hazards
 pub mod Commands
 pub mod Registers
 pub mod Order
-pub mod Check
-pub mod Refusals
 pub mod Syncs
 pub mod Marks
+pub mod Cause
+pub mod Check
+pub mod Refusals
 pub mod View
 pub mod Inserted
 pub mod Plan

@@ -4,25 +4,14 @@ use mathlib.Core.Bool.{Bool, not, _&&_, _||_}
 use mathlib.Core.List.{List, [], _∷_, _++_}
 use mathlib.Core.Path.{_≡_}
 use lib.Dec.{T}
-use Rattle.rdp_words.specs.Kinds.{among, between, hasBit}
+use Rattle.rdp_words.specs.Kinds.{among, between, hasBit, isDraw, kindOf}
 use Rattle.rdp_words.specs.Lengths.{firstNumber}
 use Rattle.rdp_check.specs.Hazards.{Hazards}
 use Rattle.rdp_check.specs.Syncs.{loadSync, tileSync, pipeSync, syncNumber}
-use Rattle.rdp_check.specs.Check.{draws}
 
--- none of some commands has one of these numbers
-abbrev pub NoneOf : (ℕ → Bool) → List (List ℕ) → Type 0
-NoneOf these [] = Unit {0}
-NoneOf these (c ∷ cs) = T (not (these (firstNumber c))) × NoneOf these cs
-
--- a command of these numbers has come since the last of those: none of those stands after it
-pub record Since (these those : ℕ → Bool) (cs : List (List ℕ)) : Type 0 where
-  pub before : List (List ℕ)
-  pub command : List ℕ
-  pub after : List (List ℕ)
-  pub split : cs ≡ before ++ command ∷ after
-  pub comes : T (these (firstNumber command))
-  pub stays : NoneOf those after
+-- a number is a draw's
+abbrev pub draws : ℕ → Bool
+draws n = isDraw (kindOf n)
 
 -- a textured draw: a triangle with bit 57, which is bit 1 of its number, or a texture rectangle
 abbrev pub textured : ℕ → Bool
@@ -44,16 +33,48 @@ tilePipeOrFull n = among n (syncNumber tileSync ∷ syncNumber pipeSync ∷ sync
 abbrev pub anySync : ℕ → Bool
 anySync n = among n (syncNumber loadSync ∷ syncNumber tileSync ∷ syncNumber pipeSync ∷ syncFull ∷ [])
 
+-- a mark: its bit in the hazards as a number, the numbers of the commands that set it, and of those that clear it
+pub record Mark : Type 0 where
+  pub bit : ℕ
+  pub sets : ℕ → Bool
+  pub clears : ℕ → Bool
+
+-- P: a draw since the last Sync Pipe
+abbrev pub markP : Mark
+markP = record { bit = 1; sets = draws; clears = pipeOrFull }
+
+-- T: a textured draw since the last Sync Tile or Pipe
+abbrev pub markT : Mark
+markT = record { bit = 2; sets = textured; clears = tilePipeOrFull }
+
+-- D: a draw since the last sync of any kind
+abbrev pub markD : Mark
+markD = record { bit = 4; sets = draws; clears = anySync }
+
+-- G: a load since the last sync of any kind
+abbrev pub markG : Mark
+markG = record { bit = 8; sets = loads; clears = anySync }
+
+-- none of some commands has one of these numbers
+abbrev pub NoneOf : (ℕ → Bool) → List (List ℕ) → Type 0
+NoneOf these [] = Unit {0}
+NoneOf these (c ∷ cs) = T (not (these (firstNumber c))) × NoneOf these cs
+
+-- a mark stands after some commands: one that sets it has come, and none after it clears it
+pub record Stands (mark : Mark) (cs : List (List ℕ)) : Type 0 where
+  pub before : List (List ℕ)
+  pub command : List ℕ
+  pub after : List (List ℕ)
+  pub split : cs ≡ before ++ command ∷ after
+  pub comes : T (mark .sets (firstNumber command))
+  pub stays : NoneOf (mark .clears) after
+
 abbrev pub Exactly : Bool → Type 0 → Type 0
 Exactly b P = (T b → P) × (P → T b)
 
 -- the hazards after some commands from the start
 pub record MarksAre (cs : List (List ℕ)) (h : Hazards) : Type 0 where
-  -- P: a draw since the last Sync Pipe
-  pub pipe : Exactly (h .pipe) (Since draws pipeOrFull cs)
-  -- T: a textured draw since the last Sync Tile or Pipe
-  pub tile : Exactly (h .tile) (Since textured tilePipeOrFull cs)
-  -- D: a draw since the last sync of any kind
-  pub drawn : Exactly (h .drawn) (Since draws anySync cs)
-  -- G: a load since the last sync of any kind
-  pub loaded : Exactly (h .loaded) (Since loads anySync cs)
+  pub pipe : Exactly (h .pipe) (Stands markP cs)
+  pub tile : Exactly (h .tile) (Stands markT cs)
+  pub drawn : Exactly (h .drawn) (Stands markD cs)
+  pub loaded : Exactly (h .loaded) (Stands markG cs)

@@ -10,7 +10,8 @@ use Rattle.rdp_command.specs.declared.Head.{Head}
 use Rattle.rdp_command.specs.Reads.{headOf}
 use Rattle.rdp_check.specs.Hazards.{nextOf, requiredOf}
 use Rattle.rdp_check.specs.Commands.{commandsOf, restOf}
-use Rattle.rdp_check.specs.Check.{State, draws, Refusals, checkRefusals, repairRefusals, Outcome}
+use Rattle.rdp_check.specs.Marks.{draws}
+use Rattle.rdp_check.specs.Check.{State, Refusals, checkRefusals, repairRefusals, Outcome, judgeList}
 use Rattle.rdp_check.specs.declared.walk.Rest.{Rest}
 use Rattle.rdp_check.specs.declared.walk.View.{View}
 use Rattle.rdp_check.specs.declared.walk.Advanced.{Advanced}
@@ -74,6 +75,12 @@ abbrev pub refusalsBy : Bool → Refusals
 refusalsBy true = checkRefusals
 refusalsBy false = repairRefusals
 
+-- number and place of a judgement of a list's commands, by the one or the other
+pub record IsJudged (list : List ℕ) (number place : ℕ) : Type 0 where
+  pub strict : Bool
+  pub is-number : number ≡ judgeList (refusalsBy strict) list .number
+  pub is-place : place ≡ judgeList (refusalsBy strict) list .place
+
 -- the refusal of a draw by what is carried
 abbrev pub restRefusal : Rest → ℕ
 restRefusal r = codeRefusal (r .modes) (r .image) (r .scissor)
@@ -89,9 +96,13 @@ setsRest n = among n (0x29 ∷ 0x2D ∷ 0x2F ∷ 0x3F ∷ [])
 abbrev pub isWatched : Rest → ℕ → Bool
 isWatched r n = r .ended || (setsRest n || (draws n && not (eqb (restRefusal r) 0)))
 
--- the bits of a number are the command numbers that are watched
+-- the bits of a number are these command numbers
+abbrev pub Numbers : ℕ → (ℕ → Bool) → Type 0
+Numbers numbers these = (n : ℕ) → n < 64 → isAmong numbers n ≡ these n
+
+-- those that are watched
 abbrev pub Watches : ℕ → Rest → Type 0
-Watches numbers r = (n : ℕ) → n < 64 → isAmong numbers n ≡ isWatched r n
+Watches numbers r = Numbers numbers (isWatched r)
 
 -- what one step of the walk gives
 pub record AdvancedIs (strict : Bool) (v : View) (h : Head) (r : Advanced) : Type 0 where

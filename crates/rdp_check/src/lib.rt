@@ -5,6 +5,7 @@ ghost use Rattle.rdp_check.specs.Hazards.{transitionOf};
 ghost use Rattle.rdp_check.specs.Check.{checkOf};
 ghost use Rattle.rdp_check.specs.Repair.{RepairIs};
 
+mod cause;
 mod hazards;
 mod plan;
 mod repairing;
@@ -23,12 +24,14 @@ use rdp_command::Scissor;
 use rdp_command::TexelCorner;
 use rdp_command::TileDescriptor;
 
-// The number of the first refusal, 0 where the list is accepted; its place in words; and the hazards there.
+// The number of the first refusal, 0 where the list is accepted; its place in words; the hazards there; and the place of the command that caused it, at
+// 7, 8 and 9, at every other number the list's whole words.
 #[repr(C)]
 pub struct Checked {
     pub number: u32,
     pub place: u32,
     pub hazards: u8,
+    pub cause: usize,
 }
 
 // Each register has its value and whether the list has set it.
@@ -183,8 +186,8 @@ pub fn step(hazards: u8, number: u8) -> Transition
     }
 }
 
-// The first refusal of a list, with the hazards there: 1 and 2 of the list, then 3 to 9 of its commands in order; 0 at the number of words where none
-// holds.
+// The first refusal of a list, with the hazards there and its cause: 1 and 2 of the list, then 3 to 9 of its commands in order; 0 at the number of words
+// where none holds.
 pub fn check(list: &[u8]) -> Checked
     ensures { λ r. ⌜ r ≡ checkOf (now (list .entry)) ⌝ }
 {

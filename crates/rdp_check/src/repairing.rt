@@ -3,7 +3,7 @@ ghost use mathlib.Core.List.{_++_};
 ghost use mathlib.Core.Path.{_≡_};
 ghost use Prim.Native.Nat.{pred, _+_, _*_, _/_, _<_, _≤_, min};
 ghost use lib.ListN.{length, take, drop, replicate};
-ghost use Rattle.rdp_words.specs.Words.{wordAt, numberIn, overwrite};
+ghost use Rattle.rdp_words.specs.Words.{overwrite};
 ghost use Rattle.rdp_check.specs.Commands.{commandsOf};
 ghost use Rattle.rdp_check.specs.Hazards.{Agrees};
 ghost use Rattle.rdp_check.specs.Check.{repairRefusals, outcomeWithin};
@@ -14,6 +14,7 @@ ghost use Rattle.rdp_check.specs.Repair.{RepairIs};
 use crate::Repaired;
 use crate::plan;
 use crate::table;
+use crate::walk;
 
 // The command numbers of the syncs.
 const SYNC_LOAD: u8 = 0x26;
@@ -21,14 +22,6 @@ const SYNC_LOAD: u8 = 0x26;
 const SYNC_TILE: u8 = 0x28;
 
 const SYNC_PIPE: u8 = 0x27;
-
-// The number of the command at a place.
-fn number_at(list: &[u8], place: usize) -> u8
-    ensures { λ r. ⌜ r ≡ numberIn (wordAt (now (list .entry)) place) ⌝ }
-{
-    let head = rdp_command::head_at(list, place);
-    head.number
-}
 
 // How many commands a list has.
 pub fn count_commands(list: &[u8], words: usize) -> usize
@@ -38,7 +31,7 @@ pub fn count_commands(list: &[u8], words: usize) -> usize
     let mut at: usize = 0;
     let mut count: usize = 0;
     while at < words {
-        let number = number_at(list, at);
+        let number = walk::number_at(list, at);
         at += rdp_words::words_of(number);
         count += 1;
     }
@@ -53,7 +46,7 @@ fn note_numbers(list: &[u8], words: usize, work: &mut [u8]) -> usize
     let mut at: usize = 0;
     let mut i: usize = 0;
     while at < words {
-        let number = number_at(list, at);
+        let number = walk::number_at(list, at);
         work[16 * i] = number;
         at += rdp_words::words_of(number);
         i += 1;
@@ -168,7 +161,7 @@ fn write_plan(list: &[u8], words: usize, work: &[u8], out: &mut [u8])
     let mut to: usize = 0;
     while at < words {
         let choice = work[16 * i + hazards as usize];
-        let count = rdp_words::words_of(number_at(list, at));
+        let count = rdp_words::words_of(walk::number_at(list, at));
         to = write_command(list, at, count, choice / 16, out, to);
         at += count;
         hazards = choice % 16;

@@ -3,10 +3,13 @@ ghost use mathlib.Core.Bool.{cond, true};
 ghost use mathlib.Core.Path.{_≡_};
 ghost use Prim.Native.Nat.{_*_, _<_, _≤_};
 ghost use lib.ListN.{length};
+ghost use Rattle.rdp_words.specs.Words.{wordAt, numberIn};
 ghost use Rattle.rdp_check.specs.Hazards.{Agrees, entryOf};
-ghost use Rattle.rdp_check.specs.Check.{start, draws, outcomeWithin, checked};
+ghost use Rattle.rdp_check.specs.Check.{start, outcomeWithin, checked};
+ghost use Rattle.rdp_check.specs.Marks.{draws};
 ghost use Rattle.rdp_check.specs.View.{refusalsBy, code, viewOf, restAfter, restRefusal, refusalWith, Watches, AdvancedIs, stopAt, judgedView};
 use crate::Checked;
+use crate::cause;
 use crate::hazards;
 use crate::table;
 use rdp_command::Head;
@@ -46,6 +49,13 @@ pub struct Stop {
     pub number: u32,
     pub place: u32,
     pub view: View,
+}
+
+// The number of the command at a place.
+pub fn number_at(list: &[u8], place: usize) -> u8
+    ensures { λ r. ⌜ r ≡ numberIn (wordAt (now (list .entry)) place) ⌝ }
+{
+    rdp_words::number_in(rdp_words::word_at(list, place))
 }
 
 // The first refusal of a command, or 0: 4, then its refusal as a draw, then a missing sync.
@@ -247,7 +257,7 @@ pub fn walk(table: &[u8; 1024], list: &[u8], words: usize, view: View, strict: b
 // The first refusal of a list that may have so many words: 1 and 2 of the list, then those of its commands.
 pub fn check_within(list: &[u8], most: usize, strict: bool) -> Checked
     requires { ⌜ most ≤ 4096 ⌝ }
-    ensures { λ r. ⌜ r ≡ checked (outcomeWithin most (refusalsBy strict) (now (list .entry))) ⌝ }
+    ensures { λ r. ⌜ r ≡ checked (now (list .entry)) (outcomeWithin most (refusalsBy strict) (now (list .entry))) ⌝ }
 {
     let len = list.len();
     let words = len / 8;
@@ -256,6 +266,7 @@ pub fn check_within(list: &[u8], most: usize, strict: bool) -> Checked
             number: 1,
             place: most as u32,
             hazards: 0,
+            cause: words,
         };
     }
     if len % 8 != 0 {
@@ -263,15 +274,20 @@ pub fn check_within(list: &[u8], most: usize, strict: bool) -> Checked
             number: 2,
             place: words as u32,
             hazards: 0,
+            cause: words,
         };
     }
     let table = table::step_table();
     let rest = no_rest();
     let stop = walk(&table, list, words, View { hazards: 0, rest }, strict);
+    let number = stop.number;
+    let place = stop.place;
     let view = stop.view;
+    let cause = cause::cause_of(list, number, place);
     Checked {
-        number: stop.number,
-        place: stop.place,
+        number,
+        place,
         hazards: view.hazards,
+        cause,
     }
 }

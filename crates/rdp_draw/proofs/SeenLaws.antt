@@ -25,7 +25,7 @@ use Rattle.rdp_command.proofs.ReadLaws.{decoded, decodes, decoded-number, reads
 use Rattle.rdp_check.specs.Commands.{commandsOf, restOf}
 use Rattle.rdp_check.specs.Registers.{afterDecoded}
 use Rattle.rdp_state.specs.RegisterWords.{slotOf, tileIn, setters, wordsAfter, registersIn}
-use Rattle.rdp_check.specs.Check.{draws}
+use Rattle.rdp_check.specs.Marks.{draws}
 use Rattle.rdp_check.specs.declared.Registers.{Registers}
 use Rattle.rdp_state.proofs.RegisterLaws.{none-set, length-stored, words-kept, registers-stored, FillReads, fill-reads}
 use Rattle.rdp_check.proofs.ListLaws.{commandAt, commands-at, rest-at, commands-past, rest-past, command-word, command-number, command-there}

@@ -10,6 +10,7 @@ use Rattle.rdp_check.specs.Hazards.{nextOf, requiredOf}
 use Rattle.rdp_check.specs.Commands.{commandsFrom, restFrom}
 use Rattle.rdp_check.specs.Registers.{noRegisters, registersAfter}
 use Rattle.rdp_check.specs.Check.{afterCommand, ownRefusals, syncRefusals, judge, outcomeWithin}
+use Rattle.rdp_check.specs.Cause.{awaited, latest, causeOf}
 use Rattle.rdp_check.specs.Refusals.{commandGrounds, groundsOf}
 use Rattle.rdp_check.specs.Plan.{syncAt, waitOf, withOption, applied}
 use Rattle.rdp_check.specs.Best.{clearedBy, totalWith, choiceOf, prefer, chosen, best, plan, planned, repairedBytes}
@@ -20,5 +21,5 @@ use Rattle.rdp_draw.specs.Draw.{actOf, drawsFrom, drawRefusals, drawGrounds, dr
 use Rattle.rdp_examples.specs.Examples.{examples, allRight}
 
 pub examples-right : T (allRight examples)
-unfolding examples halfOf wordAt overwrite kindOf wordsOf layout commandOf wholeWords decodeOf nextOf requiredOf commandsFrom restFrom noRegisters registersAfter afterCommand ownRefusals syncRefusals judge outcomeWithin syncAt waitOf clearedBy withOption totalWith choiceOf prefer chosen best plan applied planned repairedBytes commandGrounds groundsOf repairOf outAfter workAfter overlay colorByte bytesPerPixel pixelAddress rowKept kept oneOf someByte actOf drawsFrom drawRefusals drawGrounds drawAnswer paintedAll drawMemory
+unfolding examples halfOf wordAt overwrite kindOf wordsOf layout commandOf wholeWords decodeOf nextOf requiredOf commandsFrom restFrom noRegisters registersAfter afterCommand ownRefusals syncRefusals judge outcomeWithin awaited latest causeOf syncAt waitOf clearedBy withOption totalWith choiceOf prefer chosen best plan applied planned repairedBytes commandGrounds groundsOf repairOf outAfter workAfter overlay colorByte bytesPerPixel pixelAddress rowKept kept oneOf someByte actOf drawsFrom drawRefusals drawGrounds drawAnswer paintedAll drawMemory
 examples-right = tt

@@ -66,8 +66,8 @@ bytesIn (w ∷ ws) = bytesOf w ++ bytesIn ws
 -- ---- the cases
 
 pub data Case : Type 0 where
-  -- the check of a list of bytes gives number, place and hazards
-  checks : List ℕ → ℕ → ℕ → ℕ → Case
+  -- the check of a list of bytes gives number, place, hazards and cause
+  checks : List ℕ → ℕ → ℕ → ℕ → ℕ → Case
   -- the repair of a list of words writes a list of words, and inserts so many cycles
   repairs : List ℕ → List ℕ → ℕ → Case
   -- drawing a list of words into memory, which starts at address 0, gives number and place, and leaves memory so
@@ -84,19 +84,19 @@ zeros n = replicate n 0
 unfoldable pub examples : List Case
 examples =
     -- A, B, C1
-    checks [] 0 0 0
-    ∷ checks (zeros 7) 2 0 0
-    ∷ checks (bytesIn (textureRectangle ∷ [])) 3 0 0
+    checks [] 0 0 0 0
+    ∷ checks (zeros 7) 2 0 0 0
+    ∷ checks (bytesIn (textureRectangle ∷ [])) 3 0 0 1
     -- D, E: 0x0F with 21 words, and with 22
-    ∷ checks (bytesIn (longestTriangle ∷ []) ++ zeros 160) 3 0 0
-    ∷ checks (bytesIn (longestTriangle ∷ []) ++ zeros 168) 5 0 0
+    ∷ checks (bytesIn (longestTriangle ∷ []) ++ zeros 160) 3 0 0 21
+    ∷ checks (bytesIn (longestTriangle ∷ []) ++ zeros 168) 5 0 0 22
     -- F
-    ∷ checks (bytesIn (syncFull ∷ noOperation ∷ [])) 4 1 0
-    -- G: after a draw the hazards are pipe and draw, 1 + 4
-    ∷ checks (bytesIn (setup ++ rectangle ∷ fillColor ∷ [])) 9 4 5
-    -- H: a Sync Tile leaves pipe
-    ∷ checks (bytesIn (setup ++ rectangle ∷ syncTile ∷ fillColor ∷ [])) 9 5 1
-    ∷ checks (bytesIn (setup ++ rectangle ∷ syncPipe ∷ fillColor ∷ [])) 0 6 0
+    ∷ checks (bytesIn (syncFull ∷ noOperation ∷ [])) 4 1 0 2
+    -- G: after a draw the hazards are pipe and draw, 1 + 4; it is the cause
+    ∷ checks (bytesIn (setup ++ rectangle ∷ fillColor ∷ [])) 9 4 5 3
+    -- H: a Sync Tile leaves pipe, and the draw is the cause
+    ∷ checks (bytesIn (setup ++ rectangle ∷ syncTile ∷ fillColor ∷ [])) 9 5 1 3
+    ∷ checks (bytesIn (setup ++ rectangle ∷ syncPipe ∷ fillColor ∷ [])) 0 6 0 6
     -- I
     ∷ draws (setup ++ fillColor ∷ rectangle ∷ []) (zeros 64) 0 5 (zeros 18 ++ halves ++ zeros 12 ++ halves ++ zeros 26)
     -- J: one Pipe before L, and not Load and Pipe. K: Load before L and before the second R. M: Pipe before C, not before N
@@ -119,10 +119,10 @@ sameList (x ∷ xs) (y ∷ ys) = eqb x y && sameList xs ys
 abbrev pub left : List ℕ
 left = replicate 8 0xFF
 
-abbrev pub checksRight : List ℕ → ℕ → ℕ → ℕ → Bool
-checksRight list number place hazards =
+abbrev pub checksRight : List ℕ → ℕ → ℕ → ℕ → ℕ → Bool
+checksRight list number place hazards cause =
     let r = checkOf list in
-    (eqb (r .number) number && eqb (r .place) place) && eqb (r .hazards) hazards
+    (eqb (r .number) number && eqb (r .place) place) && (eqb (r .hazards) hazards && eqb (r .cause) cause)
 
 -- the repair is computed by the plan that it finds, which its contract determines (`repair-computes` of rdp_check). The work buffer and the output have
 -- a word more than is needed, which stays
@@ -145,7 +145,7 @@ drawsRight words memory number place after =
     (eqb (r .number) number && eqb (r .place) place) && sameList (drawMemory list 0 memory) after
 
 abbrev pub right : Case → Bool
-right (checks list number place hazards) = checksRight list number place hazards
+right (checks list number place hazards cause) = checksRight list number place hazards cause
 right (repairs given repaired cycles) = repairsRight given repaired cycles
 right (draws words memory number place after) = drawsRight words memory number place after
 

@@ -1,11 +1,12 @@
-//! What must hold of every repair, shown by search: the check alone decides
-//! which plans pass.
+//! What must hold of every repair and every cause, shown by the check alone: it
+//! decides which plans pass, and which sync comes too early.
 
-use crate::check::check;
+use crate::check::{check, CHECK_LIMIT};
 use crate::comparison::rng::Rng;
-use crate::kinds::{commands, Command};
+use crate::kinds::{commands, words, Command};
+use crate::packed::Answer;
 use crate::repair::{bytes_of_command, with_plan, Add};
-use crate::words::command_number;
+use crate::words::{command_number, word_at, WORD_BYTES};
 
 /// Lists of up to this many commands are searched every time.
 const ALWAYS_SEARCHED: usize = 6;
@@ -149,4 +150,38 @@ fn push_add(prefix: &mut Vec<u8>, add: Add) {
     if let Some(word) = add.word() {
         prefix.extend_from_slice(&word.to_be_bytes());
     }
+}
+
+/// Tests the cause that a check gave at 7, 8 or 9: a Sync Pipe right after that
+/// command serves the refused one, and right before it does not. Only the latest
+/// command that set the mark is such a one.
+pub fn test_cause(list: &[u8], answer: Answer) -> Result<(), String> {
+    let (place, cause) = (answer.place as usize, answer.third as usize);
+    let Some(command) = commands(list).find(|command| command.place == cause) else {
+        return Err("no command stands at the cause".to_string());
+    };
+    let end = place + words(command_number(word_at(list, place)));
+    let judged = &list[..end * WORD_BYTES];
+    if judged.len() == CHECK_LIMIT {
+        return Ok(());
+    }
+    let after = with_pipe(judged, cause + words(command.number()));
+    if check(&after).outcome.is_err() {
+        return Err("a Sync Pipe after the cause does not serve".to_string());
+    }
+    let before = check(&with_pipe(judged, cause)).outcome.err();
+    let refused = before.map(|refusal| (refusal.ground as u8, refusal.place));
+    if refused != Some((answer.number, place + 1)) {
+        return Err("a Sync Pipe before the cause serves".to_string());
+    }
+    Ok(())
+}
+
+/// A list with a Sync Pipe before a place.
+fn with_pipe(list: &[u8], place: usize) -> Vec<u8> {
+    let (before, after) = list.split_at(place * WORD_BYTES);
+    let mut longer = before.to_vec();
+    push_add(&mut longer, Add::Pipe);
+    longer.extend_from_slice(after);
+    longer
 }

@@ -99,13 +99,19 @@ impl Compared {
         Err(format!("buffer {buffer} differs first at {place}"))
     }
 
-    /// The laws of an accepted repair.
+    /// The laws of an accepted repair, and of a check that a sync is missing.
     fn laws(&self, rng: &mut Rng, counts: &mut Counts) -> Result<(), String> {
+        let call = &self.reference_after;
+        match (call.function, self.reference.number) {
+            (Function::Repair, 0) => self.repair_laws(rng, counts),
+            (Function::Check, 7..=9) => laws::test_cause(call.list.slice(), self.reference),
+            _ => Ok(()),
+        }
+    }
+
+    fn repair_laws(&self, rng: &mut Rng, counts: &mut Counts) -> Result<(), String> {
         let answer = self.reference;
         let call = &self.reference_after;
-        if call.function != Function::Repair || answer.number != 0 {
-            return Ok(());
-        }
         let written = &call.out.slice()[..answer.place as usize * WORD_BYTES];
         let searched = laws::test_repair(rng, call.list.slice(), written, answer.third)?;
         counts.searched += u64::from(searched);

@@ -4,6 +4,7 @@
 use reference::answer::{Ground, Refusal};
 use reference::check::check;
 use reference::draw::draw;
+use reference::kinds::words;
 use reference::repair::{repair, Repaired};
 use reference::words::bytes_of;
 
@@ -35,6 +36,24 @@ pub fn command(number: u8) -> u64 {
 /// The check's answer as number and place.
 pub fn checked(words: &[u64]) -> (u8, usize) {
     answer(check(&bytes_of(words)).outcome)
+}
+
+/// The check's answer as number, place and cause.
+pub fn caused(words: &[u64]) -> (u8, usize, usize) {
+    caused_bytes(&bytes_of(words))
+}
+
+pub fn caused_bytes(list: &[u8]) -> (u8, usize, usize) {
+    let checked = check(list);
+    let (number, place) = answer(checked.outcome);
+    (number, place, checked.cause)
+}
+
+/// A command of this number with all other bits zero, in all its words.
+pub fn whole(number: u8) -> Vec<u64> {
+    let mut command_words = vec![0; words(number)];
+    command_words[0] = command(number);
+    command_words
 }
 
 pub fn answer(outcome: Result<usize, Refusal>) -> (u8, usize) {

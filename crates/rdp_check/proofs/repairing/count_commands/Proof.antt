@@ -2,7 +2,8 @@
 use Prim.Native.Nat.{_-_}
 use native.Mathlib.Omega.{arith}
 use borrow.Author.Needs.{needs}
-use Rattle.rdp_check.proofs.PassLaws.{Reached, reached-first, reached-next, count-few, all-passed, inside, falls, one-more}
+use Rattle.rdp_check.proofs.LeftLaws.{inside, falls}
+use Rattle.rdp_check.proofs.PassLaws.{Reached, reached-first, reached-next, count-few, all-passed, one-more}
 use Rattle.rdp_check.proofs.repairing.count_commands.Statement.{statement}
 use Rattle.rdp_check.proofs.repairing.count_commands.Tie as tie
 
@@ -25,7 +26,7 @@ add-at : tie.Need-add-at Inv-loop μ-loop
 add-at c =
     let t = c .before .before in
     let r = t .before .loop .inv in
-    omega (arith, inside r (t .loop-test .taken) _ (c .before .number-at .ensures) _ (c .words-of .ensures), r .whole .few)
+    omega (arith, inside (r .left) (t .loop-test .taken) _ (c .before .number-at .ensures) _ (c .words-of .ensures), r .whole .few)
 
 add-count : tie.Need-add-count Inv-loop μ-loop
 add-count c =
@@ -36,7 +37,7 @@ add-count c =
 loop-less : tie.Need-loop-less Inv-loop μ-loop
 loop-less c =
     let t = c .before .before in
-    falls (t .before .loop .inv) (t .loop-test .taken) _ (c .before .number-at .ensures) _ (c .words-of .ensures)
+    falls (t .before .loop .inv .left) (t .loop-test .taken) _ (c .before .number-at .ensures) _ (c .words-of .ensures)
 
 loop-again : tie.Need-loop-again Inv-loop μ-loop
 loop-again c =

@@ -2,7 +2,8 @@
 use Prim.Native.Nat.{_-_}
 use native.Mathlib.Omega.{arith}
 use borrow.Author.Needs.{needs}
-use Rattle.rdp_check.proofs.PassLaws.{count-few, inside, falls, Noting, noting-first, noting-next, note-room, noted-all}
+use Rattle.rdp_check.proofs.LeftLaws.{inside, falls}
+use Rattle.rdp_check.proofs.PassLaws.{count-few, Noting, noting-first, noting-next, note-room, noted-all}
 use Rattle.rdp_check.proofs.repairing.note_numbers.Statement.{statement}
 use Rattle.rdp_check.proofs.repairing.note_numbers.Tie as tie
 
@@ -34,7 +35,7 @@ add-at : tie.Need-add-at Inv-loop μ-loop
 add-at c =
     let t = c .before .before in
     let r = t .before .loop .inv .reached in
-    omega (arith, inside r (t .loop-test .taken) _ (c .before .number-at .ensures) _ (c .words-of .ensures), r .whole .few)
+    omega (arith, inside (r .left) (t .loop-test .taken) _ (c .before .number-at .ensures) _ (c .words-of .ensures), r .whole .few)
 
 add-i : tie.Need-add-i Inv-loop μ-loop
 add-i c =
@@ -45,7 +46,7 @@ add-i c =
 loop-less : tie.Need-loop-less Inv-loop μ-loop
 loop-less c =
     let t = c .before .before in
-    falls (t .before .loop .inv .reached) (t .loop-test .taken) _ (c .before .number-at .ensures) _ (c .words-of .ensures)
+    falls (t .before .loop .inv .reached .left) (t .loop-test .taken) _ (c .before .number-at .ensures) _ (c .words-of .ensures)
 
 loop-again : tie.Need-loop-again Inv-loop μ-loop
 loop-again c =

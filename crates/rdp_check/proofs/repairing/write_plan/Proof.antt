@@ -3,7 +3,8 @@ use mathlib.Core.Path.{refl}
 use Prim.Native.Nat.{_-_}
 use native.Mathlib.Omega.{arith}
 use borrow.Author.Needs.{needs}
-use Rattle.rdp_check.proofs.PassLaws.{Writing, writing-first, writing-next, all-written, output-long, choice-there, turn-fits, in-list, count-few, inside, falls}
+use Rattle.rdp_check.proofs.LeftLaws.{inside, falls}
+use Rattle.rdp_check.proofs.PassLaws.{Writing, writing-first, writing-next, all-written, output-long, choice-there, turn-fits, in-list, count-few}
 use Rattle.rdp_check.proofs.repairing.write_plan.Statement.{statement}
 use Rattle.rdp_check.proofs.repairing.write_plan.Tie as tie
 
@@ -58,7 +59,7 @@ add-at c =
     let words = c .before .before .before .before in
     let t = words .before .before .before in
     let r = t .before .loop .inv .reached in
-    omega (arith, inside r (t .loop-test .taken) _ (words .before .number-at .ensures) _ (words .words-of .ensures), r .whole .few)
+    omega (arith, inside (r .left) (t .loop-test .taken) _ (words .before .number-at .ensures) _ (words .words-of .ensures), r .whole .few)
 
 add-i : tie.Need-add-i Inv-loop μ-loop
 add-i c =
@@ -70,7 +71,7 @@ loop-less : tie.Need-loop-less Inv-loop μ-loop
 loop-less c =
     let words = c .before .before .before .before in
     let t = words .before .before .before in
-    falls (t .before .loop .inv .reached) (t .loop-test .taken) _ (words .before .number-at .ensures) _ (words .words-of .ensures)
+    falls (t .before .loop .inv .reached .left) (t .loop-test .taken) _ (words .before .number-at .ensures) _ (words .words-of .ensures)
 
 loop-again : tie.Need-loop-again Inv-loop μ-loop
 loop-again c =
