@@ -74,13 +74,10 @@ const char *field_name(unsigned number, size_t field);
 void field_value(const Command *command, size_t field, char *text, size_t room);
 const char *suffix_name(const Command *command, size_t word);
 
-/* -- hazards.c: the hazards before a command ---------------------------- */
+/* -- hazards.c: the hazards along a list -------------------------------- */
 
-enum { HAZARD_PIPE = 1, HAZARD_TILE = 2, HAZARD_DRAW = 4, HAZARD_LOAD = 8, HAZARD_UNKNOWN = 16 };
-typedef struct Prober Prober;
-Prober *prober_new(const List *list);
-void prober_free(Prober *prober);
-unsigned hazards_before(Prober *prober, size_t place);
+#define HAZARDS 4 /* pipe, tile, draw, load: a bit each, as in the header; a list starts at 0 */
+unsigned hazards_after(unsigned hazards, const Command *command);
 const char *hazard_name(unsigned bit);
 void hazards_text(unsigned hazards, char *text, size_t room);
 

@@ -1,29 +1,20 @@
-/* A list command by command, by the library's decoding. */
+/* A list command by command, by the library's lengths and decoding. */
 #include "cli.h"
 
-/* The bytes of a list are followed by zeros, so that a cut command has a number and a length too. */
-static size_t words_due(const uint8_t *bytes, Command *command)
-{
-    for (size_t words = 1; words <= LANYARDROVE_MOST_WORDS; words++) {
-        Answer answer = answer_of(lanyardrove_decode(bytes, 8 * words, command->fields, LANYARDROVE_MOST_FIELDS));
-        if (answer.number == LANYARDROVE_ACCEPTED) {
-            command->number = answer.third;
-            command->count = answer.place;
-            return words;
-        }
-    }
-    return 0;
-}
-
-/* The command at a place; false where no whole word is left. */
+/* The command at a place; false where no whole word is left. The bytes of a list are followed by zeros, so that a cut command is
+   decoded too. */
 bool command_at(const List *list, size_t place, Command *command)
 {
-    if (place >= list->length / 8)
+    size_t end = list->length / 8;
+    if (place >= end)
         return false;
     command->place = place;
-    command->words = words_due(list->bytes + 8 * place, command);
-    command->whole = command->words > 0 && place + command->words <= list->length / 8;
-    return command->words > 0;
+    command->words = (size_t)lanyardrove_words(word_at(list->bytes, place));
+    command->whole = command->words <= end - place;
+    Answer answer = answer_of(lanyardrove_decode(list->bytes + 8 * place, 8 * command->words, command->fields, LANYARDROVE_MOST_FIELDS));
+    command->number = answer.third;
+    command->count = answer.place;
+    return true;
 }
 
 uint64_t word_at(const uint8_t *bytes, size_t place)

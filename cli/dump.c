@@ -13,7 +13,6 @@ typedef struct {
     bool colour;
     Answer answer;
     const List *list;
-    Prober *prober;
 } Dump;
 
 #define RED "\033[1;31m"
@@ -99,12 +98,12 @@ static void print_cause(const Dump *dump)
     print_note(dump, YELLOW, note);
 }
 
-static void print_command(const Dump *dump, const Command *command)
+static void print_command(const Dump *dump, const Command *command, unsigned before)
 {
     bool refused = dump->answer.number >= LANYARDROVE_PAST_END && command->place == dump->answer.place;
     bool causes = is_missing_sync(dump->answer) && command->place == dump->answer.third;
     char hazards[64];
-    hazards_text(hazards_before(dump->prober, command->place), hazards, sizeof hazards);
+    hazards_text(before, hazards, sizeof hazards);
     printf("%6zu  %016" PRIX64 "  %s%-24s%s  hazards: %s\n", command->place, word_at(dump->list->bytes, command->place),
            style(dump, refused ? RED : causes ? YELLOW : BOLD), command_name(command->number), style(dump, RESET), hazards);
     if (refused)
@@ -132,13 +131,16 @@ static void print_rest(const Dump *dump)
 static void print_list(const Dump *dump)
 {
     Command command;
+    unsigned hazards = 0;
     fputs(style(dump, is_accepted(dump->answer) ? GREEN : RED), stdout);
     print_answer(stdout, dump->list, dump->answer, FOR_CHECK);
     fputs(style(dump, RESET), stdout);
     if (dump->list->length >= 8)
         printf("\n place  word              command\n");
-    for (size_t place = 0; command_at(dump->list, place, &command); place += command.words)
-        print_command(dump, &command);
+    for (size_t place = 0; command_at(dump->list, place, &command); place += command.words) {
+        print_command(dump, &command, hazards);
+        hazards = hazards_after(hazards, &command);
+    }
     print_rest(dump);
 }
 
@@ -153,15 +155,8 @@ int run_dump(const Arguments *arguments)
     List list;
     if (!list_read(arguments->count > 0 ? arguments->paths[0] : "-", &list))
         return STATUS_ERROR;
-    Dump dump = { wants_colour(), answer_of(lanyardrove_check(list.bytes, list.length)), &list, prober_new(&list) };
-    int status = STATUS_ERROR;
-    if (dump.prober == NULL)
-        complain("not enough memory");
-    else {
-        print_list(&dump);
-        status = status_of(dump.answer);
-    }
-    prober_free(dump.prober);
+    Dump dump = { wants_colour(), answer_of(lanyardrove_check(list.bytes, list.length)), &list };
+    print_list(&dump);
     list_free(&list);
-    return status;
+    return status_of(dump.answer);
 }

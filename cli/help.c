@@ -43,9 +43,9 @@ static const Help helps[] = {
       "Usage: lanyardrove dump [FILE]\n"
       "Shows the verdict, then the list command by command: place, words, name, the\n"
       "hazards before it (pipe, tile, draw, load) and every field. At the refused\n"
-      "command stands why, and the command that it has to wait for is marked. The\n"
-      "hazards after the refused command are not known. Without FILE the list is read\n"
-      "from standard input.\n\n"
+      "command stands why, and the command that it has to wait for is marked. After it\n"
+      "the hazards go on as if it had run. Without FILE the list is read from standard\n"
+      "input.\n\n"
       "  --help   print this\n" },
     { "draw",
       "Usage: lanyardrove draw FILE --memory BYTES [--start ADDRESS]\n"

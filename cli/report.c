@@ -21,15 +21,17 @@ static bool rows_of(const List *list, Answer answer, Rows *rows)
 {
     Command command;
     size_t words = (list->length < LIST_LIMIT ? list->length : LIST_LIMIT) / 8;
-    Prober *prober = prober_new(list);
+    unsigned hazards = 0;
     rows->rows = calloc(words + 1, sizeof *rows->rows);
-    bool done = prober != NULL && rows->rows != NULL;
-    for (size_t place = 0; done && place < words && command_at(list, place, &command); place += command.words)
-        rows->rows[rows->count++] = (Row){ place, hazards_before(prober, place) };
+    if (rows->rows == NULL)
+        return false;
+    for (size_t place = 0; place < words && command_at(list, place, &command); place += command.words) {
+        rows->rows[rows->count++] = (Row){ place, hazards };
+        hazards = hazards_after(hazards, &command);
+    }
     rows->refused = answer.number >= LANYARDROVE_PAST_END ? row_at(rows, answer.place) : rows->count;
     rows->cause = is_missing_sync(answer) ? row_at(rows, answer.third) : rows->count;
-    prober_free(prober);
-    return done;
+    return true;
 }
 
 /* Draws a list and makes the PNG of its picture, if there is one. */

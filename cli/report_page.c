@@ -71,8 +71,8 @@ static void add_hazards(Text *text, const Report *report)
         return;
     text_add(text, "<h2>Hazards before each command</h2>\n<p class=\"note\">A hazard is earlier work that may still run. The list goes from left "
                    "to right, one column for each command.");
-    if (!is_accepted(report->answer))
-        text_add(text, " Red marks the refused command%s; grey is not known, because it comes after a refused command.",
+    if (report->rows.refused < report->rows.count)
+        text_add(text, " Red marks the refused command%s. After it the hazards go on as if it had run.",
                  is_missing_sync(report->answer) ? ", yellow the one that it has to wait for" : "");
     text_add(text, "</p>\n");
     strip_add(text, &report->rows);

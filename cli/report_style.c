@@ -4,11 +4,11 @@
 static const char colours[] =
     ":root{color-scheme:light dark;--ink:#1c2128;--soft:#57606a;--paper:#ffffff;--panel:#f4f6f8;--line:#d5dbe1;--link:#0a58b5;\n"
     "--bad:#b3160b;--bad-soft:#fde5e3;--good:#1a6e2e;--good-soft:#e3f4e5;--wait:#7a5600;--wait-soft:#fff3c9;\n"
-    "--pipe:#b8540f;--tile:#7a4fb5;--draw:#1f6fb2;--load:#3a7d34;--unknown:#c3c9d0}\n"
+    "--pipe:#b8540f;--tile:#7a4fb5;--draw:#1f6fb2;--load:#3a7d34}\n"
     "@media screen and (prefers-color-scheme:dark){:root{--ink:#e4e8ec;--soft:#9aa5b1;--paper:#14181d;--panel:#1f252c;--line:#39424c;\n"
     "--link:#7db7ff;"
     "--bad:#ff8f85;--bad-soft:#4a1d1a;--good:#7ed491;--good-soft:#173a20;--wait:#e5bd4f;--wait-soft:#3b2f0d;\n"
-    "--pipe:#f0954f;--tile:#b895ee;--draw:#62b0f0;--load:#79c471;--unknown:#4a535d}}\n";
+    "--pipe:#f0954f;--tile:#b895ee;--draw:#62b0f0;--load:#79c471}}\n";
 
 static const char page[] =
     "*{box-sizing:border-box}\n"
@@ -34,7 +34,7 @@ static const char strips[] =
     ".strip .labels div{height:18px;font-size:.82rem;line-height:18px;text-align:right}\n"
     ".strip svg{width:100%;height:72px;background:var(--panel);border:1px solid var(--line);display:block}\n"
     ".strip .ends{grid-column:2;display:flex;justify-content:space-between;color:var(--soft);font-size:.8rem}\n"
-    ".h-pipe{fill:var(--pipe)}.h-tile{fill:var(--tile)}.h-draw{fill:var(--draw)}.h-load{fill:var(--load)}.h-unknown{fill:var(--unknown)}\n"
+    ".h-pipe{fill:var(--pipe)}.h-tile{fill:var(--tile)}.h-draw{fill:var(--draw)}.h-load{fill:var(--load)}\n"
     ".h-refused{fill:var(--bad);fill-opacity:.18;stroke:var(--bad);stroke-width:2}\n"
     ".h-cause{fill:#f2c230;fill-opacity:.4;stroke:var(--wait);stroke-width:2}\n"
     ".legend{display:grid;grid-template-columns:repeat(auto-fit,minmax(min(26rem,100%),1fr));gap:.15rem 1.5rem;font-size:.9rem;padding:0;\n"

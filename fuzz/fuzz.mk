@@ -5,7 +5,7 @@
 FUZZ_ARCHIVE ?= build/liblanyardrove.a
 FUZZ_OUT ?= build/fuzz
 FUZZ_SECONDS ?= 600
-FUZZ_DRIVERS := check repair draw decode encode
+FUZZ_DRIVERS := check repair draw decode encode words step
 FUZZ_FLAGS := -std=gnu17 -O2 -g -Wall -Wextra -Iinclude -Ifuzz
 FUZZ_COMMON := fuzz/lent.c fuzz/lists.c fuzz/fields.c fuzz/mutate.c fuzz/blocks.c
 FUZZ_HEADERS := fuzz/lent.h fuzz/lists.h fuzz/fields.h fuzz/library.h $(wildcard include/lanyardrove.h)
@@ -14,7 +14,8 @@ FUZZ_NAMES := $(FUZZ_DRIVERS:%=-u lanyardrove_%)
 # the versions of fuzz/wrong.c that each driver has to find
 FUZZ_WRONG := check:1 check:2 check:3 check:4 check:5 check:6 check:7 check:8 check:9 check:10 \
     repair:11 repair:12 repair:13 repair:14 repair:15 repair:16 draw:21 draw:22 draw:23 draw:24 draw:25 \
-    decode:31 decode:32 decode:33 decode:34 encode:41 encode:42 encode:43 encode:44 encode:45
+    decode:31 decode:32 decode:33 decode:34 encode:41 encode:42 encode:43 encode:44 encode:45 \
+    words:35 words:51 words:52 words:53 words:54 words:55 step:4 step:61 step:62 step:63 step:64 step:65 step:66
 
 .PHONY: fuzz-build fuzz fuzz-wrong fuzz-memcheck fuzz-always
 fuzz-build: $(FUZZ_DRIVERS:%=$(FUZZ_OUT)/%) $(FUZZ_OUT)/blocks $(FUZZ_OUT)/memcheck

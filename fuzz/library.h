@@ -13,6 +13,8 @@ uint64_t lanyardrove_draw(const uint8_t *list, size_t list_length, uint8_t *memo
 uint64_t lanyardrove_decode(const uint8_t *list, size_t list_length, uint64_t *fields, size_t count);
 uint64_t lanyardrove_encode(uint32_t number, const uint64_t *fields, size_t count, const uint8_t *suffix, size_t suffix_length, uint8_t *out,
                             size_t out_length);
+uint64_t lanyardrove_words(uint64_t first_word);
+uint64_t lanyardrove_step(uint32_t hazards, uint32_t number);
 #endif
 
 static inline unsigned number_of(uint64_t answer) { return (unsigned)(answer >> 56); }

@@ -68,9 +68,22 @@ static void one_list(const uint8_t *bytes, size_t length) {
     }
 }
 
+// Its length, and its step from each of the hazards
+static void one_length(unsigned number) {
+    const uint64_t words = lanyardrove_words((uint64_t)number << 56);
+    calls++;
+    written(&words, sizeof words);
+    for (uint32_t hazards = 0; hazards < 16; hazards++) {
+        const uint64_t step = lanyardrove_step(hazards, number);
+        calls++;
+        written(&step, sizeof step);
+    }
+}
+
 // Each command number, with all bits set, cut at every byte, decoded and encoded again
 static void one_number(unsigned number) {
     const struct shape *shape = shape_of(number);
+    one_length(number);
     uint8_t bytes[8 * MOST_WORDS + 8];
     memset(bytes, 0xFF, sizeof bytes);
     bytes[0] = (uint8_t)number;

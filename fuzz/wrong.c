@@ -10,6 +10,8 @@ uint64_t right_repair(const uint8_t *list, size_t length, uint8_t *work, size_t 
 uint64_t right_draw(const uint8_t *list, size_t length, uint8_t *memory, size_t memory_length, uint64_t start);
 uint64_t right_decode(const uint8_t *list, size_t length, uint64_t *fields, size_t count);
 uint64_t right_encode(uint32_t number, const uint64_t *fields, size_t count, const uint8_t *suffix, size_t suffix_length, uint8_t *out, size_t out_length);
+uint64_t right_words(uint64_t first_word);
+uint64_t right_step(uint32_t hazards, uint32_t number);
 
 static volatile uint8_t read;
 
@@ -80,7 +82,15 @@ uint64_t lanyardrove_draw(const uint8_t *list, size_t length, uint8_t *memory, s
     return a;
 }
 
+// Decoding of a list that lacks its last byte, as if it were there.
+static uint64_t decode_cut(const uint8_t *list, size_t length, uint64_t *fields, size_t count) {
+    uint8_t longer[LONGEST_LIST + 1] = {0};
+    if (length) memcpy(longer, list, length);
+    return right_decode(longer, length + 1, fields, count);
+}
+
 uint64_t lanyardrove_decode(const uint8_t *list, size_t length, uint64_t *fields, size_t count) {
+    if (wrong(35) && length % 8 == 7) return decode_cut(list, length, fields, count);  // a byte less than the words
     const uint64_t a = right_decode(list, length, fields, count), number = a >> 56;
     if (wrong(31) && number == 0) fields[(uint32_t)a] = 0;                        // a field more
     if (wrong(32) && number == 14 && count) fields[0] = 0;                        // writes and refuses
@@ -96,5 +106,28 @@ uint64_t lanyardrove_encode(uint32_t n, const uint64_t *fields, size_t count, co
     if (wrong(43) && number == 0 && n == 0x0D) out[32] ^= 1;                                // a bit of the suffix
     if (wrong(44) && number == 15 && n < 64 && out_length < 8) return 14ull << 56 | 1;      // 14 before 15
     if (wrong(45) && number == 0) read = suffix[suffix_length];
+    return a;
+}
+
+uint64_t lanyardrove_words(uint64_t word) {
+    const uint64_t a = right_words(word);
+    const unsigned number = word >> 56 & 63;
+    if (wrong(51) && number / 8 == 1 && number & 2) return a - 6;            // bit 57 counts as 2
+    if (wrong(52) && word >> 62) return 1;                                   // bits 63:62 count
+    if (wrong(53) && number == 0x25) return 1;                               // one word
+    if (wrong(54) && number == 0x0D) return a + 2;                           // shade and z-buffer
+    if (wrong(55) && number == 0x3F && word & 1) return 2;                   // a bit below the number counts
+    return a;
+}
+
+uint64_t lanyardrove_step(uint32_t hazards, uint32_t number) {
+    const uint64_t a = right_step(hazards, number), missing = a >> 34 & 1;
+    const unsigned n = number & 63;
+    if (wrong(61) && is_load(n)) return (a & ~8ull) | (hazards & 8);         // forgets a load
+    if (wrong(62) && missing) return a & ~(4ull << 32);                      // required and not missing
+    if (wrong(63) && missing) return (a & ~15ull) | (hazards & 15);          // the command does not run
+    if (wrong(64) && n == 0x28) return a | (hazards & 2);                    // Sync Tile leaves the textured draw
+    if (wrong(65) && hazards > 15) return right_step(0, number);             // bits above the hazards count
+    if (wrong(66) && n == 0x3D && hazards & 1) return a | 7ull << 32;        // a free command requires a sync
     return a;
 }

@@ -12,10 +12,11 @@
  * than PTRDIFF_MAX bytes, and a buffer that is written overlaps no other buffer of the call: C cannot check these three,
  * and they are the caller's to keep. Every content and every length is otherwise allowed.
  *
- * Answers. Each function but the version answers one 64-bit number, whose parts lanyardrove_number, lanyardrove_place and
- * lanyardrove_third (or _cause, _cycles, _command) give. Number 0 says that all went well; any other is the first refusal that
- * holds: 1 and 2 of the list, then command by command 3, 4, 5, 6 and 7 to 9, then those that the function adds, in the order
- * of its description. A refusal leaves every byte as it was, but for the repair's work buffer at 14.
+ * Answers. Each function but lanyardrove_version and lanyardrove_words answers one 64-bit number, whose parts
+ * lanyardrove_number, lanyardrove_place and lanyardrove_third give (or by their meaning _cause, _cycles, _command, _hazards,
+ * _required). Number 0 says that all went well; any other is the first refusal that holds: 1 and 2 of the list, then command
+ * by command 3, 4, 5, 6 and 7 to 9, then those that the function adds, in the order of its description. A refusal leaves
+ * every byte as it was, but for the repair's work buffer at 14.
  */
 #ifndef LANYARDROVE_H
 #define LANYARDROVE_H
@@ -32,7 +33,7 @@ extern "C" {
    A release steps the major number where a function of the last release is gone, takes other parameters, or answers or
    writes anything else for some input; else the minor number where a function is added; else the patch number. The numbers
    after the one that steps become 0. */
-#define LANYARDROVE_VERSION 0x020000
+#define LANYARDROVE_VERSION 0x020100
 
 uint32_t lanyardrove_version(void);
 
@@ -63,10 +64,13 @@ static inline uint32_t lanyardrove_place(uint64_t answer) { return (uint32_t)ans
 static inline uint32_t lanyardrove_third(uint64_t answer) { return (uint32_t)(answer >> 32) & 0xFFFFFFu; }
 
 /* The third number by its meaning: the cause that the check gives, the cycles that a repair inserted, the number of a decoded
-   command. The last two are 0 at a refusal. In the answers of drawing and encoding the third number is 0. */
+   command. The last two are 0 at a refusal. In the answers of drawing and encoding the third number is 0.
+   Of a step's answer the place is the hazards after it, and the third number's low two bits are the sync required. */
 static inline uint32_t lanyardrove_cause(uint64_t checked) { return lanyardrove_third(checked); }
 static inline uint32_t lanyardrove_cycles(uint64_t repaired) { return lanyardrove_third(repaired); }
 static inline uint32_t lanyardrove_command(uint64_t decoded) { return lanyardrove_third(decoded); }
+static inline uint32_t lanyardrove_hazards(uint64_t stepped) { return lanyardrove_place(stepped); }
+static inline uint32_t lanyardrove_required(uint64_t stepped) { return lanyardrove_third(stepped) % 4; }
 
 /* The check of a list: 0 at the number of its words, or the first of refusals 1 to 9. The list is read only.
    The third number is the cause. At 7, 8 and 9 it is the place of the command that the missing sync has to wait for, the
@@ -75,6 +79,23 @@ static inline uint32_t lanyardrove_command(uint64_t decoded) { return lanyardrov
    At every other answer it is the list's whole words, list_length / 8 rounded down, also at 1; it is at most 16,777,215,
    which stands for that and more (a list of 128 MiB and up). */
 uint64_t lanyardrove_check(const uint8_t *list, size_t list_length);
+
+/* The hazards: earlier work that may still run. A state is the sum of those that stand, 0 to 15; a list starts at 0. */
+enum lanyardrove_hazard {
+    LANYARDROVE_HAZARD_PIPE = 1, /* A draw since the last Sync Pipe or Sync Full. */
+    LANYARDROVE_HAZARD_TILE = 2, /* A textured draw since the last Sync Tile, Sync Pipe or Sync Full. */
+    LANYARDROVE_HAZARD_DRAW = 4, /* A draw since the last sync of any kind. */
+    LANYARDROVE_HAZARD_LOAD = 8  /* A load since the last sync of any kind. */
+};
+
+/* One step of the hazards: of hazards only the low four bits count, of the command's number only the low six.
+   Answers 0, the hazards after the command as the place, as if it ran also where it misses a sync, and as the third number
+   the sync that it requires: 0 none, 1 Sync Load, 2 Sync Tile, 3 Sync Pipe, and 4 more where it is missing. A sync is required
+   exactly where it is missing, so the third number is 0, 5, 6 or 7: lanyardrove_required gives 0 to 3.
+   With lanyardrove_words a list is walked command by command, whether the check accepts it or not; word is the one at place:
+       hazards = lanyardrove_hazards(lanyardrove_step(hazards, (uint32_t)(word >> 56)));
+       place += lanyardrove_words(word); */
+uint64_t lanyardrove_step(uint32_t hazards, uint32_t number);
 
 /* The repair of a list: writes it to the front of out with the Sync Load, Sync Tile and Sync Pipe words inserted that it
    misses, at the fewest cycles possible (25, 33 and 50 each). The written list passes the check and keeps every given word.
@@ -100,6 +121,11 @@ uint64_t lanyardrove_draw(const uint8_t *list, size_t list_length,
 /* The longest command's words, and the most fields that a command has. */
 #define LANYARDROVE_MOST_WORDS 22
 #define LANYARDROVE_MOST_FIELDS 37
+
+/* The words of the command that begins with this word: a plain count, 1 to LANYARDROVE_MOST_WORDS, never refused.
+   A triangle (0x08-0x0F) has 4, and 8, 8 and 2 more for bits 58, 57 and 56; 0x24 and 0x25 have 2, all others 1. Bits 63:62
+   and bits 55:0 do not count. Decoding takes exactly so many words. */
+uint64_t lanyardrove_words(uint64_t first_word);
 
 /* The first command of a list: writes its fields to the front of fields, one number each, in the order of the table below.
    Answers 0, the fields written as the place, and the command's number (0 to 63) as lanyardrove_command; 3 at 0 where its

@@ -19,6 +19,8 @@ const FUNCTIONS: &[&str] = &[
     "lanyardrove_draw",
     "lanyardrove_decode",
     "lanyardrove_encode",
+    "lanyardrove_words",
+    "lanyardrove_step",
 ];
 const BENCH_FUNCTIONS: &[&str] = &["lanyardrove_bench_registers"];
 

@@ -2,7 +2,7 @@
 import os
 import sys
 
-from support import TOP, words
+from support import TOP
 
 sys.path.append(os.path.join(TOP, "tools"))
 import vectors  # noqa: E402
@@ -63,14 +63,29 @@ def cause_of(given, number):
     return max(place for place, here in commands_of(given) if misses_sync(after(set(), here), number))
 
 
+def hazards_along(given):
+    """The hazards before each command of a list's words; a command that misses a sync counts as one that ran."""
+    hazards, before = set(), []
+    for _, number in commands_of(given):
+        before.append(hazards)
+        hazards = after(hazards, number)
+    return before
+
+
+def random_command(rng, number, ignored=None):
+    """The words of a command, random but for its number; bits 63:62 too, where they are not given."""
+    high = rng.getrandbits(2) if ignored is None else ignored
+    return [high << 62 | number << 56 | rng.getrandbits(56), *[rng.getrandbits(64) for _ in range(words_of(number) - 1)]]
+
+
 def accepted_list(rng, setup, commands):
-    """A random list that the check accepts, and the hazards before each of its commands. Without a setup nothing is drawn."""
-    data, hazards, expected = list(setup), set(), [set() for _ in setup]
+    """The words of a random list that the check accepts. Without a setup nothing is drawn."""
+    data, hazards = list(setup), set()
     draws = [8, 0xA, 0xF, 0x24, 0x25, 0x36] if setup else []
-    while len(expected) < commands:
+    while commands > len(setup):
         number = rng.choice(draws * 2 + [0x26, 0x27, 0x28, 0x34, 0x33, 0x30, 0x35, 0x38, 0x3A, 0x32, 0])
         if not misses_sync(hazards, number):
-            expected.append(hazards)
             data += [number << 56] + [0] * (words_of(number) - 1)
             hazards = after(hazards, number)
-    return words(*data), expected
+            commands -= 1
+    return data

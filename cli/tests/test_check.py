@@ -1,13 +1,11 @@
 """lanyardrove check."""
-import functools
 import os
 import random
 import re
 import shutil
-import struct
 import subprocess
 
-from rules import NAMES, accepted_list, after, cause_of, commands_of, misses_sync, words_of
+from rules import NAMES, accepted_list, cause_of, hazards_along, misses_sync, words_of
 from support import C, L, LOAD, N, ONE_CYCLE, PIPE, R, S, TILE, TOOL, example, read, run, same, test, words, write
 
 
@@ -65,11 +63,10 @@ def check_names_the_latest_command_that_the_sync_has_to_wait_for():
 def check_names_the_cause_in_random_lists():
     rng, tried = random.Random(4), 0
     for _ in range(60):
-        data = accepted_list(rng, [ONE_CYCLE, *S[1:]], rng.randrange(4, 60))[0]
-        given = struct.unpack(f">{len(data) // 8}Q", data)
-        hazards = functools.reduce(lambda before, command: after(before, command[1]), commands_of(given), set())
+        given = accepted_list(rng, [ONE_CYCLE, *S[1:]], rng.randrange(4, 60))
+        hazards = hazards_along([*given, N])[-1]
         for number in [n for n in range(64) if misses_sync(hazards, n)][:3]:
-            out = run("check", stdin=data + words(number << 56, *[0] * (words_of(number) - 1)))[1]
+            out = run("check", stdin=words(*given, number << 56, *[0] * (words_of(number) - 1)))[1]
             cause = cause_of(given, number)
             assert out.endswith(f", for the {NAMES[given[cause] >> 56]} at word {cause}\n"), out
             tried += 1

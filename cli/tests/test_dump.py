@@ -5,8 +5,10 @@ import random
 import re
 import subprocess
 
-from rules import NAMES, accepted_list, fields_of, words_of
+from rules import NAMES, accepted_list, commands_of, fields_of, hazards_along, random_command, words_of
 from support import C, FULL, L, N, ONE_CYCLE, PIPE, R, S, TILE, TOOL, example, read, run, same, test, words
+
+FOUR_BITS = [S[0], 0x3F00000000000000, S[2]]  # no draw may follow
 
 
 def dumped(data, status=None):
@@ -57,7 +59,7 @@ def dump_shows_the_refusal_at_its_line_and_what_follows():
     assert text.startswith(f"9 4\n{meaning}\n"), text
     assert "        >> refused, 9 4: word 4: Set Fill Color requires Sync Pipe, for the Fill\n           Rectangle at word 3\n        color=" in text, text
     same(notes(text), [(3, "causes the refusal at word 4"), (4, f"refused, 9 4: {meaning}")])
-    same([c[2:4] for c in dumped_commands(text)][5:], [["Load Tile", "unknown"], ["Sync Full", "unknown"]])
+    same([c[2:4] for c in dumped_commands(text)][5:], [["Load Tile", "pipe draw"], ["Sync Full", "pipe draw load"]])
     assert ">>" not in dumped(read(example("i.rdp")), 0)
 
 
@@ -83,13 +85,17 @@ def dump_shows_what_is_no_whole_command():
     assert "=" not in text, text  # a cut command has no fields
     text = dumped(words(*S, 0x24 << 56) + b"\xAB", 1)
     assert "     4  AB  no whole word\n" in text and "Texture Rectangle" in text, text
-    same(dumped_commands(text)[3][3], "none")  # the words before are known, though the length is refused
+    same(dumped_commands(dumped(words(*S, R, 0x24 << 56), 1))[4][2:4], ["Texture Rectangle", "pipe draw"])  # cut, and yet the hazards before it
 
 
 @test
 def dump_of_a_list_that_is_too_long():
-    found = dumped_commands(dumped(words(*S, *[N] * 4094), 1))
-    same((len(found), found[4095][3], found[4096][3]), (4097, "none", "unknown"))
+    given = [*S, *[N] * 4091, R, L, L, 0x24 << 56, 0, TILE, N]
+    found = dumped_commands(dumped(words(*given), 1))
+    same([(c[0], c[3]) for c in found[4093:]], [(4093, "none"), (4094, "none"), (4095, "pipe draw"), (4096, "pipe draw load"), (4097, "pipe draw load"),
+                                                (4099, "pipe tile draw load"), (4100, "pipe")])
+    found = dumped_commands(dumped(words(R, *[N] * 131071), 1))
+    same((len(found), {c[3] for c in found[1:]}), (131072, {"pipe draw"}))
     assert "the file goes on after 1048576 bytes" in run("dump", "/dev/zero")[1]
 
 
@@ -97,8 +103,7 @@ def dump_of_a_list_that_is_too_long():
 def dump_shows_the_fields_of_document_000():
     rng = random.Random(3)
     for number in list(range(64)) * 2:
-        given = [rng.getrandbits(64) for _ in range(words_of(number))]
-        given[0] = given[0] & ~(63 << 56) | number << 56
+        given = random_command(rng, number)
         fields = dumped_commands(dumped(words(*given)))[0][4]
         same([(name, int(text.split(" ")[0], 0)) for name, text in fields.items()], fields_of(number, given), hex(number))
 
@@ -140,26 +145,50 @@ def dump_names_every_command_number():
 
 
 @test
+def dump_shows_the_words_of_every_command():
+    rng = random.Random(4)
+    given = [word for number in range(64) for bits in range(4) for word in random_command(rng, number, bits)]
+    text = dumped(words(*given), 1)
+    same([(c[0], c[2]) for c in dumped_commands(text)], [(place, NAMES[number]) for place, number in commands_of(given)])
+    same([int(word, 16) for word in re.findall(r"^ *\d+  ([0-9A-F]{16})", text, re.M)], given)
+
+
+def dumped_hazards(given, status):
+    """The hazards before each command of a dump."""
+    return [set(c[3].split()) - {"none"} for c in dumped_commands(dumped(words(*given), status))]
+
+
+@test
 def dump_shows_the_hazards_of_document_01():
     rng = random.Random(1)
     modes = [ONE_CYCLE, S[1], S[2]]
-    four_bits = [S[0], 0x3F00000000000000, S[2]]  # no draw may follow
     for setup, commands in ((modes, 150), (modes, 150), ([], 60)):
-        data, expected = accepted_list(rng, setup, commands)
-        same([set(c[3].split()) - {"none"} for c in dumped_commands(dumped(data, 0))], expected)
-    found = [c[3] for c in dumped_commands(dumped(words(*four_bits, L, N), 0))]
+        given = accepted_list(rng, setup, commands)
+        same(dumped_hazards(given, 0), hazards_along(given))
+    found = [c[3] for c in dumped_commands(dumped(words(*FOUR_BITS, L, N), 0))]
     same(found, ["none"] * 4 + ["load"])
-    found = [c[3] for c in dumped_commands(dumped(words(*modes, 0x24 << 56, 0, TILE, L, PIPE, *four_bits[:2], L, N, FULL), 0))]
+    found = [c[3] for c in dumped_commands(dumped(words(*modes, 0x24 << 56, 0, TILE, L, PIPE, *FOUR_BITS[:2], L, N, FULL), 0))]
     same(found, ["none"] * 4 + ["pipe tile draw", "pipe", "pipe load", "none", "none", "none", "load", "load"])
+
+
+@test
+def dump_shows_the_hazards_after_a_refusal():
+    rng = random.Random(5)
+    for first in (R, FULL, 0x0F << 56):  # each refused where it stands or right after
+        given = [first, *[0] * (words_of(first >> 56) - 1)]
+        for _ in range(300):
+            given += random_command(rng, rng.randrange(64))
+        same(dumped_hazards(given, 1), hazards_along(given))
 
 
 @test
 def dump_of_the_longest_list():
     found = dumped_commands(dumped(words(L, *[N] * 4095), 0))
-    same(len(found), 4096)
-    same({c[3] for c in found[1:4093]}, {"load"})
-    found = dumped_commands(dumped(words(*S, *[N] * 4091, L, N), 0))
-    same((len(found), found[-1][3]), (4096, "load"))
+    same((len(found), {c[3] for c in found[1:]}), (4096, {"load"}))
+    found = dumped_commands(dumped(words(*FOUR_BITS, *[N] * 4090, L, N, N), 0))
+    same([c[3] for c in found[4093:]], ["none", "load", "load"])
+    found = dumped_commands(dumped(words(*S, *[N] * 4090, R, L, C), 1))  # each of the last two misses a sync
+    same([c[3] for c in found[4093:]], ["none", "pipe draw", "pipe draw load"])
 
 
 def on_a_terminal(env):

@@ -5,6 +5,7 @@ import os
 import re
 import struct
 
+from rules import commands_of, hazards_along
 from support import C, L, N, ONE_CYCLE, R, S, example, memory_of_i, png_pixels, read, rgb_of, run, same, test, words, write
 
 
@@ -14,6 +15,7 @@ class Page(html.parser.HTMLParser):
     def __init__(self, source):
         super().__init__()
         self.source, self.text, self.open, self.rows, self.images, self.tags = source, "", [], [], [], set()
+        self.hazards = re.findall('<td class="hazards">(.*?)</td>', source)
         self.feed(source)
         self.close()
         same(self.open, [])
@@ -148,9 +150,20 @@ def report_shows_hazards_along_the_list():
     strips = re.findall(r'<svg viewBox="0 0 (\d+) 72".*?>(.*?)</svg>', page.source, re.S)
     bars = [re.findall(r'<rect class="h-(\w+)" x="(\d+)" y="(\d+)" width="(\d+)" height="(\d+)"', strip) for _, strip in strips]
     same([columns for columns, _ in strips], ["7", "8"])
-    # before words 4 and 5 pipe and draw; from word 6 on unknown, on all four lines; the refused command is word 5, for the draw at word 3
-    same(bars[0], [("unknown", "6", "0", "1", "72"), ("pipe", "4", "2", "2", "14"), ("draw", "4", "38", "2", "14"), ("cause", "3", "0", "1", "72"),
+    # from word 4 on pipe and draw, after the refused command at word 5 too, and then load; it is refused for the draw at word 3
+    same(bars[0], [("pipe", "4", "2", "3", "14"), ("draw", "4", "38", "3", "14"), ("load", "6", "56", "1", "14"), ("cause", "3", "0", "1", "72"),
                    ("refused", "5", "0", "1", "72")])
     # repaired: S R N Pipe L C
     same(bars[1], [("pipe", "4", "2", "2", "14"), ("draw", "4", "38", "2", "14"), ("load", "7", "56", "1", "14")])
-    assert "pipe: before the commands at words 4 to 5" in page.text
+    assert "pipe: before the commands at words 4 to 6" in page.text
+    assert "After it the hazards go on as if it had run." in page.text and "unknown" not in page.source
+
+
+@test
+def report_shows_the_hazards_to_the_end():
+    triangle = [0x0F << 56, *[R] * 21]
+    for given in ([*S, L, *[N] * 4092], [*S, R, C, L, *[N] * 4000, *triangle, N], [L, *[N] * 4996, R, C, L], [R, C, 0x24 << 56]):
+        page = reported(words(*given), 0 if len(given) == 4096 else 1)
+        shown = [text for (place, _), text in zip(commands_of(given), hazards_along(given)) if place < 4096]
+        same(page.hazards, [" ".join(name for name in ("pipe", "tile", "draw", "load") if name in hazards) or "none" for hazards in shown])
+    assert "Red marks" not in reported(bytes(7), 1).text and "Red marks" not in reported(bytes(32776), 1).text

@@ -100,6 +100,12 @@ pub fn words(number: u8) -> usize {
     base_words(number) + suffix_words(number)
 }
 
+/// Request #102: the words of the command that begins with this word, whatever its
+/// other bits.
+pub fn words_from(first_word: u64) -> usize {
+    words(command_number(first_word))
+}
+
 /// A command of a list: where it stands, and its first word.
 #[derive(Clone, Copy, Debug, PartialEq, Eq)]
 pub struct Command {
@@ -120,7 +126,7 @@ pub fn commands(list: &[u8]) -> impl Iterator<Item = Command> + '_ {
     std::iter::from_fn(move || {
         let word = (place < end).then(|| word_at(list, place))?;
         let command = Command { place, word };
-        place += words(command.number());
+        place += words_from(word);
         Some(command)
     })
 }

@@ -16,6 +16,24 @@ pub struct Marks {
 }
 
 impl Marks {
+    /// The marks as one number: P 1, T 2, D 4, G 8, summed.
+    pub fn sum(self) -> u32 {
+        u32::from(self.pipe)
+            + 2 * u32::from(self.tile)
+            + 4 * u32::from(self.drawing)
+            + 8 * u32::from(self.loading)
+    }
+
+    /// The marks of a sum. Higher bits don't count.
+    pub fn of_sum(sum: u32) -> Marks {
+        Marks {
+            pipe: sum & 1 != 0,
+            tile: sum & 2 != 0,
+            drawing: sum & 4 != 0,
+            loading: sum & 8 != 0,
+        }
+    }
+
     /// The shortest sync that the command needs now, if it needs one.
     pub fn missing_sync(self, number: u8) -> Option<Sync> {
         let (need, sync) = match kind(number) {

@@ -1,9 +1,11 @@
 //! The answers as the C functions give them, each in one 64-bit number: bits
 //! 63:56 the number, bits 31:0 the place (words written, at 0), bits 55:32 the
 //! third number (cause for check, cycles for repair, command number for decode,
-//! else 0).
+//! sync for step, else 0). Only the words of a command are a plain count.
 
 use crate::answer::{Ground, Refusal};
+use crate::kinds::{words_from, Sync};
+use crate::marks::Marks;
 use crate::{check, decode, draw, encode, repair};
 
 /// An answer in its three parts.
@@ -96,5 +98,35 @@ pub fn encode(number: u32, fields: &[u64], suffix: &[u8], out: &mut [u8]) -> u64
     match encode::encode(number, fields, suffix, out) {
         Ok(words) => accepted(words, 0),
         Err(refusal) => refused(refusal),
+    }
+}
+
+/// `lanyardrove_words`: a plain count, never refused.
+pub fn words(first_word: u64) -> u64 {
+    words_from(first_word) as u64
+}
+
+/// What a missing sync adds to its number in a step's third number.
+const MISSING: u32 = 4;
+
+/// `lanyardrove_step`: the marks after a command, as if it ran, and the sync that it
+/// requires, which then is missing. Of the marks the low four bits count, of the
+/// number the low six.
+pub fn step(hazards: u32, number: u32) -> u64 {
+    let marks = Marks::of_sum(hazards);
+    let number = (number % 64) as u8;
+    let third = match marks.missing_sync(number) {
+        Some(sync) => sync_number(sync) + MISSING,
+        None => 0,
+    };
+    accepted(marks.after(number).sum() as usize, third)
+}
+
+fn sync_number(sync: Sync) -> u32 {
+    match sync {
+        Sync::Load => 1,
+        Sync::Tile => 2,
+        Sync::Pipe => 3,
+        Sync::Full => unreachable!("no command needs a Sync Full"),
     }
 }

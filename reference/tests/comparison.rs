@@ -5,6 +5,7 @@ use reference::comparison::calls::Function;
 use reference::comparison::run::{run, Difference};
 use reference::comparison::side::{Reference, Side};
 use reference::kinds::{commands, is_draw};
+use reference::words::command_number;
 
 const SEED: u64 = 7;
 const CASES: u64 = 4_000;
@@ -45,8 +46,24 @@ enum Fault {
     FieldBeyond,
     /// A signed field loses its sign.
     Sign,
+    /// A command may be cut by one byte.
+    CutCommand,
     /// Encoding refuses 14 before 15.
     EncodingOrder,
+    /// A triangle's texture has two words.
+    TextureWords,
+    /// Bits 63:62 count as parts of the number.
+    IgnoredBits,
+    /// A flipped texture rectangle has one word.
+    FlippedWord,
+    /// A load leaves the marks as they are.
+    LoadForgotten,
+    /// A missing sync is said to be required, but not to be missing.
+    NotMissing,
+    /// A command that misses a sync does not run.
+    StepStops,
+    /// The bits above the command number count.
+    BitsAbove,
 }
 
 /// The reference with one fault.
@@ -113,6 +130,9 @@ impl Side for Faulty {
     }
 
     fn decode(&self, list: &[u8], fields: &mut [u64]) -> u64 {
+        if self.0 == Fault::CutCommand && list.len() % 8 == 7 {
+            return Reference.decode(&[list, &[0]].concat(), fields);
+        }
         let answer = Reference.decode(list, fields);
         let written = if ground(answer) == 0 {
             answer as u32
@@ -135,6 +155,30 @@ impl Side for Faulty {
             return 14 << 56 | 1;
         }
         Reference.encode(number, fields, suffix, out)
+    }
+
+    fn words(&self, first_word: u64) -> u64 {
+        let words = Reference.words(first_word);
+        match (self.0, command_number(first_word)) {
+            (Fault::TextureWords, 0x0A | 0x0B | 0x0E | 0x0F) => words - 6,
+            (Fault::IgnoredBits, _) if first_word >> 62 != 0 => 1,
+            (Fault::FlippedWord, 0x25) => 1,
+            _ => words,
+        }
+    }
+
+    fn step(&self, hazards: u32, number: u32) -> u64 {
+        let answer = Reference.step(hazards, number);
+        let missing = answer >> 34 & 1 != 0;
+        match self.0 {
+            Fault::LoadForgotten if matches!(number % 64, 0x30 | 0x33 | 0x34) => {
+                answer & !8 | u64::from(hazards) & 8
+            }
+            Fault::NotMissing => answer & !(4 << 32),
+            Fault::StepStops if missing => answer & 7 << 32 | u64::from(hazards % 16),
+            Fault::BitsAbove if number >= 64 => Reference.step(hazards, 0),
+            _ => answer,
+        }
     }
 }
 
@@ -161,7 +205,15 @@ fn every_fault_is_found_in_its_function() {
         (Fault::Cycles, Function::Repair),
         (Fault::FieldBeyond, Function::Decode),
         (Fault::Sign, Function::Decode),
+        (Fault::CutCommand, Function::Words),
         (Fault::EncodingOrder, Function::Encode),
+        (Fault::TextureWords, Function::Words),
+        (Fault::IgnoredBits, Function::Words),
+        (Fault::FlippedWord, Function::Words),
+        (Fault::LoadForgotten, Function::Step),
+        (Fault::NotMissing, Function::Step),
+        (Fault::StepStops, Function::Step),
+        (Fault::BitsAbove, Function::Step),
     ];
     for (fault, function) in faults {
         assert_eq!(found(fault).call.function, function, "{fault:?}");

@@ -1,6 +1,7 @@
 /*
  * Calls every function of include/lanyardrove.h through the archive: empty, short, cut and longest lists, null pointers where
- * a length is 0, document 01's examples, guard bytes around every buffer, and every command number there and back.
+ * a length is 0, document 01's examples, guard bytes around every buffer, every command number there and back, its length, and
+ * its step from each of the sixteen hazards.
  * It compiles as C11 and as C++17. The last line counts the checks; the exit status says whether all passed.
  */
 #include "lanyardrove.h"
@@ -130,6 +131,8 @@ static void parts(void) {
     CHECK(lanyardrove_place(answer) == 4);
     answer = ~(uint64_t)0;
     CHECK(lanyardrove_number(answer) == 0xFF && lanyardrove_third(answer) == 0xFFFFFF && lanyardrove_place(answer) == 0xFFFFFFFFu);
+    answer = (uint64_t)6 << 32 | 13;
+    CHECK(lanyardrove_hazards(answer) == 13 && lanyardrove_required(answer) == 2);
 }
 
 /* A null pointer, for each pointer of each function, where its length is 0. */
@@ -564,7 +567,8 @@ static void one_number(unsigned number, uint64_t *words) {
         expected[k] = field_of(&lines[k], words);
     }
 
-    /* decode: the fields, nothing beyond; too few fields; cut words */
+    /* decode: the fields, nothing beyond; too few fields; cut words. It takes as many words as are due */
+    CHECK(lanyardrove_words(words[0]) == n);
     list_of(words, n);
     fresh_fields();
     ANSWERS(lanyardrove_decode(a_list.bytes, 8 * n, some_fields, count), 0, number, (unsigned)count);
@@ -663,6 +667,115 @@ static void exact_blocks(void) {
     }
 }
 
+/* ---- Lengths: every number, with each setting of the bits 63:62 that are ignored, and any bits below the number. */
+
+static void lengths(void) {
+    static const unsigned triangles[] = {4, 6, 12, 14, 12, 14, 20, 22}; /* 0x08 to 0x0F */
+    uint64_t number, high;
+    unsigned round;
+    for (number = 0; number < 64; number++) {
+        const uint64_t due = number / 8 == 1 ? triangles[number % 8] : number == 0x24 || number == 0x25 ? 2 : 1;
+        for (high = 0; high < 4; high++)
+            for (round = 0; round < 20; round++) {
+                const uint64_t low = round == 0 ? 0 : round == 1 ? ~(uint64_t)0 : random_word();
+                CHECK(lanyardrove_words(high << 62 | number << 56 | low >> 8) == due);
+            }
+    }
+    CHECK(lanyardrove_words(UINT64_MAX) == 1);
+    CHECK(lanyardrove_words(0x0FFFFFFFFFFFFFFFu) == LANYARDROVE_MOST_WORDS);
+}
+
+/* ---- One step of the hazards, by document 01's table of commands and its needs. */
+
+#define P LANYARDROVE_HAZARD_PIPE
+#define T LANYARDROVE_HAZARD_TILE
+#define D LANYARDROVE_HAZARD_DRAW
+#define G LANYARDROVE_HAZARD_LOAD
+
+/* What a kind of command does: the hazards that it sets and that it leaves, the one that it waits for, and the sync that then
+   is missing (1 Load, 2 Tile, 3 Pipe). */
+typedef struct {
+    char kind;
+    unsigned sets, leaves, waits_for, sync;
+} Kind;
+
+static const Kind KINDS[] = {
+    {'.', 0, P | T | D | G, 0, 0},         /* no operation or free */
+    {'d', P | D, P | T | D | G, G, 1},     /* draw: triangle without texture, Fill Rectangle */
+    {'t', P | T | D, P | T | D | G, G, 1}, /* textured draw: triangle with bit 57, texture rectangle */
+    {'g', G, P | T | D | G, D, 1},         /* load */
+    {'s', 0, P | T | D | G, T, 2},         /* Set Tile */
+    {'a', 0, P | T | D | G, P, 3},         /* attribute */
+    {'1', 0, P | T, 0, 0},                 /* Sync Load */
+    {'2', 0, P, 0, 0},                     /* Sync Tile */
+    {'3', 0, 0, 0, 0}                      /* Sync Pipe and Sync Full */
+};
+
+/* The kind of each command number, eight to a line. */
+static const char *const NUMBERS = "........"  /* 0x00 */
+                                   "ddttddtt"  /* 0x08 */
+                                   "........"  /* 0x10 */
+                                   "........"  /* 0x18 */
+                                   "....tt13"  /* 0x20 */
+                                   "23aaa..a"  /* 0x28 */
+                                   "g..ggsda"  /* 0x30 */
+                                   "aa.aa.aa"; /* 0x38 */
+
+static const Kind *kind_of(unsigned number) {
+    const Kind *kind = KINDS;
+    while (kind->kind != NUMBERS[number]) kind++;
+    return kind;
+}
+
+/* Bits above the low four of the hazards and the low six of the number do not count. */
+static void steps(void) {
+    static const uint32_t above[] = {0, 0x10, 0x40, 0x80000000u, 0xFFFFFFC0u};
+    uint32_t number, hazards;
+    size_t i;
+    for (number = 0; number < 64; number++)
+        for (hazards = 0; hazards < 16; hazards++) {
+            const Kind *kind = kind_of(number);
+            const unsigned missing = hazards & kind->waits_for ? kind->sync + 4 : 0;
+            const unsigned after = (hazards & kind->leaves) | kind->sets;
+            for (i = 0; i < sizeof above / sizeof above[0]; i++) {
+                ANSWERS(lanyardrove_step(hazards | above[i], number), 0, missing, after);
+                ANSWERS(lanyardrove_step(hazards, number | (above[i] & ~(uint32_t)63)), 0, missing, after);
+            }
+            ANSWERS(lanyardrove_step(hazards | 0xFFFFFFF0u, number | 0xFFFFFFC0u), 0, missing, after);
+        }
+}
+
+/* A list walked by lengths and steps: the first sync that is missing is the one that the check names. */
+static void walk(const uint64_t *words, size_t n, size_t place, unsigned required, unsigned last, int line) {
+    uint32_t hazards = 0;
+    size_t at, first = n;
+    unsigned sync = 0;
+    for (at = 0; at < n; at += (size_t)lanyardrove_words(words[at])) {
+        const uint64_t answer = lanyardrove_step(hazards, (uint32_t)(words[at] >> 56));
+        if (lanyardrove_required(answer) && first == n) {
+            first = at;
+            sync = lanyardrove_required(answer);
+        }
+        hazards = lanyardrove_hazards(answer);
+    }
+    expect(at == n && first == place && sync == required && hazards == last, "the walk of a list", line);
+}
+#define WALK(words, place, required, last) walk((words), sizeof(words) / 8, (place), (required), (last), __LINE__)
+
+static void walks(void) {
+    const uint64_t g[] = {S, R, C}, h_pipe[] = {S, R, PIPE, C}, j[] = {S, R, L, C}, k[] = {S, R, LOAD, L, R};
+    const uint64_t tiles[] = {S, TEXTURED, R, LOAD, SET_TILE, FULL}; /* R is the texture rectangle's second word */
+    WALK(g, 4, 3, P | D);
+    WALK(h_pipe, 6, 0, 0);
+    WALK(j, 4, 1, P | D | G); /* as if the load had run, and the attribute after it */
+    WALK(k, 6, 1, P | D | G);
+    WALK(tiles, 6, 2, 0);
+}
+#undef P
+#undef T
+#undef D
+#undef G
+
 int main(void) {
     parts();
     null_pointers();
@@ -674,6 +787,9 @@ int main(void) {
     draw_lists();
     every_number();
     exact_blocks();
+    lengths();
+    steps();
+    walks();
     if (failures)
         printf("test_boundary: %lu checks, %lu FAILED\n", checks, failures);
     else

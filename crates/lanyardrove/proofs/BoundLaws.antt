@@ -1,10 +1,11 @@
 -- The answers that occur fit the bits that they are packed into, so that none loses a part. Assumes nothing.
-use Prim.Native.Nat.{ℕ, _^_, _<_}
-use mathlib.Core.Bool.{Bool, true, false, cond}
+use Prim.Native.Nat.{ℕ, _%_, _^_, _<_, _≤_}
+use mathlib.Core.Bool.{Bool, true, false, cond, not}
 use mathlib.Core.List.{List}
 use mathlib.Core.Path.{_≡_, refl}
+use native.Mathlib.Nat.{mod-lt}
 use native.Mathlib.Omega.{arith}
-use lib.Dec.{eqb}
+use lib.Dec.{eqb, lit<}
 use Rattle.rdp_words.specs.Words.{wordAt}
 use Rattle.rdp_words.specs.Lengths.{firstNumber}
 use Rattle.rdp_command.specs.Decode.{decodeOf}
@@ -14,13 +15,29 @@ use Rattle.rdp_command.specs.declared.Decoded.{Decoded}
 use Rattle.rdp_command.specs.declared.Decoded.the-variants.{Whole, Refused}
 use Rattle.rdp_words.proofs.PlaceLaws.{number-small}
 use Rattle.rdp_command.proofs.BoundLaws.{decode-refused, fields-decoded, lines-most, fields-most, fields-place, from-refused, encode-most, encode-words}
+use Rattle.rdp_check.specs.Hazards.{requiredOf}
+use Rattle.rdp_check.proofs.HazardLaws.{next-small, required-most}
 use Rattle.rdp_check.specs.Check.{checkRefusals, checkOf}
 use Rattle.rdp_check.specs.declared.Repaired.{Repaired}
 use Rattle.rdp_draw.specs.Draw.{drawAnswer}
 use Rattle.rdp_check.proofs.BoundLaws.{checkNumbers, repairNumbers, check-numbers, among-below, place-most, Bounds, repair-bounds}
 use Rattle.rdp_draw.proofs.BoundLaws.{drawNumbers, draw-numbers, draw-place}
-use Rattle.lanyardrove.specs.Replies.{Reply, packed, unpacked, plain, checkReply, repairReply, drawReply, decodedReply, decodeReply, madeReply, encodeReply, Occurs, ofCheck, ofRepair, ofDraw, ofDecode, ofEncode}
+use Rattle.lanyardrove.specs.Replies.{Reply, packed, unpacked, plain, stepReply, checkReply, repairReply, drawReply, decodedReply, decodeReply, madeReply, encodeReply, Occurs, ofStep, ofCheck, ofRepair, ofDraw, ofDecode, ofEncode}
 use Rattle.lanyardrove.proofs.PackLaws.{Small, unpacked-packed, packed-fits}
+
+step-small : (hazards number : ℕ) → Small (stepReply hazards number)
+step-small hazards number =
+    let m = hazards % 16 in
+    let n = number % 64 in
+    record {
+      number = omega arith;
+      third = omega (arith, required-most m n (mod-lt number (lit< tt)), cond-most (not (eqb (requiredOf m n) 0)));
+      place = omega (arith, next-small m n);
+    }
+  where
+    cond-most : (b : Bool) → cond b 4 0 ≤ 4
+    cond-most true = omega arith
+    cond-most false = omega arith
 
 check-small : (list : List ℕ) → Small (checkReply list)
 check-small list = record { number = among-below 256 (checkOf list .number) checkNumbers tt (check-numbers list); third = omega arith; place = omega (arith, place-most 4096 checkRefusals list) }
@@ -64,6 +81,7 @@ encode-small number fields suffix out = made-small number fields suffix out (fro
 
 -- every answer that occurs fits its bits
 pub small : {r : Reply} → Occurs r → Small r
+small (ofStep hazards number) = step-small hazards number
 small (ofCheck list) = check-small list
 small (ofRepair is) = repair-small _ (repair-bounds is)
 small (ofDraw list start len) = draw-small list start len

@@ -11,6 +11,7 @@ use Rattle.rdp_command.specs.Numbers.{fieldsAnswer, fieldsOut, fromNumbers}
 use Rattle.rdp_command.specs.declared.Answer.{Answer}
 use Rattle.rdp_command.specs.declared.Decoded.{Decoded}
 use Rattle.rdp_command.specs.declared.Decoded.the-variants.{Whole, Refused}
+use Rattle.rdp_check.specs.Hazards.{transitionOf}
 use Rattle.rdp_check.specs.Check.{checkOf}
 use Rattle.rdp_check.specs.Repair.{RepairIs}
 use Rattle.rdp_check.specs.declared.Repaired.{Repaired}
@@ -40,6 +41,13 @@ mostThird = 0xFFFFFF
 -- an answer that has no third number
 abbrev pub plain : Answer → Reply
 plain a = reply (a .number) 0 (a .place)
+
+-- a step of the hazards, of which four bits count, by a number, of which six do: the third number is the sync that the command requires, and 4 more where it
+-- is missing; the place is the hazards after it
+abbrev pub stepReply : ℕ → ℕ → Reply
+stepReply hazards number =
+    let t = transitionOf (hazards % 16) (number % 64) in
+    reply 0 (t .required + cond (t .missing) 4 0) (t .next)
 
 -- the check: the third number is the cause
 abbrev pub checkReply : List ℕ → Reply
@@ -91,6 +99,7 @@ encodeBytes number fields suffix out = madeBytes suffix out (fromNumbers number 
 
 -- the answers that there are
 pub data Occurs : Reply → Type 0 where
+  ofStep : (hazards number : ℕ) → Occurs (stepReply hazards number)
   ofCheck : (list : List ℕ) → Occurs (checkReply list)
   ofRepair : {list work out work′ out′ : List ℕ} {r : Repaired} → RepairIs list work out r work′ out′ → Occurs (repairReply r)
   ofDraw : (list : List ℕ) (start len : ℕ) → Occurs (drawReply list start len)

@@ -1,9 +1,11 @@
 // The functions for callers in C. Every answer is one 64-bit number, returned in a register; include/lanyardrove.h declares them.
+ghost use mathlib.Core.Bool.{cond};
 ghost use mathlib.Core.Path.{_≡_};
-ghost use Prim.Native.Nat.{_<_, _^_, min};
+ghost use Prim.Native.Nat.{_+_, _<_, _^_, min};
 ghost use lib.ListN.{length};
+ghost use Rattle.rdp_words.specs.Lengths.{commandWords};
 ghost use Rattle.rdp_draw.specs.Draw.{drawMemory};
-ghost use Rattle.lanyardrove.specs.Replies.{reply, mostThird, packed, checkReply, RepairReplies, drawReply, decodeReply, decodeFields, encodeReply, encodeBytes};
+ghost use Rattle.lanyardrove.specs.Replies.{reply, mostThird, packed, stepReply, checkReply, RepairReplies, drawReply, decodeReply, decodeFields, encodeReply, encodeBytes};
 use rdp_command::Decoded;
 
 // An answer as one number: the number of the refusal in bits 63:56, a third number in bits 55:32, the place in bits 31:0.
@@ -24,12 +26,41 @@ fn third_of(count: usize) -> u32
     0xFF_FFFF
 }
 
+// A sync that a command requires as a third number: 4 more where it is missing.
+fn third_of_sync(required: u8, missing: bool) -> u32
+    ensures { λ r. ⌜ r ≡ required + cond missing 4 0 ⌝ }
+{
+    if missing {
+        return required as u32 + 4;
+    }
+    required as u32
+}
+
 // The version of this library: major, minor and patch number, eight bits each. The header has the same number.
 #[no_mangle]
 pub extern "C" fn lanyardrove_version() -> u32
-    ensures { λ r. ⌜ r ≡ 0x020000 ⌝ }
+    ensures { λ r. ⌜ r ≡ 0x020100 ⌝ }
 {
-    0x020000
+    0x020100
+}
+
+// The words of the command that begins with a word: a plain count.
+#[no_mangle]
+pub extern "C" fn lanyardrove_words(first: u64) -> u64
+    ensures { λ r. ⌜ r ≡ commandWords first ⌝ }
+{
+    rdp_words::command_words(first) as u64
+}
+
+// One step of the hazards by the number of a command: 0, the sync that it requires and 4 where it is missing as the third number, and the hazards after it
+// as the place. Of the hazards the low four bits count, of the number the low six.
+#[no_mangle]
+pub extern "C" fn lanyardrove_step(hazards: u32, number: u32) -> u64
+    ensures { λ r. ⌜ r ≡ packed (stepReply hazards number) ⌝ }
+{
+    let step = rdp_check::step((hazards % 16) as u8, (number % 64) as u8);
+    let third = third_of_sync(step.required, step.missing);
+    pack(0, third, step.next as u32)
 }
 
 // The check of a list: the first of refusals 1 to 9, or 0 and the words of the list. The third number is the cause.

@@ -2,7 +2,7 @@
 use mathlib.Core.Bool.{Bool, true, false, cond, not, _||_, true≢false, false≢true}
 use mathlib.Core.List.{List, [], _∷_, _++_, append-assoc}
 use mathlib.Core.Logic.{_⊎_, inl, inr, ⊎-elim}
-use mathlib.Core.Path.{_≡_, refl, sym, ap, ap₂, subst, _∙_}
+use mathlib.Core.Path.{_≡_, refl, sym, ap, subst, _∙_}
 use Prim.Native.Nat.{ℕ, _+_, _*_, _/_, _<_, _≤_}
 use native.Mathlib.Omega.{arith}
 use borrow.Author.Tests.{ne-eqb}
@@ -12,24 +12,24 @@ use lib.Seq.{take-at, drop-at}
 use Rattle.rdp_words.specs.Words.{wordAt, numberIn}
 use Rattle.rdp_words.specs.Kinds.{between, hasBit, kindOf, isAmong, wordsOf}
 use Rattle.rdp_words.specs.Lengths.{firstNumber}
-use Rattle.rdp_words.proofs.Tests.{by-test, true-of, false-of}
+use Rattle.rdp_words.proofs.Tests.{true-of, false-of}
 use Rattle.rdp_words.proofs.KindLaws.{among-by, draws-among}
 use Rattle.rdp_words.proofs.WordLaws.{word-front}
 use Rattle.rdp_words.proofs.PlaceLaws.{number-small, word-drop}
 use Rattle.rdp_check.specs.Hazards.{requiredOf}
 use Rattle.rdp_check.specs.Order.{Among}
 use Rattle.rdp_check.specs.Commands.{commandsOf, restOf, wordsIn, joined}
-use Rattle.rdp_check.specs.Marks.{Mark, markP, markT, markD, markG, draws, textured, loads, NoneOf, Stands}
+use Rattle.rdp_check.specs.Marks.{Mark, markP, markD, draws, textured, loads, NoneOf, Stands}
 use Rattle.rdp_check.specs.Cause.{awaited, latest, causeAt, causeOf, IsCause}
 use Rattle.rdp_check.specs.Check.{State, start, ownRefusals, syncRefusals, checkRefusals, judgeList, checkOf}
 use Rattle.rdp_check.specs.Refusals.{stateAfter, CommandHolds, pastEnd, atCommand, Holds, tooLong, notWords, ofCommands}
 use Rattle.rdp_check.specs.View.{refusalsBy, Numbers, IsJudged}
-use Rattle.rdp_check.proofs.HazardLaws.{allStates, at-state}
+use Rattle.rdp_check.proofs.HazardLaws.{at-state}
 use Rattle.rdp_check.proofs.MarkLaws.{IsMark, is-P, is-T, is-D, is-G, exactly, state-low}
 use Rattle.rdp_check.proofs.JoinLaws.{Alone, AllAlone, command-some, commands-joined, rest-joined, length-joined, parsed, joined-whole}
 use Rattle.rdp_check.proofs.OrderLaws.{among-parts}
 use Rattle.rdp_check.proofs.FirstLaws.{Numbered, own-numbered, check-numbered, commands-first, check-first}
-use Rattle.rdp_check.proofs.LeftLaws.{Left, none-left, inside, fits, commands-next, left-next}
+use Rattle.rdp_check.proofs.LeftLaws.{Left, none-left, fits, commands-next, left-next}
 use Rattle.rdp_check.proofs.ListLaws.{command-number}
 
 not-true : (b : Bool) → not b ≡ true → b ≡ false

@@ -1,20 +1,17 @@
 -- The loops over a list of whole commands: what holds at their heads, and what a turn does. Assumes nothing.
 use mathlib.Core.Path.{_≡_, refl, sym, ap, _∙_}
 use mathlib.Core.List.{List, [], _∷_, _++_, append-nil, append-assoc}
-use Prim.Native.Nat.{ℕ, _+_, _*_, _-_, _/_, _%_, _<_, _≤_}
-use native.Mathlib.Nat.{lt-of-not-le}
-use native.Mathlib.Decide.{decLe}
+use Prim.Native.Nat.{ℕ, _+_, _*_, _/_, _%_, _<_, _≤_}
 use native.Mathlib.Omega.{arith}
-use lib.ListN.{length, getD, take, drop, set, length-append, length-take, length-drop, length-set, drop-of-length-le}
+use lib.ListN.{length, getD, take, drop, set, length-append, length-take, length-drop, length-set}
 use lib.Seq.{append-snoc, drop-set-lt}
 use Rattle.rdp_words.specs.Words.{wordAt, numberIn, overwrite, pasted}
 use Rattle.rdp_words.specs.Kinds.{wordsOf}
 use Rattle.rdp_words.proofs.OverwriteLaws.{overwrite-none, length-overwrite, pasted-after}
-use Rattle.rdp_check.specs.Commands.{commandsFrom, commandsOf, restOf, joined}
+use Rattle.rdp_check.specs.Commands.{commandsOf, joined}
 use Rattle.rdp_check.specs.Plan.{applied}
 use Rattle.rdp_check.specs.Best.{numbersOf}
 use Rattle.rdp_check.specs.Work.{tabulate, notedIn, optionsIn, Below, optionBytes, dueBytes, WholeList, NotedIs, WrittenIs}
-use Rattle.rdp_words.proofs.PlaceLaws.{some-words}
 use Rattle.rdp_check.proofs.ListLaws.{command-number}
 use Rattle.rdp_check.proofs.LeftLaws.{Left, none-left, inside, fits, commands-next, left-next}
 use Rattle.rdp_check.proofs.RepairedLaws.{count-most}

@@ -254,7 +254,7 @@ pub fn walk(table: &[u8; 1024], list: &[u8], words: usize, view: View, strict: b
     answer(0, words, hazards, rest)
 }
 
-// The first refusal of a list that may have so many words: 1 and 2 of the list, then those of its commands.
+// The first refusal of a list that may have so many words, with its cause: 1 and 2 of the list, then those of its commands.
 pub fn check_within(list: &[u8], most: usize, strict: bool) -> Checked
     requires { ⌜ most ≤ 4096 ⌝ }
     ensures { λ r. ⌜ r ≡ checked (now (list .entry)) (outcomeWithin most (refusalsBy strict) (now (list .entry))) ⌝ }

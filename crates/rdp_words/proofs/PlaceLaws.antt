@@ -1,21 +1,50 @@
 -- What stands at a place of a list: its word, and the words of the command that begins there. Assumes nothing.
-use Prim.Native.Nat.{ℕ, _+_, _*_, _/_, _^_, _≤_, _<_}
+use Prim.Native.Nat.{ℕ, _+_, _*_, _/_, _%_, _^_, _≤_, _<_}
+use mathlib.Core.Bool.{cond}
 use mathlib.Core.List.{List}
 use mathlib.Core.Path.{_≡_, ap, sym, _∙_}
 use native.Mathlib.Nat.{mod-lt}
 use native.Mathlib.Omega.{arith}
 use borrow.Author.Tests.{lt-ltb, le-ltb, ltb-true, ltb-false}
-use lib.Dec.{ltb, lit<}
+use lib.Dec.{ltb, lit<, eqb, eqb→eq}
 use lib.ListN.{length, drop, length-drop}
 use Rattle.rdp_words.specs.Words.{wordAt, numberIn}
-use Rattle.rdp_words.specs.Kinds.{wordsOf}
-use Rattle.rdp_words.specs.Lengths.{firstNumber, wholeWords}
-use Rattle.rdp_words.proofs.Tests.{by-test}
+use Rattle.rdp_words.specs.Kinds.{between, kindOf, wordsOf}
+use Rattle.rdp_words.specs.Lengths.{firstNumber, bit, commandWords, wholeWords}
+use Rattle.rdp_words.proofs.Tests.{below, by-test}
 use Rattle.rdp_words.proofs.KindLaws.{words-pos}
 
 -- the number of a word is below 64
 pub number-small : (w : ℕ) → numberIn w < 64
 number-small w = mod-lt (w / 2 ^ 56) (lit< tt)
+
+-- ---- #102: the words by the bits of the first word
+
+-- the words by the bits of the number: one test over the numbers
+abbrev wordsByBits : ℕ → ℕ
+wordsByBits n = cond (between 0x08 0x0F n) (4 + 8 * (n / 4 % 2) + 8 * (n / 2 % 2) + 2 * (n % 2)) (wordsOf n)
+
+words-by-bits : (n : ℕ) → n < 64 → wordsOf n ≡ wordsByBits n
+unfolding wordsOf kindOf
+words-by-bits n h = eqb→eq _ _ (below 64 (λ k. eqb (wordsOf k) (wordsByBits k)) tt n h)
+
+bit-58 : (w : ℕ) → w / 2 ^ 56 % 64 / 4 % 2 ≡ bit 58 w
+bit-58 w = omega arith
+
+bit-57 : (w : ℕ) → w / 2 ^ 56 % 64 / 2 % 2 ≡ bit 57 w
+bit-57 w = omega arith
+
+bit-56 : (w : ℕ) → w / 2 ^ 56 % 64 % 2 ≡ bit 56 w
+bit-56 w = omega arith
+
+-- bits 58, 57 and 56 are those of the number
+pub command-words : (w : ℕ) → wordsOf (numberIn w) ≡ commandWords w
+unfolding commandWords
+command-words w =
+    words-by-bits (numberIn w) (number-small w) ∙
+    (λ i. cond (between 0x08 0x0F (numberIn w)) (4 + 8 * bit-58 w i + 8 * bit-57 w i + 2 * bit-56 w i) (wordsOf (numberIn w)))
+
+-- ---- the words of a list
 
 -- the first word after k words is word k
 pub word-drop : (bs : List ℕ) (k : ℕ) → wordAt (drop (8 * k) bs) 0 ≡ wordAt bs k

@@ -5,7 +5,7 @@ ghost use lib.ListN.{length, take, drop};
 ghost use denote.Ref.{ptr};
 ghost use Rattle.rdp_words.specs.Words.{halfOf, wordAt, numberIn, overwrite};
 ghost use Rattle.rdp_words.specs.Kinds.{wordsOf, isAmong};
-ghost use Rattle.rdp_words.specs.Lengths.{wholeWords, suffixOf, suffixStart};
+ghost use Rattle.rdp_words.specs.Lengths.{commandWords, wholeWords, suffixOf, suffixStart};
 
 // The four bytes from an index on as a number.
 fn half_at(list: &[u8], at: usize) -> u64
@@ -64,6 +64,13 @@ pub fn words_of(number: u8) -> usize
         return 2;
     }
     1
+}
+
+// The words of the command that begins with a word. Its bits 63:62 don't count.
+pub fn command_words(first: u64) -> usize
+    ensures { λ r. ⌜ r ≡ commandWords first ⌝ }
+{
+    words_of(number_in(first))
 }
 
 // The words of the first command, or 0 where they are not all there.

@@ -16,7 +16,9 @@ static ARCHIVE: Foreign = foreign!(
     lanyardrove_repair,
     lanyardrove_draw,
     lanyardrove_decode,
-    lanyardrove_encode
+    lanyardrove_encode,
+    lanyardrove_words,
+    lanyardrove_step
 );
 
 /// The arguments: seed, number of cases, first case.

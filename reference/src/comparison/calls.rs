@@ -12,15 +12,20 @@ pub enum Function {
     Draw,
     Decode,
     Encode,
+    Words,
+    Step,
 }
 
 impl Function {
-    pub const ALL: [Function; 5] = [
+    pub const COUNT: usize = 7;
+    pub const ALL: [Function; Function::COUNT] = [
         Function::Check,
         Function::Repair,
         Function::Draw,
         Function::Decode,
         Function::Encode,
+        Function::Words,
+        Function::Step,
     ];
 
     pub fn name(self) -> &'static str {
@@ -30,6 +35,8 @@ impl Function {
             Function::Draw => "draw",
             Function::Decode => "decode",
             Function::Encode => "encode",
+            Function::Words => "words",
+            Function::Step => "step",
         }
     }
 }
@@ -39,8 +46,12 @@ impl Function {
 #[derive(Clone, Debug, PartialEq, Eq)]
 pub struct Call {
     pub function: Function,
-    /// The command number for encoding.
+    /// The command number for encoding and for a step.
     pub number: u32,
+    /// The first word of a command.
+    pub word: u64,
+    /// The marks before a step.
+    pub hazards: u32,
     /// The address of lent memory.
     pub start: u64,
     pub list: Lent<u8>,
@@ -57,6 +68,8 @@ impl Call {
         Call {
             function,
             number: 0,
+            word: 0,
+            hazards: 0,
             start: 0,
             list: Lent::default(),
             suffix: Lent::default(),
@@ -81,6 +94,8 @@ impl Call {
                 self.suffix.slice(),
                 self.out.slice_mut(),
             ),
+            Function::Words => side.words(self.word),
+            Function::Step => side.step(self.hazards, self.number),
         }
     }
 
@@ -131,6 +146,10 @@ impl fmt::Display for Call {
             }
             Function::Decode => writeln!(f, "fields {}", self.fields.len()),
             Function::Encode => self.describe_encoding(f),
+            Function::Words => writeln!(f, "first word {:016X}", self.word),
+            Function::Step => {
+                writeln!(f, "hazards {:#x}, number {:#x}", self.hazards, self.number)
+            }
         }
     }
 }

@@ -23,6 +23,8 @@ pub fn calls(rng: &mut Rng, case: u64, list: &[u8]) -> Vec<Call> {
         encode_call(rng, case),
         repair_call(rng, list),
         draw_call(rng, list),
+        words_call(rng, case),
+        step_call(rng, case),
     ]
 }
 
@@ -30,6 +32,25 @@ fn check_call(rng: &mut Rng, list: &[u8]) -> Call {
     Call {
         list: Lent::of(rng, list),
         ..Call::of(Function::Check)
+    }
+}
+
+/// The words of every command number in turn, with any other bits.
+fn words_call(rng: &mut Rng, case: u64) -> Call {
+    Call {
+        word: rng.number() & !(0x3F << 56) | (case % 64) << 56,
+        ..Call::of(Function::Words)
+    }
+}
+
+/// The step of every command number from each of the sixteen sums of marks in turn,
+/// half of them with bits above.
+fn step_call(rng: &mut Rng, case: u64) -> Call {
+    let above = rng.pick(&[0, u32::MAX]);
+    Call {
+        hazards: (rng.number() as u32 & above) << 4 | (case / 64 % 16) as u32,
+        number: (rng.number() as u32 & above) << 6 | (case % 64) as u32,
+        ..Call::of(Function::Step)
     }
 }
 

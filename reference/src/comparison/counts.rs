@@ -7,7 +7,7 @@ use crate::comparison::calls::Function;
 /// Counts for each function and each ground, 0 (accepted) to 15.
 #[derive(Clone, Debug, Default, PartialEq, Eq)]
 pub struct Counts {
-    counts: [[u64; 16]; 5],
+    counts: [[u64; 16]; Function::COUNT],
     /// Repairs whose plan was compared with all other plans.
     pub searched: u64,
 }
@@ -43,6 +43,7 @@ pub fn possible(function: Function) -> &'static [u8] {
         Function::Draw => &[0, 1, 2, 3, 4, 5, 6, 7, 8, 9, 10, 11, 12],
         Function::Decode => &[0, 3, 14],
         Function::Encode => &[0, 14, 15],
+        Function::Words | Function::Step => &[0],
     }
 }
 

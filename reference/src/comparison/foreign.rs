@@ -9,6 +9,8 @@ pub type Draw = unsafe extern "C" fn(*const u8, usize, *mut u8, usize, u64) -> u
 pub type Decode = unsafe extern "C" fn(*const u8, usize, *mut u64, usize) -> u64;
 pub type Encode =
     unsafe extern "C" fn(u32, *const u64, usize, *const u8, usize, *mut u8, usize) -> u64;
+pub type Words = unsafe extern "C" fn(u64) -> u64;
+pub type Step = unsafe extern "C" fn(u32, u32) -> u64;
 
 /// Functions that ask of their pointers only that each lends as much as the
 /// length after it says.
@@ -19,14 +21,19 @@ pub struct Foreign {
     /// Where there is none, this crate's stands in.
     pub decode: Option<Decode>,
     pub encode: Option<Encode>,
+    pub words: Option<Words>,
+    pub step: Option<Step>,
 }
 
 /// Declares functions of C by their names, and gives them as a `Foreign`: check,
-/// repair and draw, and decode and encode where there are such. They touch no
-/// bytes but those lent, and write only those lent for writing.
+/// repair and draw, and the others where there are such. They touch no bytes but
+/// those lent, and write only those lent for writing.
 #[macro_export]
 macro_rules! foreign {
-    ($check:ident, $repair:ident, $draw:ident $(, $decode:ident, $encode:ident)?) => {{
+    (
+        $check:ident, $repair:ident, $draw:ident
+        $(, $decode:ident, $encode:ident, $words:ident, $step:ident)?
+    ) => {{
         extern "C" {
             fn $check(list: *const u8, list_length: usize) -> u64;
             fn $repair(
@@ -60,6 +67,8 @@ macro_rules! foreign {
                     out: *mut u8,
                     out_length: usize,
                 ) -> u64;
+                fn $words(first_word: u64) -> u64;
+                fn $step(hazards: u32, number: u32) -> u64;
             )?
         }
         $crate::comparison::foreign::Foreign {
@@ -68,6 +77,8 @@ macro_rules! foreign {
             draw: $draw,
             decode: $crate::foreign!($($decode)?),
             encode: $crate::foreign!($($encode)?),
+            words: $crate::foreign!($($words)?),
+            step: $crate::foreign!($($step)?),
         }
     }};
     () => { None };
@@ -116,6 +127,20 @@ impl Side for Foreign {
                 out,
                 out_length,
             )
+        }
+    }
+
+    fn words(&self, first_word: u64) -> u64 {
+        match self.words {
+            Some(words) => unsafe { words(first_word) },
+            None => packed::words(first_word),
+        }
+    }
+
+    fn step(&self, hazards: u32, number: u32) -> u64 {
+        match self.step {
+            Some(step) => unsafe { step(hazards, number) },
+            None => packed::step(hazards, number),
         }
     }
 }

@@ -1,9 +1,11 @@
 //! What must hold of every repair and every cause, shown by the check alone: it
-//! decides which plans pass, and which sync comes too early.
+//! decides which plans pass, and which sync comes too early. And what must hold
+//! between a side's own functions: lengths and decoding, steps and the check.
 
 use crate::check::{check, CHECK_LIMIT};
 use crate::comparison::rng::Rng;
-use crate::kinds::{commands, words, Command};
+use crate::comparison::side::Side;
+use crate::kinds::{commands, words_from, Command};
 use crate::packed::Answer;
 use crate::repair::{bytes_of_command, with_plan, Add};
 use crate::words::{command_number, word_at, WORD_BYTES};
@@ -13,6 +15,15 @@ const ALWAYS_SEARCHED: usize = 6;
 
 /// Lists of up to this many commands are searched now and then.
 const SOMETIMES_SEARCHED: usize = 9;
+
+/// The most fields that a command has.
+const MOST_FIELDS: usize = 37;
+
+/// Decoding's answer for a cut command: 3 at 0.
+const CUT: u64 = 3 << 56;
+
+/// The first of the grounds of a missing sync, which stand in the order of syncs.
+const SYNC_LOAD_MISSING: u32 = 7;
 
 /// Tests an accepted repair; answers whether its plan was compared with all
 /// others, or what is wrong.
@@ -160,12 +171,12 @@ pub fn test_cause(list: &[u8], answer: Answer) -> Result<(), String> {
     let Some(command) = commands(list).find(|command| command.place == cause) else {
         return Err("no command stands at the cause".to_string());
     };
-    let end = place + words(command_number(word_at(list, place)));
+    let end = place + words_from(word_at(list, place));
     let judged = &list[..end * WORD_BYTES];
     if judged.len() == CHECK_LIMIT {
         return Ok(());
     }
-    let after = with_pipe(judged, cause + words(command.number()));
+    let after = with_pipe(judged, cause + words_from(command.word));
     if check(&after).outcome.is_err() {
         return Err("a Sync Pipe after the cause does not serve".to_string());
     }
@@ -184,4 +195,50 @@ fn with_pipe(list: &[u8], place: usize) -> Vec<u8> {
     push_add(&mut longer, Add::Pipe);
     longer.extend_from_slice(after);
     longer
+}
+
+/// Tests that a side's decoding takes exactly the words that its lengths give: a byte
+/// less is 3 at 0, and further bytes change nothing.
+pub fn test_words(side: &dyn Side, rng: &mut Rng, first_word: u64) -> Result<(), String> {
+    let length = side.words(first_word) as usize * WORD_BYTES;
+    let further = rng.between(1, 200) as usize;
+    let mut list = first_word.to_be_bytes().to_vec();
+    list.extend(rng.bytes(length - WORD_BYTES + further));
+    let decoded = |length: usize| {
+        let mut fields = [0; MOST_FIELDS];
+        (side.decode(&list[..length], &mut fields), fields)
+    };
+    let whole = decoded(length);
+    if Answer::unpack(whole.0).number != 0 {
+        return Err("decoding takes more words".to_string());
+    }
+    if decoded(length - 1) != (CUT, [0; MOST_FIELDS]) {
+        return Err("decoding takes fewer words".to_string());
+    }
+    if decoded(list.len()) != whole {
+        return Err("decoding takes bytes beyond the words".to_string());
+    }
+    Ok(())
+}
+
+/// Tests that a side's steps along a list miss a sync first where the check says so,
+/// or nowhere.
+pub fn test_steps(side: &dyn Side, list: &[u8], checked: Answer) -> Result<(), String> {
+    let refused = checked.number != 0;
+    let expected = refused.then_some((u32::from(checked.number), checked.place as usize));
+    if first_missing(side, list) != expected {
+        return Err("the steps along the list do not miss the same sync first".to_string());
+    }
+    Ok(())
+}
+
+/// The ground and the place of the first sync that a side's steps miss.
+fn first_missing(side: &dyn Side, list: &[u8]) -> Option<(u32, usize)> {
+    let mut hazards = 0;
+    commands(list).find_map(|command| {
+        let step = Answer::unpack(side.step(hazards, u32::from(command.number())));
+        hazards = step.place;
+        let ground = step.third % 4 + SYNC_LOAD_MISSING - 1;
+        (step.third != 0).then_some((ground, command.place))
+    })
 }

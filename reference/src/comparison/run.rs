@@ -46,7 +46,7 @@ fn run_case(
         let compared = compare(other, &call);
         let outcome = compared.same().and_then(|()| {
             counts.count(call.function, compared.reference.number);
-            compared.laws(&mut rng, counts)
+            compared.laws(other, &mut rng, counts)
         });
         outcome.map_err(|what| {
             Box::new(Difference {
@@ -99,12 +99,17 @@ impl Compared {
         Err(format!("buffer {buffer} differs first at {place}"))
     }
 
-    /// The laws of an accepted repair, and of a check that a sync is missing.
-    fn laws(&self, rng: &mut Rng, counts: &mut Counts) -> Result<(), String> {
+    /// The laws of an accepted repair, of a check's missing syncs and of a command's
+    /// words.
+    fn laws(&self, other: &dyn Side, rng: &mut Rng, counts: &mut Counts) -> Result<(), String> {
         let call = &self.reference_after;
+        let list = call.list.slice();
         match (call.function, self.reference.number) {
             (Function::Repair, 0) => self.repair_laws(rng, counts),
-            (Function::Check, 7..=9) => laws::test_cause(call.list.slice(), self.reference),
+            (Function::Check, 0) => laws::test_steps(other, list, self.reference),
+            (Function::Check, 7..=9) => laws::test_steps(other, list, self.reference)
+                .and_then(|()| laws::test_cause(list, self.reference)),
+            (Function::Words, _) => laws::test_words(other, rng, call.word),
             _ => Ok(()),
         }
     }

@@ -2,13 +2,16 @@
 
 use crate::packed;
 
-/// The C functions, over slices. Every answer is one packed 64-bit number.
+/// The C functions, over slices. Every answer is one packed 64-bit number, but
+/// for the plain count of a command's words.
 pub trait Side {
     fn check(&self, list: &[u8]) -> u64;
     fn repair(&self, list: &[u8], work: &mut [u8], out: &mut [u8]) -> u64;
     fn draw(&self, list: &[u8], memory: &mut [u8], start: u64) -> u64;
     fn decode(&self, list: &[u8], fields: &mut [u64]) -> u64;
     fn encode(&self, number: u32, fields: &[u64], suffix: &[u8], out: &mut [u8]) -> u64;
+    fn words(&self, first_word: u64) -> u64;
+    fn step(&self, hazards: u32, number: u32) -> u64;
 }
 
 /// This crate.
@@ -33,5 +36,13 @@ impl Side for Reference {
 
     fn encode(&self, number: u32, fields: &[u64], suffix: &[u8], out: &mut [u8]) -> u64 {
         packed::encode(number, fields, suffix, out)
+    }
+
+    fn words(&self, first_word: u64) -> u64 {
+        packed::words(first_word)
+    }
+
+    fn step(&self, hazards: u32, number: u32) -> u64 {
+        packed::step(hazards, number)
     }
 }

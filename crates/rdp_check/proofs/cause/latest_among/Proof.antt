@@ -1,6 +1,5 @@
 -- `rdp_check::cause::latest_among` meets its contract: from what was found, the latest of what is left is the answer. Assumes nothing.
 use Prim.Native.Nat.{_-_}
-use native.Mathlib.Omega.{arith}
 use borrow.Author.Needs.{needs}
 use Rattle.rdp_words.specs.Kinds.{isAmong}
 use Rattle.rdp_check.specs.Commands.{commandsOf}
