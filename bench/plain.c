@@ -864,3 +864,178 @@ uint64_t plain_registers(const uint8_t *list, size_t list_length)
         mixed = mixed_tile(mixed, &all.tiles[i]);
     return join(number ^ place << 32 ^ mixed, mixed_colors(&all), mixed_combiner(&all), mixed_modes(&all), mixed_images(&all));
 }
+
+/* Lists in portions (request #103). The record has the library's layout, but for the order of the registers' words. */
+
+enum { MOST_TAKEN = 32768, ROOM = 176, NO_SLOT = 32 };
+
+struct plain_stream {
+    uint64_t words[32]; /* the words that last set the registers; 0 where none has come */
+    uint8_t held[ROOM];
+    uint32_t held_count;
+    uint32_t taken;
+    uint32_t number;
+    uint32_t place;
+    uint8_t hazards;
+    uint8_t ended;
+};
+
+/* Where the word of a setter goes: the scissor, the modes and the colour image in front, eight slots for tiles and eight for their sizes. */
+enum { SCISSOR_SLOT, MODES_SLOT, IMAGE_SLOT, OTHER_SLOTS, TILE_SLOTS = 15, SIZE_SLOTS = 23 };
+
+static uint8_t slots[64];
+
+static bool sets_size(unsigned number)
+{
+    return is_load(number) || number == 0x32;
+}
+
+__attribute__((constructor)) static void fill_slots(void)
+{
+    unsigned next = OTHER_SLOTS;
+    for (unsigned number = 0; number < 64; number++) {
+        bool is_free = number == SET_SCISSOR || number == 0x2E || number == 0x3A || number == 0x3D;
+        slots[number] = is_attribute(number) || is_free ? 0 : NO_SLOT;
+        if (sets_size(number))
+            slots[number] = SIZE_SLOTS;
+        else if (number == SET_TILE)
+            slots[number] = TILE_SLOTS;
+        else if (number == SET_SCISSOR || number == SET_OTHER_MODES || number == SET_COLOR_IMAGE)
+            slots[number] = number == SET_SCISSOR ? SCISSOR_SLOT : number == SET_OTHER_MODES ? MODES_SLOT : IMAGE_SLOT;
+        else if (slots[number] != NO_SLOT)
+            slots[number] = next++;
+    }
+}
+
+static void store(uint64_t words[32], unsigned number, const uint8_t *command)
+{
+    unsigned slot = slots[number];
+    if (slot == NO_SLOT)
+        return;
+    uint64_t word = word_at(command);
+    words[slot < TILE_SLOTS ? slot : slot + bits(word, 26, 24)] = word;
+}
+
+static unsigned stream_refusal(const struct plain_stream *stream, unsigned number, unsigned step)
+{
+    if (stream->ended)
+        return 4;
+    if (draws[number]) {
+        struct registers set = {stream->words[MODES_SLOT], stream->words[IMAGE_SLOT], stream->words[SCISSOR_SLOT], 0};
+        unsigned refusal = draw_refusal(&set);
+        if (refusal != 0)
+            return refusal;
+    }
+    return step >> 4 != NO_NEED ? 6 + (step >> 4) : 0;
+}
+
+static void remember(struct plain_stream *stream, unsigned number, size_t place)
+{
+    stream->number = number;
+    stream->place = place;
+}
+
+/* Judges a command that is complete, and runs it; false where it is refused. */
+static bool settle(struct plain_stream *stream, const uint8_t *command, unsigned number)
+{
+    unsigned step = steps[number][stream->hazards & 15];
+    unsigned refusal = stream_refusal(stream, number, step);
+    if (refusal != 0) {
+        remember(stream, refusal, stream->taken / 8);
+        return false;
+    }
+    store(stream->words, number, command);
+    stream->hazards = step & 15;
+    stream->ended = number == SYNC_FULL;
+    stream->taken += 8 * words_in(number);
+    return true;
+}
+
+/* The bytes that are due for the command whose first bytes are held. */
+static size_t due(const struct plain_stream *stream)
+{
+    return stream->held_count < 8 ? 8 : 8 * words_in(number_at(stream->held));
+}
+
+/* Completes the held command, if the portion does; answers the bytes used. */
+static size_t complete(struct plain_stream *stream, const uint8_t *portion, size_t length)
+{
+    size_t at = 0;
+    while (at < length && stream->held_count < due(stream)) {
+        size_t more = due(stream) - stream->held_count;
+        more = more < length - at ? more : length - at;
+        memcpy(stream->held + stream->held_count, portion + at, more);
+        stream->held_count += more;
+        stream->taken += more;
+        at += more;
+    }
+    if (stream->held_count == due(stream)) {
+        stream->taken -= stream->held_count;
+        settle(stream, stream->held, number_at(stream->held));
+        memset(stream->held, 0, ROOM);
+        stream->held_count = 0;
+    }
+    return at;
+}
+
+/* Whole commands are judged where they stand, and the rest is held. */
+static void take(struct plain_stream *stream, const uint8_t *portion, size_t length)
+{
+    size_t at = stream->held_count != 0 ? complete(stream, portion, length) : 0;
+    while (stream->number == 0 && length - at >= 8) {
+        unsigned number = number_at(portion + at);
+        size_t count = 8 * words_in(number);
+        if (count > length - at)
+            break;
+        if (!settle(stream, portion + at, number))
+            return;
+        at += count;
+    }
+    if (stream->number != 0 || at == length)
+        return;
+    memcpy(stream->held, portion + at, length - at);
+    stream->held_count = length - at;
+    stream->taken += length - at;
+}
+
+static bool is_damaged(const struct plain_stream *stream)
+{
+    if (stream->held_count >= ROOM || stream->number > 9)
+        return true;
+    for (size_t at = stream->held_count; at < ROOM; at++)
+        if (stream->held[at] != 0)
+            return true;
+    return (stream->held_count >= 8 && stream->held_count >= due(stream)) || stream->taken > MOST_TAKEN
+           || stream->taken < stream->held_count || (stream->taken - stream->held_count) % 8 != 0;
+}
+
+static uint64_t told(const struct plain_stream *stream)
+{
+    if (stream->number != 0)
+        return answer(stream->number, 0, stream->place);
+    return answer(0, 0, (stream->taken - stream->held_count) / 8);
+}
+
+uint64_t plain_stream_feed(struct plain_stream *stream, const uint8_t *portion, size_t portion_length)
+{
+    if (is_damaged(stream))
+        return answer(28, 0, 0);
+    if (stream->number == 0) {
+        size_t room = MOST_TAKEN - stream->taken;
+        take(stream, portion, portion_length < room ? portion_length : room);
+        if (stream->number == 0 && portion_length > room)
+            remember(stream, 1, MOST_TAKEN / 8);
+    }
+    return told(stream);
+}
+
+uint64_t plain_stream_close(struct plain_stream *stream)
+{
+    if (is_damaged(stream))
+        return answer(28, 0, 0);
+    if (stream->number == 0 && stream->taken % 8 != 0)
+        remember(stream, 2, stream->taken / 8);
+    else if (stream->number == 0 && stream->held_count != 0)
+        remember(stream, 3, (stream->taken - stream->held_count) / 8);
+    return told(stream);
+}

@@ -11,6 +11,11 @@ uint64_t plain_check(const uint8_t *list, size_t list_length);
 uint64_t plain_repair(const uint8_t *list, size_t list_length, uint8_t *work, size_t work_length, uint8_t *out, size_t out_length);
 uint64_t plain_draw(const uint8_t *list, size_t list_length, uint8_t *memory, size_t memory_length, uint64_t start);
 
+/* A list in portions: the caller's record has 456 bytes, all zero before the first portion. */
+struct plain_stream;
+uint64_t plain_stream_feed(struct plain_stream *stream, const uint8_t *portion, size_t portion_length);
+uint64_t plain_stream_close(struct plain_stream *stream);
+
 /* The check's answer and the registers after a list, as one number: what lanyardrove_bench_registers of crates/rdp_bench answers. */
 uint64_t plain_registers(const uint8_t *list, size_t list_length);
 

@@ -21,11 +21,11 @@ static void print_verdict(const Arguments *arguments, const char *path, const Li
 static void check_file(const Arguments *arguments, const char *path, Tally *tally)
 {
     List list;
-    if (!list_read(path, &list)) {
+    if (!list_judge(path, &list)) {
         tally->unread++;
         return;
     }
-    Answer answer = answer_of(lanyardrove_check(list.bytes, list.length));
+    Answer answer = answer_of(list.verdict);
     print_verdict(arguments, path, &list, answer);
     if (!is_accepted(answer))
         tally->refused++;

@@ -11,7 +11,7 @@
 /* exit status */
 enum { STATUS_ACCEPTED = 0, STATUS_REFUSED = 1, STATUS_ERROR = 2 };
 
-/* the longest list of the check, and the longest file that is read */
+/* the longest list of the check, and the most of a file that is shown */
 #define LIST_LIMIT 32768u
 #define FILE_LIMIT (1024u * 1024u)
 
@@ -20,13 +20,19 @@ enum { STATUS_ACCEPTED = 0, STATUS_REFUSED = 1, STATUS_ERROR = 2 };
 typedef struct {
     uint8_t *bytes; /* followed by LANYARDROVE_MOST_WORDS words of zeros */
     size_t length;
-    bool cut; /* the file goes on after FILE_LIMIT bytes */
+    bool cut;         /* the file goes on after the bytes that are read */
+    uint64_t verdict; /* the check's answer, of a list that list_judge read */
 } List;
 
-bool list_read(const char *path, List *list);
+bool list_read(const char *path, List *list, size_t limit);
+bool list_judge(const char *path, List *list);
 void list_free(List *list);
 bool file_write(const char *path, const void *bytes, size_t length);
 bool is_same_file(const char *path, const char *other);
+
+/* -- arrival.c: lists through a pipe, judged as they arrive ------------- */
+
+bool list_arrive(int file, List *list);
 
 /* -- answer.c: the parts of an answer, and what it means ---------------- */
 

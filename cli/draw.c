@@ -92,7 +92,7 @@ static int draw_file(const Arguments *arguments)
 {
     List list;
     Memory memory = { NULL, (size_t)arguments->memory, arguments->start };
-    if (!list_read(arguments->paths[0], &list))
+    if (!list_read(arguments->paths[0], &list, LIST_LIMIT + 1))
         return STATUS_ERROR;
     memory.bytes = calloc(1, memory.length + 1);
     int status = STATUS_ERROR;

@@ -153,7 +153,7 @@ static bool wants_colour(void)
 int run_dump(const Arguments *arguments)
 {
     List list;
-    if (!list_read(arguments->count > 0 ? arguments->paths[0] : "-", &list))
+    if (!list_read(arguments->count > 0 ? arguments->paths[0] : "-", &list, FILE_LIMIT))
         return STATUS_ERROR;
     Dump dump = { wants_colour(), answer_of(lanyardrove_check(list.bytes, list.length)), &list };
     print_list(&dump);

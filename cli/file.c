@@ -1,4 +1,4 @@
-/* Lists are read whole; output files are written beside their place and renamed. */
+/* Lists are read whole, or judged as they arrive; output files are written beside their place and renamed. */
 #define _XOPEN_SOURCE 700
 #include "cli.h"
 
@@ -10,36 +10,54 @@
 #include <sys/stat.h>
 #include <unistd.h>
 
-/* Reads at most one byte more than FILE_LIMIT. */
-static bool read_stream(FILE *stream, List *list)
+/* Reads at most one byte more than the limit. */
+static bool read_whole(FILE *stream, List *list, size_t limit)
 {
-    list->bytes = calloc(1, FILE_LIMIT + 1 + 8 * LANYARDROVE_MOST_WORDS);
-    if (list->bytes == NULL)
-        return false;
-    list->length = fread(list->bytes, 1, FILE_LIMIT + 1, stream);
-    list->cut = list->length > FILE_LIMIT;
+    list->length = fread(list->bytes, 1, limit + 1, stream);
+    list->cut = list->length > limit;
     if (list->cut) {
-        list->length = FILE_LIMIT;
-        list->bytes[FILE_LIMIT] = 0;
+        list->length = limit;
+        list->bytes[limit] = 0;
     }
-    if (ferror(stream)) {
-        list_free(list);
+    return !ferror(stream);
+}
+
+/* Standard input, a pipe or a device is judged as it arrives; a file may be read whole first. */
+static bool read_judged(FILE *stream, List *list, size_t limit)
+{
+    struct stat kind;
+    if (stream == stdin || fstat(fileno(stream), &kind) != 0 || !S_ISREG(kind.st_mode))
+        return list_arrive(fileno(stream), list);
+    if (!read_whole(stream, list, limit))
         return false;
-    }
+    list->verdict = lanyardrove_check(list->bytes, list->length);
     return true;
 }
 
 /* Reads a file, or standard input for "-". */
-bool list_read(const char *path, List *list)
+static bool read_by(bool (*reader)(FILE *, List *, size_t), const char *path, List *list, size_t limit)
 {
     bool standard = strcmp(path, "-") == 0;
+    *list = (List){ .bytes = calloc(1, limit + 1 + 8 * LANYARDROVE_MOST_WORDS) };
     FILE *stream = standard ? stdin : fopen(path, "rb");
-    bool read = stream != NULL && read_stream(stream, list);
-    if (!read)
+    bool read = stream != NULL && list->bytes != NULL && reader(stream, list, limit);
+    if (!read) {
         complain("%s: %s", standard ? "standard input" : path, strerror(errno));
+        list_free(list);
+    }
     if (stream != NULL && !standard)
         fclose(stream);
     return read;
+}
+
+bool list_read(const char *path, List *list, size_t limit)
+{
+    return read_by(read_whole, path, list, limit);
+}
+
+bool list_judge(const char *path, List *list)
+{
+    return read_by(read_judged, path, list, LIST_LIMIT + 1);
 }
 
 void list_free(List *list)

@@ -27,8 +27,9 @@ static const Help helps[] = {
       "Prints 'number place' for a list, then what it means. Number 0 accepts the\n"
       "list, and the place is the number of its words; any other number is the first\n"
       "refusal, at a word of the list. Of a missing sync it says also for which command\n"
-      "it is missing. Without FILE the list is read from standard input. With several\n"
-      "files there is a line for each, and a count.\n\n"
+      "it is missing. Without FILE the list is read from standard input. A list from\n"
+      "there or from a pipe is judged as it arrives, up to the first refused command.\n"
+      "With several files there is a line for each, and a count.\n\n"
       "  -q, --quiet   print 'number place' alone\n"
       "  --help        print this\n" },
     { "repair",

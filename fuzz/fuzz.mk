@@ -5,17 +5,19 @@
 FUZZ_ARCHIVE ?= build/liblanyardrove.a
 FUZZ_OUT ?= build/fuzz
 FUZZ_SECONDS ?= 600
-FUZZ_DRIVERS := check repair draw decode encode words step
+FUZZ_DRIVERS := check repair draw decode encode words step stream
+FUZZ_FUNCTIONS := check repair draw decode encode words step stream_feed stream_close
 FUZZ_FLAGS := -std=gnu17 -O2 -g -Wall -Wextra -Iinclude -Ifuzz
 FUZZ_COMMON := fuzz/lent.c fuzz/lists.c fuzz/fields.c fuzz/mutate.c fuzz/blocks.c
-FUZZ_HEADERS := fuzz/lent.h fuzz/lists.h fuzz/fields.h fuzz/library.h $(wildcard include/lanyardrove.h)
-FUZZ_NAMES := $(FUZZ_DRIVERS:%=-u lanyardrove_%)
+FUZZ_HEADERS := fuzz/lent.h fuzz/lists.h fuzz/fields.h fuzz/record.h fuzz/library.h $(wildcard include/lanyardrove.h)
+FUZZ_NAMES := $(FUZZ_FUNCTIONS:%=-u lanyardrove_%)
 
 # the versions of fuzz/wrong.c that each driver has to find
 FUZZ_WRONG := check:1 check:2 check:3 check:4 check:5 check:6 check:7 check:8 check:9 check:10 \
     repair:11 repair:12 repair:13 repair:14 repair:15 repair:16 draw:21 draw:22 draw:23 draw:24 draw:25 \
     decode:31 decode:32 decode:33 decode:34 encode:41 encode:42 encode:43 encode:44 encode:45 \
-    words:35 words:51 words:52 words:53 words:54 words:55 step:4 step:61 step:62 step:63 step:64 step:65 step:66
+    words:35 words:51 words:52 words:53 words:54 words:55 step:4 step:61 step:62 step:63 step:64 step:65 step:66 \
+    stream:71 stream:72 stream:73 stream:74 stream:75 stream:76 stream:77 stream:78 stream:79 stream:80
 
 .PHONY: fuzz-build fuzz fuzz-wrong fuzz-memcheck fuzz-always
 fuzz-build: $(FUZZ_DRIVERS:%=$(FUZZ_OUT)/%) $(FUZZ_OUT)/blocks $(FUZZ_OUT)/memcheck
@@ -41,8 +43,8 @@ $(FUZZ_OUT)/memcheck: fuzz/memcheck.c fuzz/lent.c fuzz/lists.c fuzz/fields.c $(F
 	clang $(FUZZ_FLAGS) -gdwarf-4 -o $@ fuzz/memcheck.c fuzz/lent.c fuzz/lists.c fuzz/fields.c $(FUZZ_ARCHIVE)
 
 # The library's functions renamed, behind those of fuzz/wrong.c
-$(FUZZ_OUT)/wrong.o: $(FUZZ_OUT)/lanyardrove.o fuzz/wrong.c fuzz/lists.h
-	objcopy $(foreach d,$(FUZZ_DRIVERS),--redefine-sym lanyardrove_$(d)=right_$(d)) $< $(FUZZ_OUT)/right.o
+$(FUZZ_OUT)/wrong.o: $(FUZZ_OUT)/lanyardrove.o fuzz/wrong.c fuzz/lists.h fuzz/record.h
+	objcopy $(foreach f,$(FUZZ_FUNCTIONS),--redefine-sym lanyardrove_$(f)=right_$(f)) $< $(FUZZ_OUT)/right.o
 	clang $(FUZZ_FLAGS) -c -o $(FUZZ_OUT)/wrong-only.o fuzz/wrong.c
 	ld -r -o $@ $(FUZZ_OUT)/right.o $(FUZZ_OUT)/wrong-only.o
 

@@ -15,6 +15,9 @@ uint64_t lanyardrove_encode(uint32_t number, const uint64_t *fields, size_t coun
                             size_t out_length);
 uint64_t lanyardrove_words(uint64_t first_word);
 uint64_t lanyardrove_step(uint32_t hazards, uint32_t number);
+struct lanyardrove_stream;
+uint64_t lanyardrove_stream_feed(struct lanyardrove_stream *stream, const uint8_t *portion, size_t portion_length);
+uint64_t lanyardrove_stream_close(struct lanyardrove_stream *stream);
 #endif
 
 static inline unsigned number_of(uint64_t answer) { return (unsigned)(answer >> 56); }

@@ -3,6 +3,7 @@
 #include "fields.h"
 #include "library.h"
 #include "lists.h"
+#include "record.h"
 #include <stdio.h>
 #include <stdlib.h>
 #include <string.h>
@@ -44,6 +45,28 @@ static void one_decode(const uint8_t *list, size_t length, size_t count, bool nu
     free(fields);
 }
 
+// A list in portions of a length, each in an exact buffer, closed twice; the record is defined, and stays so when it is damaged
+static void one_stream(const uint8_t *list, size_t length, size_t portion, bool null) {
+    struct lanyardrove_stream *stream = calloc(1, sizeof *stream);
+    uint64_t answer = lanyardrove_stream_feed(stream, exact(0, true), 0);
+    for (size_t at = 0, here; at < length; at += here) {
+        here = length - at < portion ? length - at : portion;
+        uint8_t *bytes = copy(list + at, here, null);
+        answer = lanyardrove_stream_feed(stream, bytes, here);
+        calls++;
+        written(&answer, sizeof answer);
+        free(bytes);
+    }
+    for (int time = 0; time < 3; time++) {
+        answer = lanyardrove_stream_close(stream);
+        calls++;
+        written(&answer, sizeof answer);
+        written(stream, sizeof *stream);
+        put_number((uint8_t *)stream, HELD_COUNT, time ? UINT32_MAX : 175);
+    }
+    free(stream);
+}
+
 static void one_list(const uint8_t *bytes, size_t length) {
     for (int null = 0; null < 2; null++) {
         uint8_t *list = copy(bytes, length, null);
@@ -64,6 +87,8 @@ static void one_list(const uint8_t *bytes, size_t length) {
                 free(memory);
             }
         for (size_t count = 0; count < MOST_FIELDS; count++) one_decode(list, length, count, null);
+        const size_t portions[] = {1, 7, 64, 175, 176, 40000};
+        for (size_t p = 0; p < sizeof portions / sizeof *portions; p++) one_stream(list, length, portions[p], null);
         free(list);
     }
 }

@@ -1,5 +1,6 @@
 // Wrong versions of the library, to see that the drivers find faults: WRONG=1.. chooses one. The functions right_.. are the library's own, renamed.
 #include "lists.h"
+#include "record.h"
 #include <stddef.h>
 #include <stdint.h>
 #include <stdlib.h>
@@ -12,6 +13,8 @@ uint64_t right_decode(const uint8_t *list, size_t length, uint64_t *fields, size
 uint64_t right_encode(uint32_t number, const uint64_t *fields, size_t count, const uint8_t *suffix, size_t suffix_length, uint8_t *out, size_t out_length);
 uint64_t right_words(uint64_t first_word);
 uint64_t right_step(uint32_t hazards, uint32_t number);
+uint64_t right_stream_feed(uint8_t *record, const uint8_t *portion, size_t length);
+uint64_t right_stream_close(uint8_t *record);
 
 static volatile uint8_t read;
 
@@ -129,5 +132,47 @@ uint64_t lanyardrove_step(uint32_t hazards, uint32_t number) {
     if (wrong(64) && n == 0x28) return a | (hazards & 2);                    // Sync Tile leaves the textured draw
     if (wrong(65) && hazards > 15) return right_step(0, number);             // bits above the hazards count
     if (wrong(66) && n == 0x3D && hazards & 1) return a | 7ull << 32;        // a free command requires a sync
+    return a;
+}
+
+// A damaged record that a wrong version takes for a sound one.
+static bool overlooked(const uint8_t *record, uint64_t answer) {
+    if (answer >> 56 != 28) return false;
+    uint8_t other[RECORD];
+    memcpy(other, record, RECORD);
+    other[HELD + ROOM - 1] = 0;
+    const uint32_t number = number_in(record, NUMBER);
+    if (wrong(74)) return number > 0 && number < 10;                                 // 28 after a remembered refusal
+    return wrong(75) && right_stream_feed(other, NULL, 0) >> 56 != 28;               // a byte past the held ones not looked at
+}
+
+// The command of the held bytes is judged without its last byte.
+static void judge_early(uint8_t *record) {
+    uint8_t next[RECORD];
+    memcpy(next, record, RECORD);
+    right_stream_feed(next, (const uint8_t[]){0}, 1);
+    if (number_in(record, HELD_COUNT) && number_in(next, HELD_COUNT) == 0) memcpy(record, next, RECORD);
+}
+
+uint64_t lanyardrove_stream_feed(uint8_t *record, const uint8_t *portion, size_t length) {
+    const bool before = number_in(record, NUMBER) != 0;
+    const uint64_t a = right_stream_feed(record, portion, length), number = a >> 56;
+    const bool refused = !before && number && number != 28;
+    if (overlooked(record, a)) return (uint64_t)number_in(record, NUMBER) << 56 | number_in(record, PLACE);
+    if (wrong(71) && number == 0) judge_early(record);                               // a command judged one byte early
+    if (wrong(72) && refused) put_number(record, NUMBER, 0);                         // a refusal not remembered
+    if (wrong(73) && refused && number > 3) record[HELD] = portion[length - 1];      // held bytes kept at a refusal
+    if (wrong(77)) record[RECORD] = 0;                                               // beyond the record
+    if (wrong(78)) read = portion[length];                                           // beyond the portion
+    if (wrong(79) && number_in(record, HELD_COUNT) % 8 == 3) record[0] ^= 1;         // a cut inside a word changes a register
+    if (wrong(80) && refused && number == 1) put_number(record, TAKEN, 32760);       // 1 does not leave all else
+    return a;
+}
+
+uint64_t lanyardrove_stream_close(uint8_t *record) {
+    const uint32_t held = number_in(record, HELD_COUNT), taken = number_in(record, TAKEN), number = number_in(record, NUMBER);
+    const uint64_t a = right_stream_close(record);
+    if (overlooked(record, a)) return (uint64_t)number << 56 | number_in(record, PLACE);
+    if (wrong(76) && a >> 56 == 2 && number == 0 && held > 7) return 3ull << 56 | (taken - held) / 8;  // 3 before 2 at closing
     return a;
 }

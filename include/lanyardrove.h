@@ -2,7 +2,7 @@
  * Lanyardrove: checks, repairs, draws, decodes and encodes command lists of the Nintendo 64's display processor (RDP).
  *
  * Link with build/liblanyardrove.a (`make`) and the C library. The functions allocate nothing, keep no state between calls,
- * use less than 4 KiB of stack and touch only the bytes that they are lent, so calls on different buffers may run at the
+ * use less than 8 KiB of stack and touch only the bytes that they are lent, so calls on different buffers may run at the
  * same time. Lists that are only read may be shared.
  *
  * A list is 64-bit words, most significant byte first, at any alignment. Places are counted in words from 0.
@@ -10,13 +10,14 @@
  * Lent bytes. Each buffer is a pointer and a length, in bytes for bytes and in elements for 64-bit numbers; the pointer
  * may be null where the length is 0. Pointers to 64-bit numbers are aligned as the platform asks, no buffer is longer
  * than PTRDIFF_MAX bytes, and a buffer that is written overlaps no other buffer of the call: C cannot check these three,
- * and they are the caller's to keep. Every content and every length is otherwise allowed.
+ * and they are the caller's to keep. Every content and every length is otherwise allowed. A record is lent by its pointer,
+ * which is never null.
  *
  * Answers. Each function but lanyardrove_version and lanyardrove_words answers one 64-bit number, whose parts
  * lanyardrove_number, lanyardrove_place and lanyardrove_third give (or by their meaning _cause, _cycles, _command, _hazards,
  * _required). Number 0 says that all went well; any other is the first refusal that holds: 1 and 2 of the list, then command
  * by command 3, 4, 5, 6 and 7 to 9, then those that the function adds, in the order of its description. A refusal leaves
- * every byte as it was, but for the repair's work buffer at 14.
+ * every byte as it was, but for the repair's work buffer at 14 and a stream's record, which remembers it.
  */
 #ifndef LANYARDROVE_H
 #define LANYARDROVE_H
@@ -33,7 +34,7 @@ extern "C" {
    A release steps the major number where a function of the last release is gone, takes other parameters, or answers or
    writes anything else for some input; else the minor number where a function is added; else the patch number. The numbers
    after the one that steps become 0. */
-#define LANYARDROVE_VERSION 0x020100
+#define LANYARDROVE_VERSION 0x020200
 
 uint32_t lanyardrove_version(void);
 
@@ -54,8 +55,9 @@ enum lanyardrove_ground {
     LANYARDROVE_OUTSIDE_MEMORY = 12,    /* Drawing: a byte of a kept pixel is outside the memory; the draw's first word. */
     LANYARDROVE_WORK_TOO_SHORT = 13,    /* Repair: the work buffer is below 16 bytes a command; place the commands. */
     LANYARDROVE_OUTPUT_TOO_SHORT = 14,  /* The output is too short for all that would be written; place what is needed. */
-    LANYARDROVE_NOT_ENCODABLE = 15      /* Encoding: a field exceeds its bits, the number is none that can be encoded, or the
+    LANYARDROVE_NOT_ENCODABLE = 15,     /* Encoding: a field exceeds its bits, the number is none that can be encoded, or the
                                            fields or suffix bytes are not as many as are due; place 0. */
+    LANYARDROVE_RECORD_DAMAGED = 28     /* Stream: the record is none that feeding and closing leave; place 0. */
 };
 
 /* The parts of an answer: bits 63:56, 31:0 and 55:32. */
@@ -64,7 +66,7 @@ static inline uint32_t lanyardrove_place(uint64_t answer) { return (uint32_t)ans
 static inline uint32_t lanyardrove_third(uint64_t answer) { return (uint32_t)(answer >> 32) & 0xFFFFFFu; }
 
 /* The third number by its meaning: the cause that the check gives, the cycles that a repair inserted, the number of a decoded
-   command. The last two are 0 at a refusal. In the answers of drawing and encoding the third number is 0.
+   command. The last two are 0 at a refusal. In the answers of drawing, encoding and streams the third number is 0.
    Of a step's answer the place is the hazards after it, and the third number's low two bits are the sync required. */
 static inline uint32_t lanyardrove_cause(uint64_t checked) { return lanyardrove_third(checked); }
 static inline uint32_t lanyardrove_cycles(uint64_t repaired) { return lanyardrove_third(repaired); }
@@ -79,6 +81,31 @@ static inline uint32_t lanyardrove_required(uint64_t stepped) { return lanyardro
    At every other answer it is the list's whole words, list_length / 8 rounded down, also at 1; it is at most 16,777,215,
    which stands for that and more (a list of 128 MiB and up). */
 uint64_t lanyardrove_check(const uint8_t *list, size_t list_length);
+
+/* The record of a list that arrives in portions, through a pipe for example. It is the caller's: all zero before the first
+   portion, and the library's own to write after that. It may be copied and kept. It holds the hazards, the registers, the bytes
+   of a command that is not yet complete, and the refusal once there is one. Every setting of its bytes is answered. */
+struct lanyardrove_stream {
+    uint64_t opaque[57];
+};
+
+/* Takes the next portion of a list into its record. Portions are cut anywhere, also inside a word, and may be empty.
+   A command is judged when its last byte is in. Answers 0, the words of the commands accepted so far as the place; or the
+   first refusal, which the record remembers: 4 to 9 as in the check, and 1 at 4,096 where a byte comes after 32,768.
+   At 4 to 9 all else in the record is as before the refused command's first byte, at 1 as after byte 32,768; further bytes of
+   the portion are not looked at. Calls after a refusal repeat it and change nothing.
+   Before all others comes 28 at 0, which leaves the record as it is and is not remembered: over 175 bytes are held, a byte
+   past them is not zero, they already make a command, over 32,768 bytes are taken, those taken less those held are below 0
+   or no multiple of 8, or the remembered number is none that these calls give. */
+uint64_t lanyardrove_stream_feed(struct lanyardrove_stream *stream, const uint8_t *portion, size_t portion_length);
+
+/* Closes a list after its last portion: 28 as above, then the remembered refusal; 2 at the whole words taken where the bytes
+   taken are no multiple of 8; 3 at its first word where a command is not complete; else 0 at the words of the list.
+   It adds a refusal to the record and nothing else, and leaves the record as it is at 0.
+   Portions of a list of whole words and at most 32,768 bytes, however they are cut, end in the number and the place that
+   lanyardrove_check gives of the whole list. Of any other list the commands complete in its first 32,768 bytes are judged
+   first. The cause of a missing sync is asked of lanyardrove_check. */
+uint64_t lanyardrove_stream_close(struct lanyardrove_stream *stream);
 
 /* The hazards: earlier work that may still run. A state is the sum of those that stand, 0 to 15; a list starts at 0. */
 enum lanyardrove_hazard {

@@ -21,6 +21,8 @@ const FUNCTIONS: &[&str] = &[
     "lanyardrove_encode",
     "lanyardrove_words",
     "lanyardrove_step",
+    "lanyardrove_stream_feed",
+    "lanyardrove_stream_close",
 ];
 const BENCH_FUNCTIONS: &[&str] = &["lanyardrove_bench_registers"];
 

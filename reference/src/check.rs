@@ -104,16 +104,16 @@ fn walk_commands(list: &[u8], state: &mut State, syncs: Syncs) -> Result<usize, 
 }
 
 /// The state between two commands.
-#[derive(Default)]
-struct State {
-    marks: Marks,
-    registers: Registers,
-    after_sync_full: bool,
+#[derive(Clone, Debug, Default, PartialEq, Eq)]
+pub struct State {
+    pub marks: Marks,
+    pub registers: Registers,
+    pub after_sync_full: bool,
 }
 
 impl State {
     /// "At one command 3, 4, 5, 6, then 7 to 9."
-    fn ground(&self, number: u8, words_left: usize, syncs: Syncs) -> Option<Ground> {
+    pub fn ground(&self, number: u8, words_left: usize, syncs: Syncs) -> Option<Ground> {
         if words(number) > words_left {
             Some(Ground::CutCommand)
         } else if self.after_sync_full {
@@ -135,7 +135,7 @@ impl State {
     }
 
     /// Runs a command that has no ground against it.
-    fn run(&mut self, word: u64) {
+    pub fn run(&mut self, word: u64) {
         let number = command_number(word);
         self.marks = self.marks.after(number);
         self.registers.run(word);

@@ -13,6 +13,8 @@ pub mod fields;
 pub mod kinds;
 pub mod marks;
 pub mod packed;
+pub mod record;
 pub mod registers;
 pub mod repair;
+pub mod stream;
 pub mod words;

@@ -6,6 +6,8 @@
 use crate::answer::{Ground, Refusal};
 use crate::kinds::{words_from, Sync};
 use crate::marks::Marks;
+use crate::record::{self, Record};
+use crate::stream::{Stream, Told};
 use crate::{check, decode, draw, encode, repair};
 
 /// An answer in its three parts.
@@ -129,4 +131,29 @@ fn sync_number(sync: Sync) -> u32 {
         Sync::Pipe => 3,
         Sync::Full => unreachable!("no command needs a Sync Full"),
     }
+}
+
+fn told(answer: Told) -> u64 {
+    packed(answer.number as u8, answer.place as usize, 0)
+}
+
+/// `lanyardrove_stream_feed`.
+pub fn feed(record: &mut Record, portion: &[u8]) -> u64 {
+    called(record, |stream| stream.feed(portion))
+}
+
+/// `lanyardrove_stream_close`.
+pub fn close(record: &mut Record) -> u64 {
+    called(record, Stream::close)
+}
+
+/// A call on a record, which is written only where the stream has changed.
+fn called(record: &mut Record, call: impl FnOnce(&mut Stream) -> Told) -> u64 {
+    let before = record::unpack(record);
+    let mut stream = before.clone();
+    let answer = call(&mut stream);
+    if stream != before {
+        record::pack(&stream, record);
+    }
+    told(answer)
 }

@@ -146,6 +146,59 @@ impl Registers {
     }
 }
 
+/// The registers as words: those of the setters by their numbers, then for each tile
+/// its descriptor's and its size's. 0 is "not set": no setter's word is 0.
+impl Registers {
+    pub fn words(&self) -> [u64; WORDS] {
+        let setters = setter_numbers().map(|number| self.word(number));
+        let tiles = self.tiles.iter().flat_map(|tile| {
+            let size = tile.size.map_or(0, word_of_size);
+            [tile.descriptor.unwrap_or(0), size]
+        });
+        let mut words = [0; WORDS];
+        for (place, word) in words.iter_mut().zip(setters.chain(tiles)) {
+            *place = word;
+        }
+        words
+    }
+
+    pub fn of_words(words: &[u64]) -> Registers {
+        let set = |word: &u64| (*word != 0).then_some(*word);
+        let mut registers = Registers::default();
+        for (number, word) in setter_numbers().zip(words) {
+            registers.setters[usize::from(number)] = set(word);
+        }
+        let tiles = words[setter_numbers().count()..].chunks_exact(2);
+        for (tile, words) in registers.tiles.iter_mut().zip(tiles) {
+            tile.descriptor = set(&words[0]);
+            tile.size = set(&words[1]).map(size_of);
+        }
+        registers
+    }
+}
+
+/// The words that hold all registers, and one to spare.
+pub const WORDS: usize = 32;
+
+/// The numbers of the commands that set a register which is no tile's.
+fn setter_numbers() -> impl Iterator<Item = u8> {
+    let sets = |number: &u8| match kind(*number) {
+        Kind::Attribute => true,
+        Kind::Free => *number != SET_TILE_SIZE,
+        _ => false,
+    };
+    (0..64).filter(sets)
+}
+
+/// A Set Tile Size word that gives this size.
+fn word_of_size(size: TileSize) -> u64 {
+    u64::from(SET_TILE_SIZE) << 56
+        | size.upper_left_s << 44
+        | size.upper_left_t << 32
+        | size.lower_right_s << 12
+        | size.lower_right_t
+}
+
 /// The tile size that Set Tile Size and each of the three loads carry, all in
 /// the same bits.
 fn size_of(word: u64) -> TileSize {

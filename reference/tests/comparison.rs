@@ -5,6 +5,8 @@ use reference::comparison::calls::Function;
 use reference::comparison::run::{run, Difference};
 use reference::comparison::side::{Reference, Side};
 use reference::kinds::{commands, is_draw};
+use reference::record::{pack, unpack, Record};
+use reference::stream::ROOM;
 use reference::words::command_number;
 
 const SEED: u64 = 7;
@@ -64,6 +66,22 @@ enum Fault {
     StepStops,
     /// The bits above the command number count.
     BitsAbove,
+    /// A command is judged one byte early.
+    OneByteEarly,
+    /// A refusal is not remembered.
+    RefusalForgotten,
+    /// Held bytes are kept at a refusal.
+    HeldKept,
+    /// A remembered refusal comes before 28.
+    DamageLate,
+    /// A byte past the held ones is not looked at.
+    ByteUnseen,
+    /// At closing 3 comes before 2.
+    ClosingOrder,
+    /// A cut inside a word forgets the registers.
+    RegisterLost,
+    /// A refusal by the limit takes a word.
+    LimitTaken,
 }
 
 /// The reference with one fault.
@@ -180,6 +198,67 @@ impl Side for Faulty {
             _ => answer,
         }
     }
+
+    fn feed(&self, record: &mut Record, portion: &[u8]) -> u64 {
+        if is_overlooked(self.0, record) {
+            return u64::from(unpack(record).remembered.number) << 56;
+        }
+        faulty_feed(self.0, record, portion)
+    }
+
+    fn close(&self, record: &mut Record) -> u64 {
+        faulty_close(self.0, record)
+    }
+}
+
+/// A stream fed with one fault.
+fn faulty_feed(fault: Fault, record: &mut Record, portion: &[u8]) -> u64 {
+    let before = unpack(record);
+    let answer = Reference.feed(record, portion);
+    let mut stream = unpack(record);
+    let refused = stream.remembered.number != 0 && before.remembered.number == 0;
+    match fault {
+        Fault::OneByteEarly if stream.held % 8 == 7 => drop(stream.feed(&[0])),
+        Fault::RefusalForgotten if refused => stream.remembered = Default::default(),
+        Fault::HeldKept if refused => {
+            stream.room[0] = 0x24;
+            stream.held = 1;
+            stream.taken += 1;
+        }
+        Fault::RegisterLost if !stream.held.is_multiple_of(8) => {
+            stream.state.registers = Default::default()
+        }
+        Fault::LimitTaken if refused && stream.remembered.number == 1 => stream.taken += 8,
+        _ => return answer,
+    }
+    pack(&stream, record);
+    answer
+}
+
+/// A stream closed with one fault.
+fn faulty_close(fault: Fault, record: &mut Record) -> u64 {
+    let stream = unpack(record);
+    let (held, taken) = (stream.held, stream.taken);
+    if fault == Fault::ClosingOrder && !stream.is_damaged() && held > 7 && taken % 8 != 0 {
+        return 3 << 56 | ((taken - held) / 8) as u64;
+    }
+    Reference.close(record)
+}
+
+/// A damaged record that a side with a fault takes for a sound one.
+fn is_overlooked(fault: Fault, record: &Record) -> bool {
+    let mut stream = unpack(record);
+    if !stream.is_damaged() {
+        return false;
+    }
+    match fault {
+        Fault::DamageLate => matches!(stream.remembered.number, 1..=9),
+        Fault::ByteUnseen => {
+            stream.room[ROOM - 1] = 0;
+            !stream.is_damaged()
+        }
+        _ => false,
+    }
 }
 
 /// The difference that the comparison reports of a fault.
@@ -214,6 +293,14 @@ fn every_fault_is_found_in_its_function() {
         (Fault::NotMissing, Function::Step),
         (Fault::StepStops, Function::Step),
         (Fault::BitsAbove, Function::Step),
+        (Fault::OneByteEarly, Function::Stream),
+        (Fault::RefusalForgotten, Function::Stream),
+        (Fault::HeldKept, Function::Stream),
+        (Fault::DamageLate, Function::Stream),
+        (Fault::ByteUnseen, Function::Stream),
+        (Fault::ClosingOrder, Function::Stream),
+        (Fault::RegisterLost, Function::Stream),
+        (Fault::LimitTaken, Function::Stream),
     ];
     for (fault, function) in faults {
         assert_eq!(found(fault).call.function, function, "{fault:?}");

@@ -10,7 +10,13 @@ const CASES: u64 = 20_000;
 
 #[test]
 fn the_plain_version_agrees_with_the_reference() {
-    let plain = foreign!(plain_check, plain_repair, plain_draw);
+    let plain = foreign!(
+        plain_check,
+        plain_repair,
+        plain_draw,
+        plain_stream_feed,
+        plain_stream_close
+    );
     let counts = run(&plain, SEED, 0..CASES).unwrap_or_else(|difference| {
         panic!("{difference}");
     });

@@ -1,7 +1,7 @@
 /*
  * Calls every function of include/lanyardrove.h through the archive: empty, short, cut and longest lists, null pointers where
- * a length is 0, document 01's examples, guard bytes around every buffer, every command number there and back, its length, and
- * its step from each of the sixteen hazards.
+ * a length is 0, document 01's examples, guard bytes around every buffer, every command number there and back, its length,
+ * its step from each of the sixteen hazards, and lists in portions.
  * It compiles as C11 and as C++17. The last line counts the checks; the exit status says whether all passed.
  */
 #include "lanyardrove.h"
@@ -776,6 +776,227 @@ static void walks(void) {
 #undef D
 #undef G
 
+/* ---- Lists in portions: the record between guards, all zero before the first portion. */
+
+typedef struct {
+    uint8_t before[GUARD];
+    struct lanyardrove_stream record;
+    uint8_t after[GUARD];
+} Guarded;
+
+static Guarded a_stream;
+
+/* The record's own layout, for records that are looked into and damaged on purpose. */
+enum { HELD = 256, HELD_COUNT = 432, TAKEN = 436, NUMBER = 440, PLACE = 444, HAZARDS = 448, ENDED = 449, RECORD = 456 };
+
+static uint8_t *record_bytes(void) { return (uint8_t *)&a_stream.record; }
+
+static void put_number(int at, uint32_t number) { memcpy(record_bytes() + at, &number, sizeof number); }
+
+static uint32_t number_in(int at) {
+    uint32_t number;
+    memcpy(&number, record_bytes() + at, sizeof number);
+    return number;
+}
+
+static void fresh_stream(void) {
+    memset(&a_stream, OLD, sizeof a_stream);
+    memset(&a_stream.record, 0, sizeof a_stream.record);
+}
+
+static uint64_t feed(const uint8_t *portion, size_t length) { return lanyardrove_stream_feed(&a_stream.record, portion, length); }
+
+static uint64_t end_stream(void) { return lanyardrove_stream_close(&a_stream.record); }
+
+static int record_is(const struct lanyardrove_stream *record) { return memcmp(&a_stream.record, record, sizeof *record) == 0; }
+
+/* Feeding and closing answer this and leave the record. */
+static void repeats(unsigned number, unsigned place, int line) {
+    const struct lanyardrove_stream kept = a_stream.record;
+    expect_answer(feed(a_list.bytes, 8), number, 0, place, line);
+    expect_answer(feed(NULL, 0), number, 0, place, line);
+    expect_answer(end_stream(), number, 0, place, line);
+    expect(record_is(&kept), "the record stays", line);
+}
+#define REPEATS(number, place) repeats((number), (place), __LINE__)
+
+/* A list in portions of a length, with an empty one before each, which changes nothing; what closing answers. */
+static uint64_t in_portions(size_t length, size_t portion, int line) {
+    size_t at;
+    uint64_t answer;
+    fresh_stream();
+    for (at = 0; at < length; at += portion) {
+        const struct lanyardrove_stream kept = a_stream.record;
+        answer = feed(NULL, 0);
+        expect(record_is(&kept), "an empty portion leaves the record", line);
+        feed(a_list.bytes + at, length - at < portion ? length - at : portion);
+        if (lanyardrove_number(answer)) expect(feed(NULL, 0) == answer && record_is(&kept), "a refusal is repeated", line);
+    }
+    answer = end_stream();
+    expect(all_are(a_stream.before, GUARD, OLD) && all_are(a_stream.after, GUARD, OLD), "nothing beside the record is touched", line);
+    return answer;
+}
+
+/* However a list is cut, closing answers this and the record is the same; closing again repeats it, after a refusal feeding too. */
+static void stream_ends(size_t length, unsigned number, unsigned place, int line) {
+    static const size_t cuts[] = {1, 2, 3, 5, 7, 8, 9, 12, 16, 63, 64, 175, 176, 177};
+    struct lanyardrove_stream whole;
+    size_t i;
+    expect_answer(in_portions(length, ROOM, line), number, 0, place, line);
+    whole = a_stream.record;
+    expect_answer(end_stream(), number, 0, place, line);
+    expect(record_is(&whole), "closing twice leaves the record", line);
+    if (number) repeats(number, place, line);
+    for (i = 0; i < sizeof cuts / sizeof cuts[0]; i++) {
+        expect_answer(in_portions(length, cuts[i], line), number, 0, place, line);
+        expect(record_is(&whole), "every cutting leaves the same record", line);
+    }
+}
+#define STREAM_ENDS(length, number, place) stream_ends((length), (number), (place), __LINE__)
+
+/* Examples A to O: closing answers as the check does. */
+static void stream_examples(void) {
+    const uint64_t c1[] = {TEXTURED}, f[] = {FULL, N}, g[] = {S, R, C}, h_tile[] = {S, R, TILE, C}, h_pipe[] = {S, R, PIPE, C};
+    const uint64_t i[] = {S, C, R}, j[] = {S, R, L, C}, k[] = {S, R, L, R}, m[] = {S, R, N, C};
+    const uint64_t o[] = {S1, 0x3F10000600000000u, S3, C, 0x3600000400000004u};
+
+    fresh(&a_list);
+    memset(a_list.bytes, 0, 22 * 8);
+    STREAM_ENDS(0, 0, 0); /* A */
+    STREAM_ENDS(7, 2, 0); /* B */
+    put(a_list.bytes, 0x0F00000000000000u);
+    STREAM_ENDS(21 * 8, 3, 0); /* D */
+    STREAM_ENDS(22 * 8, 5, 0); /* E */
+    STREAM_ENDS(LIST(c1), 3, 0);
+    STREAM_ENDS(LIST(f), 4, 1);
+    STREAM_ENDS(LIST(g), 9, 4);
+    STREAM_ENDS(LIST(h_tile), 9, 5);
+    STREAM_ENDS(LIST(h_pipe), 0, 6);
+    STREAM_ENDS(LIST(i), 0, 5);
+    STREAM_ENDS(LIST(j), 7, 4);
+    STREAM_ENDS(LIST(k), 7, 4);
+    STREAM_ENDS(LIST(m), 9, 5);
+    STREAM_ENDS(LIST(o), 0, 5);
+    STREAM_ENDS(LIST(g) - 1, 2, 4);  /* a command that is not complete is not judged */
+    STREAM_ENDS(LIST(c1) - 1, 2, 0); /* 2 comes before 3 */
+    CHECK(begins(a_list.bytes, c1, 1) && untouched_from(&a_list, 8));
+}
+
+/* A command is judged with its last byte. Its refusal leaves all else as before its first byte. */
+static void stream_refusal(void) {
+    const uint64_t words[] = {S, TEXTURED, 0, C, N};
+    static const unsigned accepted[] = {0, 1, 2, 3, 3, 5};
+    struct lanyardrove_stream before;
+    size_t at;
+
+    LIST(words);
+    fresh_stream();
+    for (at = 0; at < 40; at++) ANSWERS(feed(a_list.bytes + at, 1), 0, 0, accepted[(at + 1) / 8]);
+    before = a_stream.record;
+    CHECK(record_bytes()[HAZARDS] == (LANYARDROVE_HAZARD_PIPE | LANYARDROVE_HAZARD_TILE | LANYARDROVE_HAZARD_DRAW));
+    ANSWERS(feed(a_list.bytes + 40, 7), 0, 0, 5);
+    CHECK(number_in(HELD_COUNT) == 7 && number_in(TAKEN) == 47 && memcmp(record_bytes() + HELD, a_list.bytes + 40, 7) == 0);
+    ANSWERS(feed(a_list.bytes + 47, 9), 9, 0, 5);
+    CHECK(number_in(NUMBER) == 9 && number_in(PLACE) == 5 && number_in(TAKEN) == 40 && number_in(HELD_COUNT) == 0);
+    REPEATS(9, 5);
+    put_number(NUMBER, 0);
+    put_number(PLACE, 0);
+    CHECK(record_is(&before));
+}
+
+/* Byte 32,769 is refused, with all else as after byte 32,768; an empty portion is not, and commands before it are judged first. */
+static void stream_over_limit(void) {
+    struct lanyardrove_stream full;
+    fresh(&a_list);
+    memset(a_list.bytes, 0, 32784);
+    fresh_stream();
+    ANSWERS(feed(a_list.bytes, 32768), 0, 0, 4096);
+    full = a_stream.record;
+    ANSWERS(feed(NULL, 0), 0, 0, 4096);
+    CHECK(record_is(&full));
+    ANSWERS(feed(a_list.bytes, 1), 1, 0, 4096);
+    CHECK(number_in(NUMBER) == 1 && number_in(PLACE) == 4096);
+    REPEATS(1, 4096);
+    put_number(NUMBER, 0);
+    put_number(PLACE, 0);
+    CHECK(record_is(&full));
+    STREAM_ENDS(32768, 0, 4096);
+    STREAM_ENDS(32769, 1, 4096);
+    put(a_list.bytes + 32760, TEXTURED); /* a command across the limit is never complete */
+    STREAM_ENDS(32768, 3, 4095);
+    STREAM_ENDS(32784, 1, 4096);
+    put(a_list.bytes + 32752, R);
+    STREAM_ENDS(32784, 5, 4094);
+}
+
+/* 28 at 0 by one reason, whatever is remembered; and not after the reason is gone. */
+static void damaged(int at, uint32_t number, int line) {
+    static const unsigned remembered[] = {0, 1, 3, 9};
+    const struct lanyardrove_stream sound = a_stream.record;
+    size_t i;
+    for (i = 0; i < sizeof remembered / sizeof remembered[0]; i++) {
+        a_stream.record = sound;
+        put_number(NUMBER, remembered[i]);
+        if (at < HELD_COUNT)
+            record_bytes()[at] = (uint8_t)number;
+        else
+            put_number(at, number);
+        repeats(28, 0, line);
+    }
+    a_stream.record = sound;
+}
+#define DAMAGED(at, number) damaged((at), (number), __LINE__)
+
+/* Each reason of 28, on a record of three words taken and the 175 bytes that can be held of a triangle. */
+static void stream_damage(void) {
+    uint64_t words[25] = {S, 0x0F00000000000000u};
+    uint32_t number;
+    list_of(words, 25);
+    fresh_stream();
+    ANSWERS(feed(a_list.bytes, 24 + 175), 0, 0, 3);
+    DAMAGED(HELD_COUNT, 176); /* over 175 held bytes */
+    DAMAGED(HELD_COUNT, 0xFFFFFFFFu);
+    DAMAGED(HELD + 175, 1);   /* a byte past them that is not zero */
+    DAMAGED(HELD, 0x0E);      /* they already make a command */
+    DAMAGED(TAKEN, 32769);    /* over 32,768 taken */
+    DAMAGED(TAKEN, 0xFFFFFFFFu);
+    DAMAGED(TAKEN, 174);      /* taken less held below 0 */
+    DAMAGED(TAKEN, 198);      /* no multiple of 8 */
+    DAMAGED(HELD_COUNT, 174);
+    for (number = 10; number < 256; number++) DAMAGED(NUMBER, number); /* a remembered number that these calls do not give */
+    DAMAGED(NUMBER, 0x100);
+    DAMAGED(NUMBER, 0x80000000u);
+    for (number = 1; number < 10; number++) {
+        put_number(NUMBER, number);
+        put_number(PLACE, 0xFFFFFFFFu); /* the remembered place is not judged */
+        REPEATS(number, 0xFFFFFFFFu);
+    }
+    put_number(NUMBER, 0);
+    put_number(TAKEN, 175); /* nothing but the held bytes */
+    ANSWERS(end_stream(), 2, 0, 21);
+    fresh_stream();
+    record_bytes()[HELD] = 1;
+    REPEATS(28, 0);
+}
+
+/* Every setting of the bytes is answered, with no byte beside them touched; of the hazards the low four bits count. */
+static void stream_any_bytes(void) {
+    const uint64_t words[] = {L};
+    size_t round, i;
+    LIST(words);
+    for (round = 0; round < 2000; round++) {
+        unsigned number;
+        fresh_stream();
+        for (i = 0; i < RECORD / 8; i++) a_stream.record.opaque[i] = random_word();
+        REPEATS(28, 0);
+        memset(record_bytes() + HELD, 0, PLACE - HELD);
+        if (round % 2) record_bytes()[ENDED] = 0;
+        number = record_bytes()[ENDED] ? 4 : record_bytes()[HAZARDS] & LANYARDROVE_HAZARD_DRAW ? 7 : 0;
+        ANSWERS(feed(a_list.bytes, 8), number, 0, number ? 0 : 1);
+        CHECK(all_are(a_stream.before, GUARD, OLD) && all_are(a_stream.after, GUARD, OLD));
+    }
+}
+
 int main(void) {
     parts();
     null_pointers();
@@ -790,6 +1011,11 @@ int main(void) {
     lengths();
     steps();
     walks();
+    stream_examples();
+    stream_refusal();
+    stream_over_limit();
+    stream_damage();
+    stream_any_bytes();
     if (failures)
         printf("test_boundary: %lu checks, %lu FAILED\n", checks, failures);
     else

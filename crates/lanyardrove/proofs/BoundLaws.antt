@@ -22,7 +22,8 @@ use Rattle.rdp_check.specs.declared.Repaired.{Repaired}
 use Rattle.rdp_draw.specs.Draw.{drawAnswer}
 use Rattle.rdp_check.proofs.BoundLaws.{checkNumbers, repairNumbers, check-numbers, among-below, place-most, Bounds, repair-bounds}
 use Rattle.rdp_draw.proofs.BoundLaws.{drawNumbers, draw-numbers, draw-place}
-use Rattle.lanyardrove.specs.Replies.{Reply, packed, unpacked, plain, stepReply, checkReply, repairReply, drawReply, decodedReply, decodeReply, madeReply, encodeReply, Occurs, ofStep, ofCheck, ofRepair, ofDraw, ofDecode, ofEncode}
+use Rattle.rdp_stream.proofs.StreamLaws.{Near, fed-near, closed-near}
+use Rattle.lanyardrove.specs.Replies.{Reply, packed, unpacked, plain, stepReply, checkReply, repairReply, drawReply, decodedReply, decodeReply, madeReply, encodeReply, Occurs, ofStep, ofCheck, ofRepair, ofDraw, ofDecode, ofEncode, ofFeed, ofClose}
 use Rattle.lanyardrove.proofs.PackLaws.{Small, unpacked-packed, packed-fits}
 
 step-small : (hazards number : ℕ) → Small (stepReply hazards number)
@@ -79,6 +80,9 @@ made-small number fields suffix out (Refused a) e = plain-small a 15 (omega arit
 encode-small : (number : ℕ) (fields suffix out : List ℕ) → Small (encodeReply number fields suffix out)
 encode-small number fields suffix out = made-small number fields suffix out (fromNumbers number fields) refl
 
+near-small : (a : Answer) → Near a → Small (plain a)
+near-small a k = record { number = omega (arith, k .number); third = omega arith; place = k .place }
+
 -- every answer that occurs fits its bits
 pub small : {r : Reply} → Occurs r → Small r
 small (ofStep hazards number) = step-small hazards number
@@ -87,6 +91,8 @@ small (ofRepair is) = repair-small _ (repair-bounds is)
 small (ofDraw list start len) = draw-small list start len
 small (ofDecode list fields) = decode-small list fields
 small (ofEncode number fields suffix out) = encode-small number fields suffix out
+small (ofFeed r long near portion) = near-small _ (fed-near r long near portion)
+small (ofClose r long near) = near-small _ (closed-near r long near)
 
 -- and so the parts that are read back are the answer's, and the packed number is one of 64 bits
 pub replies-kept : {r : Reply} → Occurs r → (unpacked (packed r) ≡ r) × (packed r < 2 ^ 64)

@@ -1,3 +1,4 @@
 pub mod PackLaws
 pub mod BoundLaws
+pub mod PackedRecords
 pub mod ReplyLaws

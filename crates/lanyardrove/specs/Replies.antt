@@ -1,9 +1,10 @@
 -- What the C functions answer: a number, a third number and a place, as one 64-bit number.
-use Prim.Native.Nat.{ℕ, _+_, _*_, _/_, _%_, _^_, min}
+use Prim.Native.Nat.{ℕ, _+_, _*_, _/_, _%_, _^_, _<_, min}
 use mathlib.Core.Bool.{cond}
 use mathlib.Core.List.{List}
 use mathlib.Core.Path.{_≡_}
 use lib.Dec.{eqb}
+use lib.ListN.{length}
 use Rattle.rdp_words.specs.Lengths.{firstNumber}
 use Rattle.rdp_command.specs.Decode.{decodeOf}
 use Rattle.rdp_command.specs.Encode.{encodeAnswer, encodeOut}
@@ -16,6 +17,9 @@ use Rattle.rdp_check.specs.Check.{checkOf}
 use Rattle.rdp_check.specs.Repair.{RepairIs}
 use Rattle.rdp_check.specs.declared.Repaired.{Repaired}
 use Rattle.rdp_draw.specs.Draw.{drawAnswer}
+use Rattle.rdp_stream.specs.Records.{fedOf, closedOf}
+use Rattle.rdp_stream.specs.declared.Stream.{Stream}
+use Rattle.lanyardrove.specs.declared.Packed.{Packed}
 
 -- the number of the refusal, 0 for acceptance; a third number; and the place
 pub record Reply : Type 0 where
@@ -97,7 +101,21 @@ madeBytes suffix out (Refused a) = out
 abbrev pub encodeBytes : ℕ → List ℕ → List ℕ → List ℕ → List ℕ
 encodeBytes number fields suffix out = madeBytes suffix out (fromNumbers number fields)
 
--- the answers that there are
+-- a portion that a record takes, and the closing of its list
+abbrev pub feedReply : Stream → List ℕ → Reply
+feedReply r portion = plain (fedOf r portion .answer)
+
+abbrev pub closeReply : Stream → Reply
+closeReply r = plain (closedOf r .answer)
+
+-- with the record after it
+abbrev pub fedPacked : Stream → List ℕ → Packed
+fedPacked r portion = record { after = fedOf r portion .after; answer = packed (feedReply r portion) }
+
+abbrev pub closedPacked : Stream → Packed
+closedPacked r = record { after = closedOf r .after; answer = packed (closeReply r) }
+
+-- the answers that there are; of a record, its held bytes are 176 and its place is a 32-bit number
 pub data Occurs : Reply → Type 0 where
   ofStep : (hazards number : ℕ) → Occurs (stepReply hazards number)
   ofCheck : (list : List ℕ) → Occurs (checkReply list)
@@ -105,3 +123,5 @@ pub data Occurs : Reply → Type 0 where
   ofDraw : (list : List ℕ) (start len : ℕ) → Occurs (drawReply list start len)
   ofDecode : (list fields : List ℕ) → Occurs (decodeReply list fields)
   ofEncode : (number : ℕ) (fields suffix out : List ℕ) → Occurs (encodeReply number fields suffix out)
+  ofFeed : (r : Stream) → length (r .held) ≡ 176 → r .place < 2 ^ 32 → (portion : List ℕ) → Occurs (feedReply r portion)
+  ofClose : (r : Stream) → length (r .held) ≡ 176 → r .place < 2 ^ 32 → Occurs (closeReply r)

@@ -5,8 +5,9 @@ ghost use Prim.Native.Nat.{_+_, _<_, _^_, min};
 ghost use lib.ListN.{length};
 ghost use Rattle.rdp_words.specs.Lengths.{commandWords};
 ghost use Rattle.rdp_draw.specs.Draw.{drawMemory};
-ghost use Rattle.lanyardrove.specs.Replies.{reply, mostThird, packed, stepReply, checkReply, RepairReplies, drawReply, decodeReply, decodeFields, encodeReply, encodeBytes};
+ghost use Rattle.lanyardrove.specs.Replies.{reply, mostThird, packed, stepReply, checkReply, RepairReplies, drawReply, decodeReply, decodeFields, encodeReply, encodeBytes, fedPacked, closedPacked};
 use rdp_command::Decoded;
+use rdp_stream::Stream;
 
 // An answer as one number: the number of the refusal in bits 63:56, a third number in bits 55:32, the place in bits 31:0.
 fn pack(number: u32, third: u32, place: u32) -> u64
@@ -39,9 +40,9 @@ fn third_of_sync(required: u8, missing: bool) -> u32
 // The version of this library: major, minor and patch number, eight bits each. The header has the same number.
 #[no_mangle]
 pub extern "C" fn lanyardrove_version() -> u32
-    ensures { λ r. ⌜ r ≡ 0x020100 ⌝ }
+    ensures { λ r. ⌜ r ≡ 0x020200 ⌝ }
 {
-    0x020100
+    0x020200
 }
 
 // The words of the command that begins with a word: a plain count.
@@ -132,4 +133,59 @@ pub extern "C" fn lanyardrove_encode(
         }
         Decoded::Refused(unmade) => return pack(unmade.number, 0, unmade.place),
     }
+}
+
+// A record after a call, and the call's answer as one number.
+pub struct Packed {
+    pub after: Stream,
+    pub answer: u64,
+}
+
+// A portion fed to a record by value.
+fn feed_packed(before: Stream, portion: &[u8]) -> Packed
+    ensures { λ r. ⌜ r ≡ fedPacked before (now (portion .entry)) ⌝ }
+{
+    let fed = rdp_stream::feed_value(before, portion);
+    let after = fed.after;
+    let told = fed.answer;
+    let answer = pack(told.number, 0, told.place);
+    Packed { after, answer }
+}
+
+// The closing of a record by value.
+fn close_packed(before: Stream) -> Packed
+    ensures { λ r. ⌜ r ≡ closedPacked before ⌝ }
+{
+    let closed = rdp_stream::close_value(before);
+    let left = closed.after;
+    let last = closed.answer;
+    let answer = pack(last.number, 0, last.place);
+    Packed {
+        after: left,
+        answer,
+    }
+}
+
+// Takes a portion of a list into the caller's record, where it stands: 0 and the words of the commands accepted so far, or the refusal that the record
+// remembers from then on, 1, or 4 to 9 at a command; 28 at 0 where these calls cannot have left the record.
+#[no_mangle]
+pub extern "C" fn lanyardrove_stream_feed(lent: &mut Stream, portion: &[u8]) -> u64
+    ensures { λ r. ⌜ (r ≡ fedPacked (now (lent .entry)) (now (portion .entry)) .answer) × (now (lent .exit) ≡ fedPacked (now (lent .entry)) (now (portion .entry)) .after) ⌝ }
+{
+    let before = *lent;
+    let both = feed_packed(before, portion);
+    *lent = both.after;
+    both.answer
+}
+
+// Closes the list of the caller's record: 0 and its words, or the refusal that the record remembers, 2, 3 or an earlier one; 28 at 0 where these calls
+// cannot have left the record.
+#[no_mangle]
+pub extern "C" fn lanyardrove_stream_close(lent: &mut Stream) -> u64
+    ensures { λ r. ⌜ (r ≡ closedPacked (now (lent .entry)) .answer) × (now (lent .exit) ≡ closedPacked (now (lent .entry)) .after) ⌝ }
+{
+    let before = *lent;
+    let both = close_packed(before);
+    *lent = both.after;
+    both.answer
 }

@@ -1,8 +1,9 @@
 -- The judgement of commands, and the state after them, over commands and further commands. Assumes nothing.
-use mathlib.Core.Path.{_≡_, refl, _∙_, ap}
+use mathlib.Core.Path.{_≡_, refl, sym, _∙_, ap}
 use mathlib.Core.Bool.{false, cond}
-use mathlib.Core.List.{List, [], _∷_, _++_}
-use Prim.Native.Nat.{ℕ, zero, suc, _+_}
+use mathlib.Core.List.{List, [], _∷_, _++_, append-nil}
+use Prim.Native.Nat.{ℕ, zero, suc, _+_, _≤_}
+use native.Mathlib.Nat.{le-refl}
 use native.Mathlib.Omega.{arith}
 use borrow.Author.Tests.{ne-eqb}
 use lib.Dec.{eqb}
@@ -10,7 +11,7 @@ use Rattle.rdp_words.specs.Kinds.{wordsOf}
 use Rattle.rdp_words.specs.Lengths.{firstNumber}
 use Rattle.rdp_check.specs.Commands.{wordsIn}
 use Rattle.rdp_check.specs.Refusals.{stateAfter}
-use Rattle.rdp_check.specs.Check.{State, afterCommand, Refusals, refusalAt, Outcome, outcome, settle, judge}
+use Rattle.rdp_check.specs.Check.{State, afterCommand, Refusals, refusalAt, Outcome, outcome, atEnd, settle, judge}
 
 pub state-append : (s : State) (bs cs : List (List ℕ)) → stateAfter s (bs ++ cs) ≡ stateAfter (stateAfter s bs) cs
 state-append s [] cs = refl
@@ -51,3 +52,23 @@ judge-append refusals s at (b ∷ bs) cs rest =
     let w = wordsOf (firstNumber b) in
     ap (settle (refusalAt refusals s b) at s) (judge-append refusals (afterCommand s b) (at + w) bs cs rest) ∙
     settle-then refusals (refusalAt refusals s b) at s (judge refusals (afterCommand s b) (at + w) bs []) cs rest
+
+-- the bytes of a command that is cut count only where no command is refused
+abbrev pub ending : Outcome → List ℕ → Outcome
+ending o rest = cond (eqb (o .number) 0) (atEnd (o .state) (o .place) rest) o
+
+pub judge-ending : (refusals : Refusals) (s : State) (at : ℕ) (cs : List (List ℕ)) (rest : List ℕ) → judge refusals s at cs rest ≡ ending (judge refusals s at cs []) rest
+unfolding judge
+judge-ending refusals s at cs rest = ap (λ (x : List (List ℕ)). judge refusals s at x rest) (sym (append-nil cs)) ∙ judge-append refusals s at cs [] rest
+
+-- a judgement goes on from its place
+settle-from : (g at : ℕ) (s : State) (o : Outcome) → at ≤ o .place → at ≤ settle g at s o .place
+settle-from zero at s o h = h
+settle-from (suc g) at s o h = le-refl at
+
+pub judge-from : (refusals : Refusals) (s : State) (at : ℕ) (cs : List (List ℕ)) (rest : List ℕ) → at ≤ judge refusals s at cs rest .place
+unfolding judge
+judge-from refusals s at [] [] = le-refl at
+judge-from refusals s at [] (b ∷ rest) = le-refl at
+judge-from refusals s at (c ∷ cs) rest =
+    settle-from (refusalAt refusals s c) at s _ (omega (arith, judge-from refusals (afterCommand s c) (at + wordsOf (firstNumber c)) cs rest))

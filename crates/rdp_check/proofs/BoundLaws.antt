@@ -33,7 +33,7 @@ checkNumbers = 0 ∷ 1 ∷ 2 ∷ 3 ∷ 4 ∷ 5 ∷ 6 ∷ 7 ∷ 8 ∷ 9 ∷ []
 abbrev pub repairNumbers : List ℕ
 repairNumbers = 0 ∷ 1 ∷ 2 ∷ 3 ∷ 4 ∷ 5 ∷ 6 ∷ 13 ∷ 14 ∷ []
 
-check-known : (s : State) (c : List ℕ) → T (allGive (λ n. among n checkNumbers) (checkRefusals s c))
+pub check-known : (s : State) (c : List ℕ) → T (allGive (λ n. among n checkNumbers) (checkRefusals s c))
 unfolding ownRefusals syncRefusals
 check-known s c = tt
 

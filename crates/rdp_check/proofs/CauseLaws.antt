@@ -1,5 +1,5 @@
 -- The cause of a refusal by 7, 8 or 9 is the latest command that set the mark which the refused one needs cleared. Assumes nothing.
-use mathlib.Core.Bool.{Bool, true, false, cond, not, _||_, true≢false, false≢true}
+use mathlib.Core.Bool.{Bool, true, false, cond, not, _&&_, _||_, true≢false, false≢true}
 use mathlib.Core.List.{List, [], _∷_, _++_, append-assoc}
 use mathlib.Core.Logic.{_⊎_, inl, inr, ⊎-elim}
 use mathlib.Core.Path.{_≡_, refl, sym, ap, subst, _∙_}
@@ -12,7 +12,7 @@ use lib.Seq.{take-at, drop-at}
 use Rattle.rdp_words.specs.Words.{wordAt, numberIn}
 use Rattle.rdp_words.specs.Kinds.{between, hasBit, kindOf, isAmong, wordsOf}
 use Rattle.rdp_words.specs.Lengths.{firstNumber}
-use Rattle.rdp_words.proofs.Tests.{true-of, false-of}
+use Rattle.rdp_words.proofs.Tests.{both, true-of, false-of}
 use Rattle.rdp_words.proofs.KindLaws.{among-by, draws-among}
 use Rattle.rdp_words.proofs.WordLaws.{word-front}
 use Rattle.rdp_words.proofs.PlaceLaws.{number-small, word-drop}
@@ -379,23 +379,35 @@ cause-words list t = rw (false-of (between 7 9 (checkOf list .number)) t)
 
 -- ---- as the code finds it
 
-module _ (list : List ℕ) (number place : ℕ) where
-  pub cause-else : not (between 7 9 number) ≡ true → length list / 8 ≡ causeOf list number place
-  unfolding causeOf
-  cause-else t = rw (not-true (between 7 9 number) t)
+module _ (list : List ℕ) (number place : ℕ) (whole : Bool) where
+  -- what is answered of the bytes
+  abbrev answered : ℕ
+  answered = cond whole (causeOf list number place) (length list / 8)
 
-  module _ (t : not (between 7 9 number) ≡ false) where
-    pub missing-of : IsJudged list number place → Missing list place
-    missing-of j =
-        let d = subst T (ap (between 7 9) (j .is-number)) (not-false (between 7 9 number) t) in
+  pub cause-else : not (whole && between 7 9 number) ≡ true → length list / 8 ≡ answered
+  unfolding causeOf
+  cause-else t = either whole (between 7 9 number) (not-true (whole && between 7 9 number) t)
+    where
+      either : (a b : Bool) → a && b ≡ false → length list / 8 ≡ cond a (cond b (causeAt list place) (length list / 8)) (length list / 8)
+      either true b e = rw e
+      either false b e = refl
+
+  module _ (t : not (whole && between 7 9 number) ≡ false) where
+    both-hold : T whole × T (between 7 9 number)
+    both-hold = both whole (between 7 9 number) (not-false (whole && between 7 9 number) t)
+
+    pub missing-of : (whole ≡ true → IsJudged list number place) → Missing list place
+    missing-of judged =
+        let j = judged (true-of whole (both-hold .0)) in
+        let d = subst T (ap (between 7 9) (j .is-number)) (both-hold .1) in
         subst (Missing list) (sym (j .is-place)) (missing-judged (j .strict) list d)
 
     pub cause-sought :
         (numbers : ℕ) → Numbers numbers (awaited (numberIn (wordAt list place)) .sets) → (found : ℕ) →
-        found ≡ latest (isAmong numbers) (length list / 8) 0 (commandsOf (take (8 * place) list)) → found ≡ causeOf list number place
+        found ≡ latest (isAmong numbers) (length list / 8) 0 (commandsOf (take (8 * place) list)) → found ≡ answered
     unfolding causeOf
     cause-sought numbers are found is =
-        rw (true-of (between 7 9 number) (not-false (between 7 9 number) t))
+        rw (true-of whole (both-hold .0), true-of (between 7 9 number) (both-hold .1))
         (is ∙ latest-same (isAmong numbers) (awaited (numberIn (wordAt list place)) .sets) are (length list / 8) 0 (commandsOf (take (8 * place) list)))
 
 -- ---- the loop that seeks the latest

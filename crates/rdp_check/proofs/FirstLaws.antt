@@ -37,11 +37,11 @@ none-numbered s c m = m
 
 -- ---- bytes that are left
 
-some-bytes : (bs : List ℕ) → (bs ≡ [] → ⊥) → T (isSome bs)
+pub some-bytes : (bs : List ℕ) → (bs ≡ [] → ⊥) → T (isSome bs)
 some-bytes [] h = h refl
 some-bytes (b ∷ bs) h = tt
 
-bytes-some : (bs : List ℕ) → T (isSome bs) → bs ≡ [] → ⊥
+pub bytes-some : (bs : List ℕ) → T (isSome bs) → bs ≡ [] → ⊥
 bytes-some [] t e = t
 bytes-some (b ∷ bs) t e = suc-ne-zero (length bs) (ap length e)
 
@@ -177,7 +177,7 @@ module _ (refusals : Refusals) where
     from-commands n p m = from-located n p (located start 0 cs (restOf list) n p m)
 
     module _ (known : Numbered refusals) where
-      no-zero-command : (n p : ℕ) → CommandHolds refusals list n p → n ≡ 0 → ⊥
+      pub no-zero-command : (n p : ℕ) → CommandHolds refusals list n p → n ≡ 0 → ⊥
       no-zero-command n p (pastEnd h) z = suc-ne-zero 2 z
       no-zero-command n p (atCommand before c after number split m) z =
           known (stateAfter start before) c (subst (λ (k : ℕ). Among k (refusals (stateAfter start before) c)) z m)
@@ -247,7 +247,7 @@ module _ (refusals : Refusals) where
 
 -- ---- the numbers that there are
 
-settled-gives : (f : ℕ → Bool) (g at : ℕ) (s : State) (next : Outcome) → T (f g) → T (f (next .number)) → T (f (settle g at s next .number))
+pub settled-gives : (f : ℕ → Bool) (g at : ℕ) (s : State) (next : Outcome) → T (f g) → T (f (next .number)) → T (f (settle g at s next .number))
 settled-gives f zero at s next t u = u
 settled-gives f (suc g) at s next t u = t
 

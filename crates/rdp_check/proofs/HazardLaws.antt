@@ -35,7 +35,7 @@ pub next-low : (m n : ℕ) → nextOf (m % 16) n ≡ nextOf m n
 unfolding nextOf
 next-low m n = ap (λ (h : Hazards). codeOf (hazardsAfter (kindOf n) n h)) (low-bits m)
 
-required-low : (m n : ℕ) → requiredOf (m % 16) n ≡ requiredOf m n
+pub required-low : (m n : ℕ) → requiredOf (m % 16) n ≡ requiredOf m n
 unfolding requiredOf
 required-low m n = ap (requiredBy (kindOf n)) (low-bits m)
 

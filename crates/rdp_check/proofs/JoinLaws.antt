@@ -125,11 +125,14 @@ pub joined-whole : (bs : List ℕ) → restOf bs ≡ [] → joined (commandsOf b
 joined-whole bs none =
     sym (append-nil (joined (commandsOf bs))) ∙ ap (λ (x : List ℕ). joined (commandsOf bs) ++ x) (sym none) ∙ parsed bs .joins
 
--- the words of a list's commands lie in the list
-pub words-inside : (bs : List ℕ) → 8 * wordsIn (commandsOf bs) ≤ length bs
-words-inside bs =
+-- a list has the bytes of its commands and those that are left
+pub length-split : (bs : List ℕ) → length bs ≡ 8 * wordsIn (commandsOf bs) + length (restOf bs)
+length-split bs =
     let p = parsed bs in
     omega (arith, ap length (p .joins), length-append (joined (commandsOf bs)) (restOf bs), length-joined (commandsOf bs) (p .alone))
+
+pub words-inside : (bs : List ℕ) → 8 * wordsIn (commandsOf bs) ≤ length bs
+words-inside bs = omega (arith, length-split bs)
 
 -- ---- commands in front of a list, and the front of a list
 

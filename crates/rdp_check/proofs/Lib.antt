@@ -10,6 +10,7 @@ pub mod StopLaws
 pub mod WalkLaws
 pub mod OrderLaws
 pub mod FirstLaws
+pub mod OnwardLaws
 pub mod MarkLaws
 pub mod CauseLaws
 pub mod SyncLaws

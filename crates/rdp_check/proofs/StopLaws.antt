@@ -13,6 +13,7 @@ use Rattle.rdp_check.specs.Cause.{causeOf}
 use Rattle.rdp_check.specs.View.{refusalsBy, viewOf, stopOf, settleView, judgeView, judgedView}
 use Rattle.rdp_check.specs.declared.Checked.{Checked}
 use Rattle.rdp_check.specs.declared.walk.Rest.{Rest}
+use Rattle.rdp_check.specs.declared.walk.View.{View}
 use Rattle.rdp_check.specs.declared.walk.Stop.{Stop}
 use Rattle.rdp_check.proofs.JoinLaws.{Alone, AllAlone, command-some, parsed}
 use Rattle.rdp_check.proofs.ViewLaws.{refusal-seen, view-after}
@@ -43,10 +44,12 @@ judged-seen strict s at bs = judge-seen strict s at (commandsOf bs) (restOf bs) 
 
 -- from the first view on
 pub list-seen :
-    (strict : Bool) (list : List ℕ) (r : Rest) → r ≡ viewOf start .rest → (q : Stop) → q ≡ judgedView strict (record { hazards = 0; rest = r }) 0 list →
-    q ≡ stopOf (judgeList (refusalsBy strict) list)
+    (strict : Bool) (list : List ℕ) (v : View) → v ≡ viewOf start → (q : Stop) → q ≡ judgedView strict v 0 list → q ≡ stopOf (judgeList (refusalsBy strict) list)
+list-seen strict list v e q is = is ∙ ap (λ (x : View). judgedView strict x 0 list) e ∙ sym (judged-seen strict start 0 list)
+
+pub first-view : (r : Rest) → r ≡ viewOf start .rest → record { hazards = 0; rest = r } ≡ viewOf start
 unfolding viewOf
-list-seen strict list r e q is = is ∙ (λ i. judgedView strict (record { hazards = 0; rest = e i }) 0 list) ∙ sym (judged-seen strict start 0 list)
+first-view r e = λ i. record { hazards = 0; rest = e i }
 
 -- of the view the check shows the hazards
 abbrev pub shownOf : List ℕ → Stop → Checked

@@ -6,6 +6,7 @@ pub mod Syncs
 pub mod Marks
 pub mod Cause
 pub mod Check
+pub mod Checkpoint
 pub mod Refusals
 pub mod View
 pub mod Inserted

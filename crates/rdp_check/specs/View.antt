@@ -1,9 +1,10 @@
 -- What the check's loop carries and reads, as a view of the state and of a command. No public contract cites this.
-use Prim.Native.Nat.{ℕ, zero, suc, _+_, _<_}
+use Prim.Native.Nat.{ℕ, zero, suc, _+_, _/_, _%_, _<_}
 use mathlib.Core.Bool.{Bool, true, false, cond, not, _&&_, _||_}
 use mathlib.Core.List.{List, [], _∷_}
 use mathlib.Core.Path.{_≡_}
 use lib.Dec.{eqb}
+use lib.ListN.{length}
 use Rattle.rdp_words.specs.Words.{wordAt}
 use Rattle.rdp_words.specs.Kinds.{among, isAmong, wordsOf}
 use Rattle.rdp_command.specs.declared.Head.{Head}
@@ -11,11 +12,13 @@ use Rattle.rdp_command.specs.Reads.{headOf}
 use Rattle.rdp_check.specs.Hazards.{nextOf, requiredOf}
 use Rattle.rdp_check.specs.Commands.{commandsOf, restOf}
 use Rattle.rdp_check.specs.Marks.{draws}
+use Rattle.rdp_check.specs.Cause.{causeOf}
 use Rattle.rdp_check.specs.Check.{State, Refusals, checkRefusals, repairRefusals, Outcome, judgeList}
 use Rattle.rdp_check.specs.declared.walk.Rest.{Rest}
 use Rattle.rdp_check.specs.declared.walk.View.{View}
 use Rattle.rdp_check.specs.declared.walk.Advanced.{Advanced}
 use Rattle.rdp_check.specs.declared.walk.Stop.{Stop}
+use Rattle.rdp_check.specs.declared.walk.Caused.{Caused}
 
 -- a register that a draw needs: 0 not set, 2 set to what the other must not meet, 1 set to anything else
 abbrev pub code : Bool → Bool → ℕ
@@ -118,6 +121,10 @@ stopAt number place v = record { number = number; place = place; view = v }
 abbrev pub stopOf : Outcome → Stop
 stopOf o = stopAt (o .number) (o .place) (viewOf (o .state))
 
+-- a state with the low four bits of its hazards
+abbrev pub lowOf : State → State
+lowOf s = record { hazards = s .hazards % 16; ended = s .ended; registers = s .registers }
+
 -- the judgement of commands by the view alone
 abbrev pub endView : View → ℕ → List ℕ → Stop
 endView v at [] = stopAt 0 at v
@@ -135,3 +142,7 @@ judgeView strict v at (c ∷ cs) rest =
 
 abbrev pub judgedView : Bool → View → ℕ → List ℕ → Stop
 judgedView strict v at bs = judgeView strict v at (commandsOf bs) (restOf bs)
+
+-- with the cause of a refusal where the bytes are a whole list, else with their whole words
+abbrev pub causedBy : Bool → List ℕ → Stop → Caused
+causedBy whole list q = record { stop = q; cause = cond whole (causeOf list (q .number) (q .place)) (length list / 8) }

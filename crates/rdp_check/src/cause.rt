@@ -1,8 +1,9 @@
 // The command that caused the refusal of another: the latest that set the mark which that one needs cleared.
-ghost use mathlib.Core.Bool.{cond};
+ghost use mathlib.Core.Bool.{cond, true};
 ghost use mathlib.Core.List.{[]};
 ghost use mathlib.Core.Path.{_≡_};
-ghost use Prim.Native.Nat.{_<_};
+ghost use Prim.Native.Nat.{_/_, _<_};
+ghost use lib.ListN.{length};
 ghost use Rattle.rdp_words.specs.Kinds.{isAmong};
 ghost use Rattle.rdp_check.specs.Commands.{commandsOf, restOf};
 ghost use Rattle.rdp_check.specs.Cause.{awaited, latest, causeOf};
@@ -53,13 +54,13 @@ fn latest_among(numbers: u64, list: &[u8], other: usize) -> usize
     found
 }
 
-// The cause of a refusal by 7, 8 or 9, by a second walk up to its place; at every other answer the list's whole words.
-pub fn cause_of(list: &[u8], number: u32, place: u32) -> usize
-    requires { ⌜ IsJudged (now list) number place ⌝ }
-    ensures { λ r. ⌜ r ≡ causeOf (now (list .entry)) number place ⌝ }
+// The cause of a refusal of a whole list by 7, 8 or 9, by a second walk up to its place; at every other answer the whole words.
+pub fn cause_of(list: &[u8], number: u32, place: u32, whole: bool) -> usize
+    requires { ⌜ (whole ≡ true → IsJudged (now list) number place) ⌝ }
+    ensures { λ r. ⌜ r ≡ cond whole (causeOf (now (list .entry)) number place) (length (now (list .entry)) / 8) ⌝ }
 {
     let words = list.len() / 8;
-    if !((7 <= number) & (number <= 9)) {
+    if !(whole & ((7 <= number) & (number <= 9))) {
         return words;
     }
     let at = place as usize;

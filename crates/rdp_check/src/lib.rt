@@ -3,10 +3,12 @@ ghost use mathlib.Core.Path.{_≡_};
 ghost use Prim.Native.Nat.{_%_};
 ghost use Rattle.rdp_check.specs.Hazards.{transitionOf};
 ghost use Rattle.rdp_check.specs.Check.{checkOf};
+ghost use Rattle.rdp_check.specs.Checkpoint.{checkFrom};
 ghost use Rattle.rdp_check.specs.Repair.{RepairIs};
 
 mod cause;
 mod hazards;
+mod onward;
 mod plan;
 mod repairing;
 mod table;
@@ -32,6 +34,27 @@ pub struct Checked {
     pub place: u32,
     pub hazards: u8,
     pub cause: usize,
+}
+
+// Where a list stands between two of its commands, as far as the check reads it: the words that last set the other modes, the colour image and the scissor,
+// 0 where none has come; the hazards, of which the low four bits count; and whether a Sync Full has come.
+#[repr(C)]
+pub struct Checkpoint {
+    pub other_modes: u64,
+    pub color_image: u64,
+    pub scissor: u64,
+    pub hazards: u8,
+    pub ended: bool,
+}
+
+// The number of the first refusal of some commands, 0 where none is refused; its place, or that after the last; and the hazards and whether a Sync Full has
+// come there.
+#[repr(C)]
+pub struct Judged {
+    pub number: u32,
+    pub place: u32,
+    pub hazards: u8,
+    pub ended: bool,
 }
 
 // Each register has its value and whether the list has set it.
@@ -192,6 +215,33 @@ pub fn check(list: &[u8]) -> Checked
     ensures { λ r. ⌜ r ≡ checkOf (now (list .entry)) ⌝ }
 {
     walk::check_within(list, 4096, true)
+}
+
+// The first refusal of the whole commands of bytes, 4 to 9, from a checkpoint on; 0 after them where none holds. A command whose words are not all there is
+// not looked at. Of more than 32,768 bytes none is judged: 1 at 4,096.
+pub fn check_from(before: Checkpoint, bytes: &[u8]) -> Judged
+    ensures { λ r. ⌜ r ≡ checkFrom before (now (bytes .entry)) ⌝ }
+{
+    let hazards = before.hazards;
+    if 32768 < bytes.len() {
+        return Judged {
+            number: 1,
+            place: 4096,
+            hazards,
+            ended: before.ended,
+        };
+    }
+    let stop = onward::stop_from(before, bytes);
+    let place = stop.place;
+    let view = stop.view;
+    let rest = view.rest;
+    let after = onward::hazards_after(place, hazards, view.hazards);
+    Judged {
+        number: stop.number,
+        place,
+        hazards: after,
+        ended: rest.ended,
+    }
 }
 
 // Writes to out the list with the syncs that it misses inserted, at the least cycles. The work buffer lends sixteen bytes a command. Refusals 1 to 6 of

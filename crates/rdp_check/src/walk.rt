@@ -1,13 +1,13 @@
 // The walk over a list's commands that finds the first refusal.
 ghost use mathlib.Core.Bool.{cond, true};
 ghost use mathlib.Core.Path.{_≡_};
-ghost use Prim.Native.Nat.{_*_, _<_, _≤_};
+ghost use Prim.Native.Nat.{_*_, _%_, _<_, _≤_};
 ghost use lib.ListN.{length};
 ghost use Rattle.rdp_words.specs.Words.{wordAt, numberIn};
 ghost use Rattle.rdp_check.specs.Hazards.{Agrees, entryOf};
 ghost use Rattle.rdp_check.specs.Check.{start, outcomeWithin, checked};
 ghost use Rattle.rdp_check.specs.Marks.{draws};
-ghost use Rattle.rdp_check.specs.View.{refusalsBy, code, viewOf, restAfter, restRefusal, refusalWith, Watches, AdvancedIs, stopAt, judgedView};
+ghost use Rattle.rdp_check.specs.View.{refusalsBy, code, viewOf, restAfter, restRefusal, refusalWith, Watches, AdvancedIs, stopAt, judgedView, causedBy};
 use crate::Checked;
 use crate::cause;
 use crate::hazards;
@@ -58,6 +58,12 @@ pub fn number_at(list: &[u8], place: usize) -> u8
     rdp_words::number_in(rdp_words::word_at(list, place))
 }
 
+// Where a walk ends, and the cause of a refusal by 7, 8 or 9.
+pub struct Caused {
+    pub stop: Stop,
+    pub cause: usize,
+}
+
 // The first refusal of a command, or 0: 4, then its refusal as a draw, then a missing sync.
 fn refusal(ended: bool, draw: u8, required: u8) -> u32
     requires { ⌜ required ≤ 3 ⌝ }
@@ -88,7 +94,7 @@ fn no_rest() -> Rest
 }
 
 // The code of a register that is set.
-fn set_code(special: bool) -> u8
+pub fn set_code(special: bool) -> u8
     ensures { λ r. ⌜ r ≡ code true special ⌝ }
 {
     if special {
@@ -207,7 +213,7 @@ fn answer(number: u32, place: usize, hazards: u8, rest: Rest) -> Stop
 // The commands of a list of whole words, in order, from a view on: the first refusal, or 0 at the number of words. Most commands need not be looked into
 // and miss no sync: the way that they take touches nothing but the hazards, and not even these where they stay, so that the next command need not wait
 // for them.
-pub fn walk(table: &[u8; 1024], list: &[u8], words: usize, view: View, strict: bool) -> Stop
+fn walk(table: &[u8; 1024], list: &[u8], words: usize, view: View, strict: bool) -> Stop
     requires { ⌜ Agrees (now table) × ((length (now list) ≡ 8 * words) × ((words ≤ 4096) × (view .hazards < 16))) ⌝ }
     ensures { λ r. ⌜ r ≡ judgedView strict view 0 (now (list .entry)) ⌝ }
 {
@@ -254,6 +260,19 @@ pub fn walk(table: &[u8; 1024], list: &[u8], words: usize, view: View, strict: b
     answer(0, words, hazards, rest)
 }
 
+// The walk over a list of whole words from a view on; where they are the whole list, also the cause of a refusal by 7, 8 or 9. The one place that calls the
+// walk, which the compiler then puts here: the check, the repair and the portions all come by.
+pub fn walk_on(list: &[u8], view: View, strict: bool, whole: bool) -> Caused
+    requires { ⌜ (length (now list) % 8 ≡ 0) × ((length (now list) ≤ 32768) × ((view .hazards < 16) × (whole ≡ true → view ≡ viewOf start))) ⌝ }
+    ensures { λ r. ⌜ r ≡ causedBy whole (now (list .entry)) (judgedView strict view 0 (now (list .entry))) ⌝ }
+{
+    let words = list.len() / 8;
+    let table = table::step_table();
+    let stop = walk(&table, list, words, view, strict);
+    let cause = cause::cause_of(list, stop.number, stop.place, whole);
+    Caused { stop, cause }
+}
+
 // The first refusal of a list that may have so many words, with its cause: 1 and 2 of the list, then those of its commands.
 pub fn check_within(list: &[u8], most: usize, strict: bool) -> Checked
     requires { ⌜ most ≤ 4096 ⌝ }
@@ -277,17 +296,14 @@ pub fn check_within(list: &[u8], most: usize, strict: bool) -> Checked
             cause: words,
         };
     }
-    let table = table::step_table();
     let rest = no_rest();
-    let stop = walk(&table, list, words, View { hazards: 0, rest }, strict);
-    let number = stop.number;
-    let place = stop.place;
+    let caused = walk_on(list, View { hazards: 0, rest }, strict, true);
+    let stop = caused.stop;
     let view = stop.view;
-    let cause = cause::cause_of(list, number, place);
     Checked {
-        number,
-        place,
+        number: stop.number,
+        place: stop.place,
         hazards: view.hazards,
-        cause,
+        cause: caused.cause,
     }
 }

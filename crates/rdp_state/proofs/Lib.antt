@@ -1,2 +1,4 @@
 pub mod RegisterLaws
 pub mod ReplayLaws
+pub mod StandingLaws
+pub mod ResumeLaws

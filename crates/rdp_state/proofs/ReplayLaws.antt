@@ -13,15 +13,17 @@ use Rattle.rdp_words.specs.Words.{wordAt, numberIn}
 use Rattle.rdp_words.specs.Kinds.{wordsOf}
 use Rattle.rdp_words.specs.Lengths.{firstNumber}
 use Rattle.rdp_words.proofs.Tests.{by-test, false-of}
-use Rattle.rdp_words.proofs.KindLaws.{words-pos, words-most}
+use Rattle.rdp_words.proofs.KindLaws.{words-most}
 use Rattle.rdp_check.specs.Commands.{commandsOf, restOf}
 use Rattle.rdp_check.specs.Registers.{noRegisters}
-use Rattle.rdp_check.specs.Check.{State, start, afterCommand, Refusals, ownRefusals, syncRefusals, checkRefusals, refusalAt, Outcome, atEnd, settle, judge, judgeList, outcomeWithin}
+use Rattle.rdp_check.specs.Check.{State, start, afterCommand, Refusals, ownRefusals, syncRefusals, checkRefusals, refusalAt, Outcome, settle, judge, judgeList, outcomeWithin}
 use Rattle.rdp_state.specs.RegisterWords.{tileIn, slotOf, registersIn}
 use Rattle.rdp_state.specs.Replay.{wordsUpTo, registersUpTo, endOf}
 use Rattle.rdp_check.specs.declared.Registers.{Registers}
 use Rattle.rdp_words.proofs.PlaceLaws.{number-small, some-words}
 use Rattle.rdp_check.proofs.ListLaws.{commands-at, command-number, command-word, commands-past}
+use Rattle.rdp_check.proofs.JoinLaws.{command-some}
+use Rattle.rdp_check.proofs.AppendLaws.{judge-from}
 use Rattle.rdp_check.proofs.OrderLaws.{allGive}
 use Rattle.rdp_check.proofs.FirstLaws.{judge-gives}
 use Rattle.rdp_state.proofs.RegisterLaws.{stored-back, none-set, registers-up-to}
@@ -46,7 +48,7 @@ first list end words unread file l e u =
       same = ap (λ (f : List ℕ). wordsUpTo end 0 f (commandsOf list)) (ap (set file 31) u ∙ set-getD file 31 0);
     }
 
-still : (end at : ℕ) (file : List ℕ) (cs : List (List ℕ)) → end ≤ at → wordsUpTo end at file cs ≡ file
+pub still : (end at : ℕ) (file : List ℕ) (cs : List (List ℕ)) → end ≤ at → wordsUpTo end at file cs ≡ file
 unfolding wordsUpTo
 still end at file [] h = refl
 still end at file (c ∷ cs) h = rw (le-ltb _ _ h)
@@ -111,40 +113,35 @@ stopped end at r (c ∷ cs) h = rw (le-ltb _ _ h)
 -- ---- the outcome
 
 -- the commands before the place of an outcome leave the registers of its state
-record Left (refusals : Refusals) (s : State) (at : ℕ) (cs : List (List ℕ)) (o : Outcome) : Type 0 where
-  from : at ≤ o .place
-  registers : registersUpTo (o .place) at (s .registers) cs ≡ o .state .registers
-
-left-end : (refusals : Refusals) (s : State) (at : ℕ) (rest : List ℕ) → Left refusals s at [] (atEnd s at rest)
-unfolding registersUpTo
-left-end refusals s at [] = record { from = le-refl at; registers = refl }
-left-end refusals s at (b ∷ bs) = record { from = le-refl at; registers = refl }
+abbrev Left : State → ℕ → List (List ℕ) → Outcome → Type 0
+Left s at cs o = registersUpTo (o .place) at (s .registers) cs ≡ o .state .registers
 
 left-next :
-    (refusals : Refusals) (s : State) (at : ℕ) (c : List ℕ) (cs : List (List ℕ)) (g : ℕ) (o : Outcome) →
-    Left refusals (afterCommand s c) (at + wordsOf (firstNumber c)) cs o → Left refusals s at (c ∷ cs) (settle g at s o)
+    (s : State) (at : ℕ) (c : List ℕ) (cs : List (List ℕ)) (g : ℕ) (o : Outcome) → at < o .place →
+    Left (afterCommand s c) (at + wordsOf (firstNumber c)) cs o → Left s at (c ∷ cs) (settle g at s o)
 unfolding registersUpTo afterCommand
-left-next refusals s at c cs zero o l =
-    let some : 1 ≤ wordsOf (firstNumber c) = words-pos (firstNumber c) (number-small (wordAt c 0)) in
-    let more : at < o .place = omega (arith, l .from) in
-    record { from = omega arith; registers = rw (lt-ltb _ _ more) (l .registers) }
-left-next refusals s at c cs (suc g) o l = record { from = le-refl at; registers = rw (le-ltb at at (le-refl at)) }
+left-next s at c cs zero o more l = rw (lt-ltb _ _ more) l
+left-next s at c cs (suc g) o more l = rw (le-ltb at at (le-refl at))
 
-left : (refusals : Refusals) (s : State) (at : ℕ) (cs : List (List ℕ)) (rest : List ℕ) → Left refusals s at cs (judge refusals s at cs rest)
-unfolding judge
-left refusals s at [] rest = left-end refusals s at rest
+left : (refusals : Refusals) (s : State) (at : ℕ) (cs : List (List ℕ)) (rest : List ℕ) → Left s at cs (judge refusals s at cs rest)
+unfolding judge registersUpTo
+left refusals s at [] [] = refl
+left refusals s at [] (b ∷ rest) = refl
 left refusals s at (c ∷ cs) rest =
-    left-next refusals s at c cs (refusalAt refusals s c) _ (left refusals (afterCommand s c) (at + wordsOf (firstNumber c)) cs rest)
+    let w = wordsOf (firstNumber c) in
+    let o = judge refusals (afterCommand s c) (at + w) cs rest in
+    let more : at < o .place = omega (arith, command-some c, judge-from refusals (afterCommand s c) (at + w) cs rest) in
+    left-next s at c cs (refusalAt refusals s c) o more (left refusals (afterCommand s c) (at + w) cs rest)
 
 -- 1 and 2 are refusals of the whole list, and none of a command
-abbrev apart : ℕ → Bool
+abbrev pub apart : ℕ → Bool
 apart g = not (eqb g 1 || eqb g 2)
 
-check-apart : (s : State) (c : List ℕ) → T (allGive apart (checkRefusals s c))
+pub check-apart : (s : State) (c : List ℕ) → T (allGive apart (checkRefusals s c))
 unfolding ownRefusals syncRefusals
 check-apart s c = tt
 
-end-at : (g p : ℕ) → T (apart g) → endOf g p ≡ p
+pub end-at : (g p : ℕ) → T (apart g) → endOf g p ≡ p
 end-at g p t = rw (false-of (eqb g 1 || eqb g 2) t)
 
 -- the registers of a list's outcome
@@ -160,5 +157,5 @@ outcome-registers words list =
     (λ t.
     let o = judgeList checkRefusals list in
     rw (f, t, end-at (o .number) (o .place) (judge-gives apart checkRefusals check-apart tt tt start 0 (commandsOf list) (restOf list)))
-    (left checkRefusals start 0 (commandsOf list) (restOf list) .registers))
+    (left checkRefusals start 0 (commandsOf list) (restOf list)))
     (λ g. rw (f, g) (stopped 0 0 noRegisters (commandsOf list) (le-refl 0))))

@@ -1,3 +1,4 @@
 pub mod RegisterWords
 pub mod Replay
 pub mod After
+pub mod Resume

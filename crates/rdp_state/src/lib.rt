@@ -4,9 +4,11 @@ ghost use Prim.Native.Nat.{_%_};
 ghost use Rattle.rdp_state.specs.RegisterWords.{wordsAfter};
 ghost use Rattle.rdp_state.specs.Replay.{endOf};
 ghost use Rattle.rdp_state.specs.After.{listStateOf};
+ghost use Rattle.rdp_state.specs.Resume.{resumedOf};
 
 mod updates;
 
+use rdp_check::Checkpoint;
 use rdp_check::Registers;
 
 // The check's answer with the registers there.
@@ -16,6 +18,23 @@ pub struct ListState {
     pub place: u32,
     pub hazards: u8,
     pub registers: Registers,
+}
+
+// Where a list stands between two of its commands: the words that last set the registers, the hazards, of which the low four bits count, and whether a Sync
+// Full has come.
+#[repr(C)]
+pub struct Standing {
+    pub words: [u64; 32],
+    pub hazards: u8,
+    pub ended: bool,
+}
+
+// Where the list stands; the number of the first refusal, 0 where no command is refused; and its place, or that after the last whole command.
+#[repr(C)]
+pub struct Resumed {
+    pub standing: Standing,
+    pub number: u32,
+    pub place: u32,
 }
 
 // Where the commands end whose registers an answer of the check has: at its place, but for 1 and 2 before the first.
@@ -53,5 +72,35 @@ pub fn registers_after(list: &[u8]) -> ListState
         place: checked.place,
         hazards: checked.hazards,
         registers,
+    }
+}
+
+// The whole commands of bytes, judged from where a list stands; a command whose words are not all there is not looked at. At a refusal the list stands
+// before the refused command. Of more than 32,768 bytes none is judged: 1 at 4,096.
+pub fn resume(before: Standing, bytes: &[u8]) -> Resumed
+    ensures { λ r. ⌜ r ≡ resumedOf before (now (bytes .entry)) ⌝ }
+{
+    let file = before.words;
+    let other_modes = file[5];
+    let color_image = file[14];
+    let scissor = file[3];
+    let checkpoint = Checkpoint {
+        other_modes,
+        color_image,
+        scissor,
+        hazards: before.hazards,
+        ended: before.ended,
+    };
+    let judged = rdp_check::check_from(checkpoint, bytes);
+    let end = end_of(judged.number, judged.place);
+    let words = updates::replay_from(file, bytes, end);
+    Resumed {
+        standing: Standing {
+            words,
+            hazards: judged.hazards,
+            ended: judged.ended,
+        },
+        number: judged.number,
+        place: judged.place,
     }
 }

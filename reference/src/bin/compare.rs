@@ -15,6 +15,8 @@ static ARCHIVE: Foreign = foreign!(
     lanyardrove_check,
     lanyardrove_repair,
     lanyardrove_draw,
+    lanyardrove_stream_feed,
+    lanyardrove_stream_close,
     lanyardrove_decode,
     lanyardrove_encode,
     lanyardrove_words,

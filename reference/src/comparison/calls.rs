@@ -3,6 +3,7 @@
 use std::fmt;
 
 use crate::comparison::lent::Lent;
+use crate::comparison::portions::Portions;
 use crate::comparison::side::Side;
 
 #[derive(Clone, Copy, Debug, PartialEq, Eq)]
@@ -14,10 +15,11 @@ pub enum Function {
     Encode,
     Words,
     Step,
+    Stream,
 }
 
 impl Function {
-    pub const COUNT: usize = 7;
+    pub const COUNT: usize = 8;
     pub const ALL: [Function; Function::COUNT] = [
         Function::Check,
         Function::Repair,
@@ -26,6 +28,7 @@ impl Function {
         Function::Encode,
         Function::Words,
         Function::Step,
+        Function::Stream,
     ];
 
     pub fn name(self) -> &'static str {
@@ -37,6 +40,7 @@ impl Function {
             Function::Encode => "encode",
             Function::Words => "words",
             Function::Step => "step",
+            Function::Stream => "stream",
         }
     }
 }
@@ -60,6 +64,8 @@ pub struct Call {
     pub work: Lent<u8>,
     pub out: Lent<u8>,
     pub memory: Lent<u8>,
+    /// How the list is fed to a record, and what becomes of it.
+    pub portions: Portions,
 }
 
 impl Call {
@@ -77,6 +83,7 @@ impl Call {
             work: Lent::default(),
             out: Lent::default(),
             memory: Lent::default(),
+            portions: Portions::default(),
         }
     }
 
@@ -96,6 +103,7 @@ impl Call {
             ),
             Function::Words => side.words(self.word),
             Function::Step => side.step(self.hazards, self.number),
+            Function::Stream => self.portions.make(side, list),
         }
     }
 
@@ -113,7 +121,12 @@ impl Call {
         };
         let fields = self.fields.first_difference(&other.fields);
         let in_fields = fields.map(|place| ("fields", place));
-        bytes.into_iter().find_map(differs).or(in_fields)
+        let in_portions = self.portions.first_difference(&other.portions);
+        bytes
+            .into_iter()
+            .find_map(differs)
+            .or(in_fields)
+            .or(in_portions)
     }
 }
 
@@ -150,6 +163,7 @@ impl fmt::Display for Call {
             Function::Step => {
                 writeln!(f, "hazards {:#x}, number {:#x}", self.hazards, self.number)
             }
+            Function::Stream => write!(f, "{}", self.portions),
         }
     }
 }

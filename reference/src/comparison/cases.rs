@@ -5,6 +5,7 @@ use crate::check::{check, walk, Syncs};
 use crate::comparison::calls::{Call, Function};
 use crate::comparison::encodings::encode_call;
 use crate::comparison::lent::Lent;
+use crate::comparison::portions::Portions;
 use crate::comparison::rng::Rng;
 use crate::decode::decode;
 use crate::draw::{fills, Fill};
@@ -25,6 +26,7 @@ pub fn calls(rng: &mut Rng, case: u64, list: &[u8]) -> Vec<Call> {
         draw_call(rng, list),
         words_call(rng, case),
         step_call(rng, case),
+        stream_call(rng, list),
     ]
 }
 
@@ -51,6 +53,15 @@ fn step_call(rng: &mut Rng, case: u64) -> Call {
         hazards: (rng.number() as u32 & above) << 4 | (case / 64 % 16) as u32,
         number: (rng.number() as u32 & above) << 6 | (case % 64) as u32,
         ..Call::of(Function::Step)
+    }
+}
+
+/// The list in portions, now and then with damage to the record between two of them.
+fn stream_call(rng: &mut Rng, list: &[u8]) -> Call {
+    Call {
+        list: Lent::of(rng, list),
+        portions: Portions::random(rng, list.len()),
+        ..Call::of(Function::Stream)
     }
 }
 

@@ -4,10 +4,13 @@ use std::fmt;
 
 use crate::comparison::calls::Function;
 
-/// Counts for each function and each ground, 0 (accepted) to 15.
+/// The greatest number of a ground.
+const MOST: u8 = 28;
+
+/// Counts for each function and each ground, 0 (accepted) to 28.
 #[derive(Clone, Debug, Default, PartialEq, Eq)]
 pub struct Counts {
-    counts: [[u64; 16]; Function::COUNT],
+    counts: [[u64; MOST as usize + 1]; Function::COUNT],
     /// Repairs whose plan was compared with all other plans.
     pub searched: u64,
 }
@@ -44,6 +47,7 @@ pub fn possible(function: Function) -> &'static [u8] {
         Function::Decode => &[0, 3, 14],
         Function::Encode => &[0, 14, 15],
         Function::Words | Function::Step => &[0],
+        Function::Stream => &[0, 1, 2, 3, 4, 5, 6, 7, 8, 9, 28],
     }
 }
 
@@ -54,7 +58,8 @@ impl fmt::Display for Counts {
             write!(f, "{:>10}", function.name())?;
         }
         writeln!(f)?;
-        for ground in 0..16 {
+        let is_given = |ground: &u8| Function::ALL.iter().any(|f| possible(*f).contains(ground));
+        for ground in (0..=MOST).filter(is_given) {
             write!(f, "{ground:>6}")?;
             for function in Function::ALL {
                 write_count(

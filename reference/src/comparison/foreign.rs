@@ -2,6 +2,7 @@
 
 use crate::comparison::side::Side;
 use crate::packed;
+use crate::record::Record;
 
 pub type Check = unsafe extern "C" fn(*const u8, usize) -> u64;
 pub type Repair = unsafe extern "C" fn(*const u8, usize, *mut u8, usize, *mut u8, usize) -> u64;
@@ -11,6 +12,8 @@ pub type Encode =
     unsafe extern "C" fn(u32, *const u64, usize, *const u8, usize, *mut u8, usize) -> u64;
 pub type Words = unsafe extern "C" fn(u64) -> u64;
 pub type Step = unsafe extern "C" fn(u32, u32) -> u64;
+pub type Feed = unsafe extern "C" fn(*mut Record, *const u8, usize) -> u64;
+pub type Close = unsafe extern "C" fn(*mut Record) -> u64;
 
 /// Functions that ask of their pointers only that each lends as much as the
 /// length after it says.
@@ -18,6 +21,8 @@ pub struct Foreign {
     pub check: Check,
     pub repair: Repair,
     pub draw: Draw,
+    pub feed: Feed,
+    pub close: Close,
     /// Where there is none, this crate's stands in.
     pub decode: Option<Decode>,
     pub encode: Option<Encode>,
@@ -26,12 +31,12 @@ pub struct Foreign {
 }
 
 /// Declares functions of C by their names, and gives them as a `Foreign`: check,
-/// repair and draw, and the others where there are such. They touch no bytes but
-/// those lent, and write only those lent for writing.
+/// repair, draw, feed and close, and the others where there are such. They touch no
+/// bytes but those lent, and write only those lent for writing.
 #[macro_export]
 macro_rules! foreign {
     (
-        $check:ident, $repair:ident, $draw:ident
+        $check:ident, $repair:ident, $draw:ident, $feed:ident, $close:ident
         $(, $decode:ident, $encode:ident, $words:ident, $step:ident)?
     ) => {{
         extern "C" {
@@ -51,6 +56,12 @@ macro_rules! foreign {
                 memory_length: usize,
                 start: u64,
             ) -> u64;
+            fn $feed(
+                record: *mut $crate::record::Record,
+                portion: *const u8,
+                portion_length: usize,
+            ) -> u64;
+            fn $close(record: *mut $crate::record::Record) -> u64;
             $(
                 fn $decode(
                     list: *const u8,
@@ -75,6 +86,8 @@ macro_rules! foreign {
             check: $check,
             repair: $repair,
             draw: $draw,
+            feed: $feed,
+            close: $close,
             decode: $crate::foreign!($($decode)?),
             encode: $crate::foreign!($($encode)?),
             words: $crate::foreign!($($words)?),
@@ -142,5 +155,13 @@ impl Side for Foreign {
             Some(step) => unsafe { step(hazards, number) },
             None => packed::step(hazards, number),
         }
+    }
+
+    fn feed(&self, record: &mut Record, portion: &[u8]) -> u64 {
+        unsafe { (self.feed)(record, portion.as_ptr(), portion.len()) }
+    }
+
+    fn close(&self, record: &mut Record) -> u64 {
+        unsafe { (self.close)(record) }
     }
 }

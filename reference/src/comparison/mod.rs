@@ -11,6 +11,7 @@ pub mod laws;
 pub mod lent;
 pub mod lists;
 pub mod mixed;
+pub mod portions;
 pub mod rng;
 pub mod run;
 pub mod scenes;

@@ -8,6 +8,7 @@ use crate::comparison::cases::calls;
 use crate::comparison::counts::Counts;
 use crate::comparison::laws;
 use crate::comparison::lists::list;
+use crate::comparison::portions::test_record;
 use crate::comparison::rng::Rng;
 use crate::comparison::side::{Reference, Side};
 use crate::packed::Answer;
@@ -110,6 +111,7 @@ impl Compared {
             (Function::Check, 7..=9) => laws::test_steps(other, list, self.reference)
                 .and_then(|()| laws::test_cause(list, self.reference)),
             (Function::Words, _) => laws::test_words(other, rng, call.word),
+            (Function::Stream, _) => test_record(other, rng, list, &call.portions),
             _ => Ok(()),
         }
     }

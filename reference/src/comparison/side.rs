@@ -1,6 +1,7 @@
 //! The two sides of the comparison.
 
 use crate::packed;
+use crate::record::Record;
 
 /// The C functions, over slices. Every answer is one packed 64-bit number, but
 /// for the plain count of a command's words.
@@ -12,6 +13,8 @@ pub trait Side {
     fn encode(&self, number: u32, fields: &[u64], suffix: &[u8], out: &mut [u8]) -> u64;
     fn words(&self, first_word: u64) -> u64;
     fn step(&self, hazards: u32, number: u32) -> u64;
+    fn feed(&self, record: &mut Record, portion: &[u8]) -> u64;
+    fn close(&self, record: &mut Record) -> u64;
 }
 
 /// This crate.
@@ -44,5 +47,13 @@ impl Side for Reference {
 
     fn step(&self, hazards: u32, number: u32) -> u64 {
         packed::step(hazards, number)
+    }
+
+    fn feed(&self, record: &mut Record, portion: &[u8]) -> u64 {
+        packed::feed(record, portion)
+    }
+
+    fn close(&self, record: &mut Record) -> u64 {
+        packed::close(record)
     }
 }

@@ -4,10 +4,14 @@ use std::ops::Range;
 
 use crate::lists::{self, Pixels, Rectangle, HEIGHT, WIDTH};
 use crate::versions::Version;
+use reference::comparison::side::Side;
+use reference::record::NUMBERS;
 
 pub enum Job {
     Check,
     Registers,
+    /// A list in portions of at most so many bytes.
+    Stream(usize),
     Repair,
     /// Drawing, with the runs of bytes that the list paints.
     Draw(Vec<Range<usize>>),
@@ -26,10 +30,20 @@ impl Row {
         match self.job {
             Job::Check => side.check(&self.list),
             Job::Registers => (version.registers)(&self.list),
+            Job::Stream(portion) => stream(side, &self.list, portion),
             Job::Repair => side.repair(&self.list, &mut buffers.work, &mut buffers.out),
             Job::Draw(_) => side.draw(&self.list, buffers.memory(), 0),
         }
     }
+}
+
+/// A list fed to a fresh record and closed.
+fn stream(side: &dyn Side, list: &[u8], portion: usize) -> u64 {
+    let mut record = [0; NUMBERS];
+    for bytes in list.chunks(portion) {
+        side.feed(&mut record, bytes);
+    }
+    side.close(&mut record)
 }
 
 /// What a row lends, the same to every version.
@@ -72,6 +86,10 @@ pub fn rows() -> Vec<Row> {
     rows.extend(LENGTHS.map(|length| check("a game's mix", lists::mixed(length))));
     rows.push(check("long triangles", lists::triangles(4_096)));
     rows.extend(LENGTHS.map(|length| registers(lists::setters(length))));
+    rows.extend(LENGTHS.map(|length| whole_stream("setters", lists::setters(length))));
+    rows.push(whole_stream("a game's mix", lists::mixed(4_096)));
+    rows.extend(LENGTHS.map(|length| cut_stream("setters", lists::setters(length))));
+    rows.push(cut_stream("a game's mix", lists::mixed(4_096)));
     rows.push(repair(lists::needy(2_048)));
     rows.extend(large_draws());
     rows.extend(small_draws());
@@ -93,6 +111,24 @@ fn registers(list: Vec<u8>) -> Row {
         name: format!("registers, setters, {} words", list.len() / 8),
         list,
         job: Job::Registers,
+    }
+}
+
+/// A list in one portion.
+fn whole_stream(what: &str, list: Vec<u8>) -> Row {
+    Row {
+        name: format!("stream, {what}, {} words", list.len() / 8),
+        job: Job::Stream(list.len()),
+        list,
+    }
+}
+
+/// A list in portions of 64 bytes.
+fn cut_stream(what: &str, list: Vec<u8>) -> Row {
+    Row {
+        name: format!("stream by 64, {what}, {} words", list.len() / 8),
+        job: Job::Stream(64),
+        list,
     }
 }
 

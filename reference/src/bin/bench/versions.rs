@@ -14,10 +14,22 @@ pub struct Version {
 }
 
 /// The proved library.
-static LIBRARY: Foreign = foreign!(lanyardrove_check, lanyardrove_repair, lanyardrove_draw);
+static LIBRARY: Foreign = foreign!(
+    lanyardrove_check,
+    lanyardrove_repair,
+    lanyardrove_draw,
+    lanyardrove_stream_feed,
+    lanyardrove_stream_close
+);
 
 /// The plain C version.
-static PLAIN: Foreign = foreign!(plain_check, plain_repair, plain_draw);
+static PLAIN: Foreign = foreign!(
+    plain_check,
+    plain_repair,
+    plain_draw,
+    plain_stream_feed,
+    plain_stream_close
+);
 
 extern "C" {
     fn lanyardrove_bench_registers(list: *const u8, list_length: usize) -> u64;

@@ -10,10 +10,10 @@ use Rattle.rdp_check.proofs.cause.cause_of.Tie as tie
 
 -- a command misses a sync at the place
 missing : (c : tie.After-number-at) → Missing (c .before .before .before .args .list .now) (c .before .before .before .args .place)
-missing c = missing-of _ _ _ (c .before .if1 .left) (c .before .before .before .pre)
+missing c = let s = c .before .before .before in missing-of _ (s .args .number) _ (s .args .whole) (c .before .if1 .left) (s .pre)
 
 returns : tie.Need-returns
-returns c = cause-else _ _ _ (c .if1 .taken)
+returns c = let a = c .before .before .args in cause-else (a .list .now) (a .number) (a .place) (a .whole) (c .if1 .taken)
 
 number-at-requires : tie.Need-number-at-requires
 number-at-requires c κs = search needs
@@ -39,8 +39,9 @@ latest-among-requires c κs = rw sub-zero (rest-before (missing (c .before .befo
 returns-2 : tie.Need-returns-2
 returns-2 c =
     let t = c .before .before in
+    let a = t .before .before .before .before .args in
     let sought = rw sub-zero at (c .latest-among .ensures) in
-    cause-sought _ _ _ (t .before .before .if1 .left) _ (subst (λ n. Numbers (t .awaited-by .result) (awaited n .sets)) (t .before .number-at .ensures) (t .awaited-by .ensures)) _ sought
+    cause-sought (a .list .now) (a .number) (a .place) (a .whole) (t .before .before .if1 .left) _ (subst (λ n. Numbers (t .awaited-by .result) (awaited n .sets)) (t .before .number-at .ensures) (t .awaited-by .ensures)) _ sought
 
 pub cause-of-spec : {M : Type 1} → statement M
 cause-of-spec =

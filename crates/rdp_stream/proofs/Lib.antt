@@ -1,0 +1,9 @@
+pub mod PortionLaws
+pub mod HeldLaws
+pub mod FeedLaws
+pub mod RecordLaws
+pub mod ArrivedLaws
+pub mod StreamLaws
+pub mod Lent
+pub mod Alone
+pub mod LentRecords

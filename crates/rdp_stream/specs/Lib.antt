@@ -1,0 +1,4 @@
+pub mod Portions
+pub mod Records
+pub mod Steps
+pub mod Arrived

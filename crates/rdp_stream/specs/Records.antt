@@ -1,0 +1,88 @@
+-- Document 02, #103: the record that the caller owns, what it stands for, and refusal 28.
+use Prim.Native.Nat.{ℕ, _-_, _%_}
+use mathlib.Core.Bool.{Bool, true, false, cond, not, _&&_}
+use mathlib.Core.List.{List, [], _∷_, _++_}
+use lib.Dec.{eqb, ltb}
+use lib.ListN.{length, take, drop, replicate}
+use Rattle.rdp_words.specs.Kinds.{among}
+use Rattle.rdp_words.specs.Lengths.{wholeWords}
+use Rattle.rdp_check.specs.Order.{Ground, ground, firstOf, answer}
+use Rattle.rdp_state.specs.declared.Standing.{Standing}
+use Rattle.rdp_stream.specs.declared.Stream.{Stream}
+use Rattle.rdp_stream.specs.declared.Fed.{Fed}
+use Rattle.rdp_stream.specs.Portions.{Feeding, fedBytes, closed, answerOf}
+
+-- every byte is zero
+abbrev pub allZero : List ℕ → Bool
+allZero [] = true
+allZero (b ∷ bs) = eqb b 0 && allZero bs
+
+-- the numbers that these calls remember: none, those of the bytes that come, and those of closing
+abbrev pub remembered : List ℕ
+remembered = 0 ∷ 1 ∷ 2 ∷ 3 ∷ 4 ∷ 5 ∷ 6 ∷ 7 ∷ 8 ∷ 9 ∷ []
+
+-- 28, a line for each reason: "over 175 held bytes, a byte past them not zero, held bytes that already make a command, over 32,768 taken, taken less held
+-- below 0 or no multiple of 8, or a remembered number these calls don't give"
+unfoldable pub damageIn : List ℕ → ℕ → ℕ → ℕ → List (Ground ℕ)
+damageIn held count taken number =
+    ground 28 (ltb 175 count)
+    ∷ ground 28 (not (allZero (drop count held)))
+    ∷ ground 28 (not (eqb (wholeWords (take count held)) 0))
+    ∷ ground 28 (ltb 32768 taken)
+    ∷ ground 28 (ltb taken count)
+    ∷ ground 28 (not (eqb ((taken - count) % 8) 0))
+    ∷ ground 28 (not (among number remembered))
+    ∷ []
+
+-- one of them holds
+abbrev pub damagedIn : List ℕ → ℕ → ℕ → ℕ → Bool
+damagedIn held count taken number = eqb (firstOf (damageIn held count taken number) 0) 28
+
+abbrev pub isDamaged : Stream → Bool
+isDamaged r = damagedIn (r .held) (r .«held_count») (r .taken) (r .number)
+
+-- where a record's list stands; any number but 0 says that a Sync Full has come
+abbrev pub standingIn : Stream → Standing
+standingIn r = record { words = r .words; hazards = r .hazards; ended = not (eqb (r .ended) 0) }
+
+-- what a record stands for
+abbrev pub feedingOf : Stream → Feeding
+feedingOf r = record { standing = standingIn r; held = take (r .«held_count») (r .held); taken = r .taken; number = r .number; place = r .place }
+
+-- a Sync Full has come, as a number: that of the record before stays
+abbrev pub endedAs : ℕ → Bool → ℕ
+endedAs before true = cond (eqb before 0) 1 before
+endedAs before false = 0
+
+-- the record that stands for what is known: "room past the held bytes is zero"
+unfoldable pub streamOf : ℕ → Feeding → Stream
+streamOf ended f =
+    record {
+      words = f .standing .words;
+      held = f .held ++ replicate (176 - length (f .held)) 0;
+      «held_count» = length (f .held);
+      taken = f .taken;
+      number = f .number;
+      place = f .place;
+      hazards = f .standing .hazards;
+      ended = endedAs ended (f .standing .ended);
+    }
+
+-- a call's record and answer: "28 at 0, before all others, record untouched"; else those of what is known after the call
+unfoldable pub answered : Stream → Feeding → Fed
+answered r f = cond (isDamaged r) (record { after = r; answer = answer 28 0 }) (record { after = streamOf (r .ended) f; answer = answerOf f })
+
+abbrev pub fedOf : Stream → List ℕ → Fed
+fedOf r portion = answered r (fedBytes (feedingOf r) portion)
+
+abbrev pub closedOf : Stream → Fed
+closedOf r = answered r (closed (feedingOf r))
+
+-- a fresh, idle record: all is zero
+abbrev pub freshStream : Stream
+freshStream = record { words = replicate 32 0; held = replicate 176 0; «held_count» = 0; taken = 0; number = 0; place = 0; hazards = 0; ended = 0 }
+
+-- the record after several portions
+abbrev pub fedStream : Stream → List (List ℕ) → Stream
+fedStream r [] = r
+fedStream r (p ∷ ps) = fedStream (fedOf r p .after) ps

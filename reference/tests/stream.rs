@@ -1,0 +1,144 @@
+//! Request #103: 01's examples in portions, the limits, and 28's reasons.
+
+mod common;
+
+use common::{after_setup, command, whole, C, L, N, R, S, SYNC_FULL, SYNC_PIPE};
+use reference::check::check;
+use reference::record::{bytes_of as record_bytes, pack, unpack, NUMBERS};
+use reference::stream::{Stream, Told, DAMAGED};
+use reference::words::bytes_of;
+
+fn told(number: u32, place: u32) -> Told {
+    Told { number, place }
+}
+
+/// A list in portions of a length, then closed.
+fn fed(list: &[u8], portion: usize) -> (Told, Stream) {
+    let mut stream = Stream::default();
+    for part in list.chunks(portion) {
+        stream.feed(part);
+        stream.feed(&[]);
+    }
+    (stream.close(), stream)
+}
+
+/// Every cutting ends in this answer and in one record.
+fn ends(list: &[u8], number: u32, place: u32) -> Stream {
+    let (answer, stream) = fed(list, list.len().max(1));
+    assert_eq!(answer, told(number, place));
+    for portion in [1, 3, 7, 8, 9, 64, 175, 176] {
+        assert_eq!(fed(list, portion), (answer, stream.clone()), "{portion}");
+    }
+    stream
+}
+
+#[test]
+fn examples_end_as_the_check_does() {
+    let lists = [
+        vec![],
+        vec![command(0x24)],
+        whole(0x0F)[..21].to_vec(),
+        whole(0x0F),
+        vec![SYNC_FULL, N],
+        after_setup(&[R, C]),
+        after_setup(&[R, SYNC_PIPE, C]),
+        after_setup(&[C, R]),
+        after_setup(&[R, L, C]),
+        after_setup(&[R, N, C]),
+    ];
+    for words in lists {
+        let list = bytes_of(&words);
+        let checked = check(&list);
+        let (number, place) = common::answer(checked.outcome);
+        let stream = ends(&list, number.into(), place as u32);
+        assert_eq!(stream.state.marks, checked.marks);
+        assert_eq!(stream.state.registers, checked.registers);
+    }
+}
+
+#[test]
+fn closing_gives_2_then_3() {
+    ends(&[0; 7], 2, 0);
+    ends(&bytes_of(&[command(0x24)])[..7], 2, 0);
+    ends(&bytes_of(&[N, command(0x24), N])[..23], 2, 2);
+    ends(&bytes_of(&[N, command(0x24)]), 3, 1);
+}
+
+#[test]
+fn a_command_is_judged_with_its_last_byte() {
+    let list = bytes_of(&after_setup(&[R, C]));
+    let mut stream = Stream::default();
+    assert_eq!(stream.feed(&list[..39]), told(0, 4));
+    let mut before = Stream::default();
+    before.feed(&list[..32]);
+    assert_eq!(stream.feed(&list[39..]), told(9, 4));
+    before.remembered = told(9, 4);
+    assert_eq!(stream, before);
+    assert_eq!(stream.feed(&list), told(9, 4));
+    assert_eq!(stream.close(), told(9, 4));
+    assert_eq!(stream, before);
+}
+
+#[test]
+fn the_byte_past_the_limit_is_refused_and_no_empty_portion() {
+    let list = vec![0; 32_769];
+    let mut stream = Stream::default();
+    assert_eq!(stream.feed(&list[..32_768]), told(0, 4_096));
+    assert_eq!(stream.feed(&[]), told(0, 4_096));
+    let mut full = stream.clone();
+    assert_eq!(stream.feed(&[0]), told(1, 4_096));
+    full.remembered = told(1, 4_096);
+    assert_eq!(stream, full);
+    ends(&list, 1, 4_096);
+    // A command before the limit is judged first, one across it never.
+    let mut words = vec![N; 4_100];
+    words[4_095] = command(0x24);
+    ends(&bytes_of(&words), 1, 4_096);
+    words[4_094] = R;
+    ends(&bytes_of(&words), 5, 4_094);
+}
+
+/// A stream of three words and 175 bytes of a triangle of 22 words.
+fn triangle() -> Stream {
+    let words = [S.to_vec(), whole(0x0F)].concat();
+    let mut stream = Stream::default();
+    assert_eq!(stream.feed(&bytes_of(&words)[..24 + 175]), told(0, 3));
+    stream
+}
+
+#[test]
+fn each_reason_of_28_is_refused_first_and_leaves_the_record() {
+    let reasons: [fn(&mut Stream); 8] = [
+        |stream| stream.held = 176,
+        |stream| stream.room[175] = 1,
+        |stream| stream.room[0] = 0x0E,
+        |stream| stream.taken = 32_769,
+        |stream| stream.taken = 174,
+        |stream| stream.taken += 1,
+        |stream| stream.held -= 1,
+        |stream| stream.remembered.number = 10,
+    ];
+    for (index, damage) in reasons.iter().enumerate() {
+        for number in [0, 9] {
+            let mut stream = triangle();
+            stream.remembered = told(number, 3);
+            assert!(!stream.is_damaged());
+            damage(&mut stream);
+            let received = stream.clone();
+            assert_eq!(stream.feed(&[0]), told(DAMAGED, 0), "reason {index}");
+            assert_eq!(stream.close(), told(DAMAGED, 0), "reason {index}");
+            assert_eq!(stream, received);
+        }
+    }
+}
+
+#[test]
+fn a_record_holds_all_of_a_stream() {
+    let (_, stream) = fed(&bytes_of(&after_setup(&[R, SYNC_PIPE, C, L, L])), 13);
+    let mut record = [0; NUMBERS];
+    pack(&stream, &mut record);
+    assert_eq!(unpack(&record), stream);
+    let mut fresh = [0; NUMBERS];
+    pack(&Stream::default(), &mut fresh);
+    assert!(record_bytes(&fresh).iter().all(|byte| *byte == 0));
+}
