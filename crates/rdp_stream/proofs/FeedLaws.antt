@@ -205,12 +205,6 @@ module _ (b : Standing) (ended taken p count words : ℕ) (held filled part : Li
   pub command-room : taken - count + length command ≤ 32768
   command-room = omega (arith, command-long, k .inside, k .room, k .more, k .within)
 
-  pub after-room : taken - count + 8 * words + (length part - used) ≤ 32768
-  after-room = omega (arith, k .inside, k .room, k .more, k .within)
-
-  pub after-even : (taken - count + 8 * words) % 8 ≡ 0
-  after-even = omega (arith, k .even)
-
   joins : h ++ part ≡ command ++ after
   joins =
       ap (λ (x : List ℕ). h ++ x) (sym (take-append-drop used part)) ∙

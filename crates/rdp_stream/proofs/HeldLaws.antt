@@ -21,6 +21,10 @@ use Rattle.rdp_check.proofs.BoundLaws.{among-below}
 use Rattle.rdp_stream.specs.Records.{allZero, remembered, damageIn, damagedIn}
 use Rattle.rdp_stream.specs.Steps.{bytesDamaged, countsDamaged}
 
+-- the part from an index to the end
+pub part-to-end : (xs : List ℕ) (k : ℕ) → take (length xs - k) (drop k xs) ≡ drop k xs
+part-to-end xs k = take-all (length xs - k) (drop k xs) (omega (arith, length-drop k xs))
+
 -- ---- bytes that are zero
 
 pub zero-at : (xs : List ℕ) (i : ℕ) → i < length xs → getD xs i 0 ≡ 0 → allZero (drop (i + 1) xs) ≡ allZero (drop i xs)

@@ -234,9 +234,6 @@ module _ (r : Stream) (none : r .number ≡ 0) where
     part-is : length part ≡ room
     part-is = length-take-le room portion (omega arith)
 
-    pub part-long : room ≡ length part
-    part-long = sym part-is
-
     pub part-room : r .taken + length part ≤ 32768
     part-room = omega (arith, part-is, k .room, is-room)
 

@@ -1,21 +1,15 @@
 -- `rdp_stream::feeding::finish` meets its contract: the command, and then what follows it. Assumes nothing.
-use mathlib.Core.Path.{_≡_, sym, _∙_, ap}
+use mathlib.Core.Path.{sym, _∙_, ap}
 use mathlib.Core.List.{List, []}
 use Prim.Native.Nat.{ℕ, _+_, _*_, _-_}
-use native.Mathlib.Omega.{arith}
-use lib.ListN.{length, take, drop, length-drop}
-use lib.Seq.{take-all}
 use borrow.Author.Needs.{needs}
 use Rattle.rdp_stream.specs.Portions.{fedBytes}
 use Rattle.rdp_stream.specs.Records.{streamOf}
 use Rattle.rdp_stream.specs.Steps.{openOf}
+use Rattle.rdp_stream.proofs.HeldLaws.{part-to-end}
 use Rattle.rdp_stream.proofs.FeedLaws.{command-long, judged-room, judged-refused, judged-accepted}
 use Rattle.rdp_stream.proofs.feeding.finish.Statement.{statement}
 use Rattle.rdp_stream.proofs.feeding.finish.Tie as tie
-
--- the part from an index to the end
-whole : (xs : List ℕ) (k : ℕ) → take (length xs - k) (drop k xs) ≡ drop k xs
-whole xs k = take-all (length xs - k) (drop k xs) (omega (arith, length-drop k xs))
 
 mul-end : tie.Need-mul-end
 mul-end c = search needs
@@ -77,7 +71,7 @@ returns-2 c =
     let q = c .before .before .before .before .resume in
     judged-accepted (a .standing) (a .ended) (a .taken) (a .place) (a .count) (a .words) (a .held) (a .t7) part (s .pre) _ (q .ensures) (c .before .before .if1 .left) _
     (c .feed-whole .ensures ∙
-    ap (λ (x : List ℕ). streamOf (a .ended) (fedBytes (openOf (q .result .standing) [] (a .taken - a .count + 8 * a .words) (a .place)) x)) (whole part (8 * a .words - a .count)))
+    ap (λ (x : List ℕ). streamOf (a .ended) (fedBytes (openOf (q .result .standing) [] (a .taken - a .count + 8 * a .words) (a .place)) x)) (part-to-end part (8 * a .words - a .count)))
 
 pub finish-spec : {M : Type 1} → statement M
 finish-spec =

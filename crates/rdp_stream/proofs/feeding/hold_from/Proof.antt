@@ -1,18 +1,14 @@
 -- `rdp_stream::feeding::hold_from` meets its contract, by those of what it calls. Assumes nothing.
 use mathlib.Core.List.{List}
-use mathlib.Core.Path.{_≡_, ap, _∙_}
+use mathlib.Core.Path.{ap, _∙_}
 use Prim.Native.Nat.{ℕ, _+_, _-_}
-use native.Mathlib.Omega.{arith}
-use lib.ListN.{length, take, drop, length-drop, replicate}
-use lib.Seq.{take-all, paste}
+use lib.ListN.{length, replicate}
+use lib.Seq.{paste}
 use borrow.Author.Needs.{needs}
 use Rattle.rdp_stream.specs.Steps.{assembled}
+use Rattle.rdp_stream.proofs.HeldLaws.{part-to-end}
 use Rattle.rdp_stream.proofs.feeding.hold_from.Statement.{statement}
 use Rattle.rdp_stream.proofs.feeding.hold_from.Tie as tie
-
--- the part from an index to the end
-whole : (xs : List ℕ) (k : ℕ) → take (length xs - k) (drop k xs) ≡ drop k xs
-whole xs k = take-all (length xs - k) (drop k xs) (omega (arith, length-drop k xs))
 
 sub-count : tie.Need-sub-count
 sub-count c = search needs
@@ -48,7 +44,7 @@ returns c =
     let n = length part - a .from in
     c .assemble .ensures ∙
     ap (λ (held : List ℕ). assembled (a .ended) (a .standing) held n (a .taken + length part) 0 (a .place))
-    (c .before .fill .ensures ∙ ap (λ (xs : List ℕ). paste (replicate 176 0) 0 xs n) (whole part (a .from)))
+    (c .before .fill .ensures ∙ ap (λ (xs : List ℕ). paste (replicate 176 0) 0 xs n) (part-to-end part (a .from)))
 
 pub hold-from-spec : {M : Type 1} → statement M
 hold-from-spec =
