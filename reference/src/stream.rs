@@ -1,159 +1,174 @@
-//! Request #103: a list that arrives in portions. "The caller owns one record with
-//! marks, registers and the bytes of a command not yet complete (at most 175)."
+//! Request #103: a list that arrives in portions, taken byte by byte.
 
 use crate::answer::Ground;
 use crate::check::{State, Syncs, CHECK_LIMIT};
-use crate::kinds::{words, words_from};
+use crate::kinds::words;
 use crate::words::{command_number, word_at, WORD_BYTES};
 
-/// The most bytes that are held: one less than the longest command has.
+/// "The bytes of a command not yet complete (at most 175)."
 pub const MOST_HELD: usize = 175;
 
-/// The room for held bytes.
+/// Room for the held bytes and for the one that completes the longest command.
 pub const ROOM: usize = MOST_HELD + 1;
 
 /// The number of the refusal of a damaged record.
 pub const DAMAGED: u32 = 28;
 
-/// The greatest number that these calls remember.
-const MOST_REMEMBERED: u32 = Ground::SyncPipeMissing as u32;
+/// How many reasons 28 has.
+pub const REASONS: usize = 7;
 
-/// The record. The default is "fresh, idle".
+/// The last of the grounds that these calls remember, which start with 1.
+const LAST_REMEMBERED: u32 = Ground::SyncPipeMissing as u32;
+
+/// What the caller's record holds.
 #[derive(Clone, Debug, PartialEq, Eq)]
 pub struct Stream {
-    pub state: State,
-    /// "Room past the held bytes is zero."
+    /// The held bytes. "Room past the held bytes is zero."
     pub room: [u8; ROOM],
     pub held: usize,
+    /// All bytes so far, those of a refused command not among them.
     pub taken: usize,
-    /// The remembered refusal; its number is 0 where there is none.
+    /// "A refusal is remembered." Its number is 0 before there is one.
     pub remembered: Told,
+    pub state: State,
 }
 
-/// What a call answers.
+/// A call's answer.
 #[derive(Clone, Copy, Debug, Default, PartialEq, Eq)]
 pub struct Told {
     pub number: u32,
     pub place: u32,
 }
 
+impl Told {
+    fn new(number: u32, place: usize) -> Told {
+        let place = place as u32;
+        Told { number, place }
+    }
+}
+
+/// A fresh, idle record.
 impl Default for Stream {
     fn default() -> Self {
         Stream {
-            state: State::default(),
             room: [0; ROOM],
             held: 0,
             taken: 0,
             remembered: Told::default(),
+            state: State::default(),
         }
     }
 }
 
 impl Stream {
-    /// Takes a portion.
+    /// Takes a portion, of any length, which may be cut anywhere.
     pub fn feed(&mut self, portion: &[u8]) -> Told {
-        if self.is_damaged() {
-            return damaged();
+        if let Some(refusal) = self.earlier_refusal() {
+            return refusal;
         }
         for byte in portion {
-            if self.remembered.number == 0 {
-                self.take(*byte);
+            if let Err(refusal) = self.take(*byte) {
+                return refusal;
             }
         }
-        self.told()
+        Told::new(0, self.place())
     }
 
-    /// "At closing, 2, then 3." Closing "adds only its refusal".
+    /// "At closing, 2, then 3." It "adds only its refusal and changes nothing if it
+    /// accepts".
     pub fn close(&mut self) -> Told {
+        if let Some(refusal) = self.earlier_refusal() {
+            refusal
+        } else if !self.taken.is_multiple_of(WORD_BYTES) {
+            self.refuse(Ground::PartialWord, self.taken / WORD_BYTES)
+        } else if self.held > 0 {
+            self.refuse(Ground::CutCommand, self.place())
+        } else {
+            Told::new(0, self.place())
+        }
+    }
+
+    /// 28 comes "before all others", then "calls after a refusal repeat it".
+    fn earlier_refusal(&self) -> Option<Told> {
         if self.is_damaged() {
-            return damaged();
-        }
-        if self.remembered.number == 0 {
-            if !self.taken.is_multiple_of(WORD_BYTES) {
-                self.remember(Ground::PartialWord, self.taken / WORD_BYTES);
-            } else if self.held > 0 {
-                self.remember(Ground::CutCommand, self.accepted());
-            }
-        }
-        self.told()
-    }
-
-    /// "Calls after a refusal repeat it"; "until then a portion answers 0 and the
-    /// words of commands accepted so far."
-    fn told(&self) -> Told {
-        match self.remembered.number {
-            0 => Told {
-                number: 0,
-                place: self.accepted() as u32,
-            },
-            _ => self.remembered,
+            Some(Told::new(DAMAGED, 0))
+        } else if self.remembered.number != 0 {
+            Some(self.remembered)
+        } else {
+            None
         }
     }
 
-    /// The words of the commands accepted so far.
-    fn accepted(&self) -> usize {
-        (self.taken - self.held) / WORD_BYTES
-    }
-
-    fn remember(&mut self, ground: Ground, place: usize) {
-        self.remembered = Told {
-            number: ground as u32,
-            place: place as u32,
-        };
-    }
-
-    /// Takes a byte. "Commands complete within the first 32,768 bytes are judged
-    /// first, then 1"; "1 leaves it as after byte 32,768".
-    fn take(&mut self, byte: u8) {
+    /// One byte. "Commands complete within the first 32,768 bytes are judged first,
+    /// then 1", which "leaves it as after byte 32,768".
+    fn take(&mut self, byte: u8) -> Result<(), Told> {
         if self.taken == CHECK_LIMIT {
-            return self.remember(Ground::ListTooLong, CHECK_LIMIT / WORD_BYTES);
+            return Err(self.refuse(Ground::ListTooLong, CHECK_LIMIT / WORD_BYTES));
         }
         self.room[self.held] = byte;
         self.held += 1;
         self.taken += 1;
-        if makes_command(&self.room[..self.held]) {
-            self.judge();
+        if self.holds_a_command() {
+            self.judge()
+        } else {
+            Ok(())
         }
     }
 
-    /// "A command is judged when its last byte is in." "A refusal is remembered ..
-    /// all else as before the refused command's first byte."
-    fn judge(&mut self) {
-        let place = self.accepted();
-        let word = word_at(&self.room, 0);
-        let number = command_number(word);
-        match self.state.ground(number, words(number), Syncs::Demanded) {
-            Some(ground) => {
-                self.taken -= self.held;
-                self.remember(ground, place);
-            }
-            None => self.state.run(word),
+    /// "A command is judged when its last byte is in." A refusal leaves "all else as
+    /// before the refused command's first byte".
+    fn judge(&mut self) -> Result<(), Told> {
+        let (first_word, place) = (word_at(&self.room, 0), self.place());
+        let number = command_number(first_word);
+        let ground = self.state.ground(number, words(number), Syncs::Demanded);
+        if let Some(ground) = ground {
+            self.taken -= self.held;
+            self.let_go();
+            return Err(self.refuse(ground, place));
         }
+        self.state.run(first_word);
+        self.let_go();
+        Ok(())
+    }
+
+    /// Holds no byte any more.
+    fn let_go(&mut self) {
         self.room = [0; ROOM];
         self.held = 0;
     }
 
-    /// 28's reasons, in its own order.
+    fn refuse(&mut self, ground: Ground, place: usize) -> Told {
+        self.remembered = Told::new(ground as u32, place);
+        self.remembered
+    }
+
+    /// "The words of commands accepted so far", which is the place of the command not
+    /// yet complete.
+    fn place(&self) -> usize {
+        (self.taken - self.held) / WORD_BYTES
+    }
+
+    /// The first byte has the command's number, and so decides its length.
+    fn holds_a_command(&self) -> bool {
+        let number = self.room[0] % 64;
+        self.held >= words(number) * WORD_BYTES
+    }
+
     pub fn is_damaged(&self) -> bool {
-        self.held > MOST_HELD
-            || self.room[self.held..].iter().any(|byte| *byte != 0)
-            || makes_command(&self.room[..self.held])
-            || self.taken > CHECK_LIMIT
-            || self.taken < self.held
-            || !(self.taken - self.held).is_multiple_of(WORD_BYTES)
-            || self.remembered.number > MOST_REMEMBERED
+        self.damage().contains(&true)
     }
-}
 
-/// "28 at 0".
-fn damaged() -> Told {
-    Told {
-        number: DAMAGED,
-        place: 0,
+    /// Which of 28's reasons hold, in 02's order.
+    pub fn damage(&self) -> [bool; REASONS] {
+        let before = self.taken.checked_sub(self.held);
+        [
+            self.held > MOST_HELD,
+            self.room.iter().skip(self.held).any(|byte| *byte != 0),
+            self.holds_a_command(),
+            self.taken > CHECK_LIMIT,
+            before.is_none(),
+            before.is_some_and(|before| !before.is_multiple_of(WORD_BYTES)),
+            self.remembered.number > LAST_REMEMBERED,
+        ]
     }
-}
-
-/// Whether bytes begin with a whole command.
-fn makes_command(bytes: &[u8]) -> bool {
-    bytes.len() >= WORD_BYTES && bytes.len() >= words_from(word_at(bytes, 0)) * WORD_BYTES
 }

@@ -4,8 +4,10 @@ mod common;
 
 use common::{after_setup, command, whole, C, L, N, R, S, SYNC_FULL, SYNC_PIPE};
 use reference::check::check;
+use reference::comparison::portions::Damage;
+use reference::comparison::rng::Rng;
 use reference::record::{bytes_of as record_bytes, pack, unpack, NUMBERS};
-use reference::stream::{Stream, Told, DAMAGED};
+use reference::stream::{Stream, Told, DAMAGED, REASONS};
 use reference::words::bytes_of;
 
 fn told(number: u32, place: u32) -> Told {
@@ -100,9 +102,16 @@ fn the_byte_past_the_limit_is_refused_and_no_empty_portion() {
 
 /// A stream of three words and 175 bytes of a triangle of 22 words.
 fn triangle() -> Stream {
+    let stream = triangle_after(24 + 175);
+    assert_eq!((stream.held, stream.taken), (175, 24 + 175));
+    stream
+}
+
+/// So many bytes of that list.
+fn triangle_after(bytes: usize) -> Stream {
     let words = [S.to_vec(), whole(0x0F)].concat();
     let mut stream = Stream::default();
-    assert_eq!(stream.feed(&bytes_of(&words)[..24 + 175]), told(0, 3));
+    assert_eq!(stream.feed(&bytes_of(&words)[..bytes]).number, 0);
     stream
 }
 
@@ -141,4 +150,27 @@ fn a_record_holds_all_of_a_stream() {
     let mut fresh = [0; NUMBERS];
     pack(&Stream::default(), &mut fresh);
     assert!(record_bytes(&fresh).iter().all(|byte| *byte == 0));
+}
+
+/// A random damage shows each of 28's reasons, and each alone but the first: so many
+/// held bytes always make a command.
+#[test]
+fn the_comparison_damages_records_in_each_way() {
+    let mut rng = Rng::new(9);
+    let mut seen = [false; REASONS];
+    let mut alone = [false; REASONS];
+    for case in 0..4_000 {
+        let mut record = [0; NUMBERS];
+        let held = [0, 24, 40, 100, 199][case % 5];
+        pack(&triangle_after(held), &mut record);
+        Damage::random(&mut rng).apply(&mut record);
+        let reasons = unpack(&record).damage();
+        let count = reasons.iter().filter(|holds| **holds).count();
+        for (at, holds) in reasons.into_iter().enumerate() {
+            seen[at] |= holds;
+            alone[at] |= holds && count == 1;
+        }
+    }
+    assert_eq!(seen, [true; REASONS]);
+    assert_eq!(alone[1..], [true; REASONS - 1]);
 }

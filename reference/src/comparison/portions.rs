@@ -138,7 +138,7 @@ fn sorted_words(record: &Record) -> Vec<u64> {
 }
 
 /// Portions of a list: whole, byte by byte, word by word, around the longest command,
-/// or any, with empty ones between. The list may end inside the last one.
+/// or any, with empty ones first and between. The list may end inside the last one.
 fn random_lengths(rng: &mut Rng, length: usize) -> Vec<usize> {
     let most = match rng.below(8) {
         0 => length,
@@ -151,7 +151,7 @@ fn random_lengths(rng: &mut Rng, length: usize) -> Vec<usize> {
     };
     let most = most.max(1 + length / 300);
     let (varied, empties) = (rng.one_in(2), rng.one_in(3));
-    let mut lengths = Vec::new();
+    let mut lengths = vec![0; usize::from(empties)];
     let mut left = length;
     while left > 0 {
         let here = if varied {
@@ -171,7 +171,7 @@ fn random_lengths(rng: &mut Rng, length: usize) -> Vec<usize> {
 
 impl Damage {
     /// In one of 28's ways, nearly so, or anywhere past the registers.
-    fn random(rng: &mut Rng) -> Damage {
+    pub fn random(rng: &mut Rng) -> Damage {
         let number = |rng: &mut Rng, at: usize, most: u64| {
             let value = rng.below(most) as u32;
             let any = rng.number() as u32;
@@ -197,7 +197,7 @@ impl Damage {
         })
     }
 
-    fn apply(&self, record: &mut Record) {
+    pub fn apply(&self, record: &mut Record) {
         let mut bytes = bytes_of(record);
         for (at, byte) in &self.0 {
             bytes[*at] = *byte;
