@@ -13,9 +13,20 @@ bool is_accepted(Answer answer)
     return answer.number == LANYARDROVE_ACCEPTED;
 }
 
+bool is_refused(Answer answer)
+{
+    return !is_accepted(answer);
+}
+
 bool is_missing_sync(Answer answer)
 {
     return answer.number >= LANYARDROVE_SYNC_LOAD_MISSING && answer.number <= LANYARDROVE_SYNC_PIPE_MISSING;
+}
+
+/* A refusal that no sync mends, and that the repair of a list gives too. Its limit of length is its own. */
+bool is_beyond_repair(Answer verdict)
+{
+    return verdict.number >= LANYARDROVE_NOT_WORDS && !is_missing_sync(verdict);
 }
 
 int status_of(Answer answer)
@@ -39,12 +50,6 @@ static const char *refusal_text(unsigned number)
     case LANYARDROVE_OUTSIDE_MEMORY: return "draws a pixel outside memory";
     default: return "is refused for a reason that this tool does not know";
     }
-}
-
-/* The place of the command that a missing sync has to wait for. Drawing refuses as the check does and names no cause: the check is asked. */
-static uint32_t cause_of(const List *list, Answer answer, Purpose purpose)
-{
-    return purpose == FOR_CHECK ? answer.third : lanyardrove_cause(lanyardrove_check(list->bytes, list->length));
 }
 
 /* What an answer means, without a cause. */
@@ -72,7 +77,7 @@ Meaning meaning_of(const List *list, Answer answer, Purpose purpose)
     explain(list, answer, purpose, meaning.text, sizeof meaning.text);
     meaning.cause = strlen(meaning.text);
     if (is_missing_sync(answer)) {
-        unsigned place = cause_of(list, answer, purpose);
+        unsigned place = answer.third;
         snprintf(meaning.text + meaning.cause, sizeof meaning.text - meaning.cause, "%s%s at word %u", between, name_at(list, place), place);
         meaning.cause += strlen(between);
     }

@@ -6,8 +6,9 @@ typedef struct {
 } Tally;
 
 /* With several lists the verdict is one line, with the list's name. */
-static void print_verdict(const Arguments *arguments, const char *path, const List *list, Answer answer)
+static void print_verdict(const Arguments *arguments, const char *path, const List *list)
 {
+    Answer answer = list->verdict;
     if (arguments->quiet)
         printf("%u %u\n", answer.number, (unsigned)answer.place);
     else if (arguments->count <= 1)
@@ -21,13 +22,12 @@ static void print_verdict(const Arguments *arguments, const char *path, const Li
 static void check_file(const Arguments *arguments, const char *path, Tally *tally)
 {
     List list;
-    if (!list_judge(path, &list)) {
+    if (!list_read(path, &list, &to_judge)) {
         tally->unread++;
         return;
     }
-    Answer answer = answer_of(list.verdict);
-    print_verdict(arguments, path, &list, answer);
-    if (!is_accepted(answer))
+    print_verdict(arguments, path, &list);
+    if (is_refused(list.verdict))
         tally->refused++;
     else {
         tally->accepted++;

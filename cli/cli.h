@@ -11,28 +11,10 @@
 /* exit status */
 enum { STATUS_ACCEPTED = 0, STATUS_REFUSED = 1, STATUS_ERROR = 2 };
 
-/* the longest list of the check, and the most of a file that is shown */
+/* the longest list of the check and of the repair, and the most of a file that is shown */
 #define LIST_LIMIT 32768u
+#define REPAIR_LIMIT 16384u
 #define FILE_LIMIT (1024u * 1024u)
-
-/* -- file.c: lists are read, outputs are written whole or not at all ---- */
-
-typedef struct {
-    uint8_t *bytes; /* followed by LANYARDROVE_MOST_WORDS words of zeros */
-    size_t length;
-    bool cut;         /* the file goes on after the bytes that are read */
-    uint64_t verdict; /* the check's answer, of a list that list_judge read */
-} List;
-
-bool list_read(const char *path, List *list, size_t limit);
-bool list_judge(const char *path, List *list);
-void list_free(List *list);
-bool file_write(const char *path, const void *bytes, size_t length);
-bool is_same_file(const char *path, const char *other);
-
-/* -- arrival.c: lists through a pipe, judged as they arrive ------------- */
-
-bool list_arrive(int file, List *list);
 
 /* -- answer.c: the parts of an answer, and what it means ---------------- */
 
@@ -41,6 +23,14 @@ typedef struct {
     uint32_t third;  /* cause of the check, cycles of repair, command number of decode */
     uint32_t place;
 } Answer;
+
+typedef struct {
+    uint8_t *bytes; /* followed by LANYARDROVE_MOST_WORDS words of zeros */
+    size_t length;
+    size_t limit; /* of the bytes; one more tells that the list goes on */
+    bool arrived; /* through a pipe, so that the verdict is that of portions */
+    Answer verdict;
+} List;
 
 typedef enum { FOR_CHECK, FOR_REPAIR, FOR_DRAW } Purpose;
 
@@ -52,11 +42,33 @@ typedef struct {
 
 Answer answer_of(uint64_t packed);
 bool is_accepted(Answer answer);
+bool is_refused(Answer answer);
 bool is_missing_sync(Answer answer);
+bool is_beyond_repair(Answer verdict);
 int status_of(Answer answer);
 Meaning meaning_of(const List *list, Answer answer, Purpose purpose);
 void print_answer(FILE *stream, const List *list, Answer answer, Purpose purpose);
 const char *reason_of(unsigned number);
+
+/* -- file.c: lists are read, outputs are written whole or not at all ---- */
+
+/* How far a command of the tool reads a list. */
+typedef struct {
+    size_t of_file, of_pipe; /* the limits of its bytes */
+    bool (*is_enough)(Answer verdict); /* at such a verdict no more is read of a pipe */
+} Reading;
+
+extern const Reading to_judge, to_repair, to_show;
+
+bool list_read(const char *path, List *list, const Reading *reading);
+bool goes_on(const List *list);
+void list_free(List *list);
+bool file_write(const char *path, const void *bytes, size_t length);
+bool is_same_file(const char *path, const char *other);
+
+/* -- arrival.c: lists through a pipe, judged as they arrive ------------- */
+
+bool list_arrive(int file, List *list, bool (*is_enough)(Answer verdict));
 
 /* -- command.c: a list command by command ------------------------------- */
 

@@ -92,11 +92,13 @@ static int draw_file(const Arguments *arguments)
 {
     List list;
     Memory memory = { NULL, (size_t)arguments->memory, arguments->start };
-    if (!list_read(arguments->paths[0], &list, LIST_LIMIT + 1))
+    if (!list_read(arguments->paths[0], &list, &to_judge))
         return STATUS_ERROR;
     memory.bytes = calloc(1, memory.length + 1);
     int status = STATUS_ERROR;
-    if (memory.bytes == NULL)
+    if (is_refused(list.verdict)) /* drawing runs the whole check first */
+        status = refuse(&list, list.verdict, &memory);
+    else if (memory.bytes == NULL)
         complain("not enough memory");
     else
         status = draw_list(arguments, &list, &memory);

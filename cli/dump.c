@@ -11,7 +11,6 @@
 
 typedef struct {
     bool colour;
-    Answer answer;
     const List *list;
 } Dump;
 
@@ -85,8 +84,8 @@ static void print_note(const Dump *dump, const char *colour, const char *note)
 static void print_refusal(const Dump *dump)
 {
     char note[256];
-    Meaning meaning = meaning_of(dump->list, dump->answer, FOR_CHECK);
-    snprintf(note, sizeof note, "refused, %u %u: %s", dump->answer.number, (unsigned)dump->answer.place, meaning.text);
+    Meaning meaning = meaning_of(dump->list, dump->list->verdict, FOR_CHECK);
+    snprintf(note, sizeof note, "refused, %u %u: %s", dump->list->verdict.number, (unsigned)dump->list->verdict.place, meaning.text);
     print_note(dump, RED, note);
 }
 
@@ -94,14 +93,14 @@ static void print_refusal(const Dump *dump)
 static void print_cause(const Dump *dump)
 {
     char note[64];
-    snprintf(note, sizeof note, "causes the refusal at word %u", (unsigned)dump->answer.place);
+    snprintf(note, sizeof note, "causes the refusal at word %u", (unsigned)dump->list->verdict.place);
     print_note(dump, YELLOW, note);
 }
 
 static void print_command(const Dump *dump, const Command *command, unsigned before)
 {
-    bool refused = dump->answer.number >= LANYARDROVE_PAST_END && command->place == dump->answer.place;
-    bool causes = is_missing_sync(dump->answer) && command->place == dump->answer.third;
+    bool refused = dump->list->verdict.number >= LANYARDROVE_PAST_END && command->place == dump->list->verdict.place;
+    bool causes = is_missing_sync(dump->list->verdict) && command->place == dump->list->verdict.third;
     char hazards[64];
     hazards_text(before, hazards, sizeof hazards);
     printf("%6zu  %016" PRIX64 "  %s%-24s%s  hazards: %s\n", command->place, word_at(dump->list->bytes, command->place),
@@ -118,8 +117,8 @@ static void print_command(const Dump *dump, const Command *command, unsigned bef
 /* What is left after the last word. */
 static void print_rest(const Dump *dump)
 {
-    if (dump->list->cut)
-        printf("        the file goes on after %u bytes, which is all that is shown\n", FILE_LIMIT);
+    if (goes_on(dump->list))
+        printf("        the list goes on after %zu bytes, which is all that is shown\n", dump->list->limit);
     else if (dump->list->length % 8 != 0) {
         printf("%6zu  ", dump->list->length / 8);
         for (size_t i = dump->list->length / 8 * 8; i < dump->list->length; i++)
@@ -132,8 +131,8 @@ static void print_list(const Dump *dump)
 {
     Command command;
     unsigned hazards = 0;
-    fputs(style(dump, is_accepted(dump->answer) ? GREEN : RED), stdout);
-    print_answer(stdout, dump->list, dump->answer, FOR_CHECK);
+    fputs(style(dump, is_accepted(dump->list->verdict) ? GREEN : RED), stdout);
+    print_answer(stdout, dump->list, dump->list->verdict, FOR_CHECK);
     fputs(style(dump, RESET), stdout);
     if (dump->list->length >= 8)
         printf("\n place  word              command\n");
@@ -153,10 +152,10 @@ static bool wants_colour(void)
 int run_dump(const Arguments *arguments)
 {
     List list;
-    if (!list_read(arguments->count > 0 ? arguments->paths[0] : "-", &list, FILE_LIMIT))
+    if (!list_read(arguments->count > 0 ? arguments->paths[0] : "-", &list, &to_show))
         return STATUS_ERROR;
-    Dump dump = { wants_colour(), answer_of(lanyardrove_check(list.bytes, list.length)), &list };
+    Dump dump = { wants_colour(), &list };
     print_list(&dump);
     list_free(&list);
-    return status_of(dump.answer);
+    return status_of(list.verdict);
 }

@@ -10,37 +10,51 @@
 #include <sys/stat.h>
 #include <unistd.h>
 
-/* Reads at most one byte more than the limit. */
-static bool read_whole(FILE *stream, List *list, size_t limit)
+static bool never(Answer verdict)
 {
-    list->length = fread(list->bytes, 1, limit + 1, stream);
-    list->cut = list->length > limit;
-    if (list->cut) {
-        list->length = limit;
-        list->bytes[limit] = 0;
-    }
+    (void)verdict;
+    return false;
+}
+
+/* What comes after a refusal is shown, but of a pipe no more than a list may have: it may never end. */
+const Reading to_judge = { LIST_LIMIT, LIST_LIMIT, is_refused };
+const Reading to_repair = { REPAIR_LIMIT, REPAIR_LIMIT, is_beyond_repair };
+const Reading to_show = { FILE_LIMIT, LIST_LIMIT, never };
+
+bool goes_on(const List *list)
+{
+    return list->length > list->limit;
+}
+
+static bool read_whole(FILE *stream, List *list)
+{
+    list->length = fread(list->bytes, 1, list->limit + 1, stream);
+    list->verdict = answer_of(lanyardrove_check(list->bytes, list->length));
     return !ferror(stream);
 }
 
 /* Standard input, a pipe or a device is judged as it arrives; a file may be read whole first. */
-static bool read_judged(FILE *stream, List *list, size_t limit)
+static bool is_pipe(FILE *stream)
 {
     struct stat kind;
-    if (stream == stdin || fstat(fileno(stream), &kind) != 0 || !S_ISREG(kind.st_mode))
-        return list_arrive(fileno(stream), list);
-    if (!read_whole(stream, list, limit))
-        return false;
-    list->verdict = lanyardrove_check(list->bytes, list->length);
-    return true;
+    return stream == stdin || fstat(fileno(stream), &kind) != 0 || !S_ISREG(kind.st_mode);
 }
 
-/* Reads a file, or standard input for "-". */
-static bool read_by(bool (*reader)(FILE *, List *, size_t), const char *path, List *list, size_t limit)
+static bool read_stream(FILE *stream, List *list, const Reading *reading)
+{
+    bool pipe = is_pipe(stream);
+    list->limit = pipe ? reading->of_pipe : reading->of_file;
+    list->bytes = calloc(1, list->limit + 1 + 8 * LANYARDROVE_MOST_WORDS);
+    return list->bytes != NULL && (pipe ? list_arrive(fileno(stream), list, reading->is_enough) : read_whole(stream, list));
+}
+
+/* Reads a file, or standard input for "-", and its verdict. */
+bool list_read(const char *path, List *list, const Reading *reading)
 {
     bool standard = strcmp(path, "-") == 0;
-    *list = (List){ .bytes = calloc(1, limit + 1 + 8 * LANYARDROVE_MOST_WORDS) };
+    *list = (List){ 0 };
     FILE *stream = standard ? stdin : fopen(path, "rb");
-    bool read = stream != NULL && list->bytes != NULL && reader(stream, list, limit);
+    bool read = stream != NULL && read_stream(stream, list, reading);
     if (!read) {
         complain("%s: %s", standard ? "standard input" : path, strerror(errno));
         list_free(list);
@@ -48,16 +62,6 @@ static bool read_by(bool (*reader)(FILE *, List *, size_t), const char *path, Li
     if (stream != NULL && !standard)
         fclose(stream);
     return read;
-}
-
-bool list_read(const char *path, List *list, size_t limit)
-{
-    return read_by(read_whole, path, list, limit);
-}
-
-bool list_judge(const char *path, List *list)
-{
-    return read_by(read_judged, path, list, LIST_LIMIT + 1);
 }
 
 void list_free(List *list)

@@ -19,7 +19,8 @@ static const Help helps[] = {
       "  draw     draw the fill rectangles of a list into memory\n"
       "  report   write a page about a list, for a browser\n\n"
       "'lanyardrove COMMAND --help' tells more of a command; 'lanyardrove --version'\n"
-      "prints the version. A FILE of - is standard input.\n\n"
+      "prints the version. A FILE of - is standard input. A list from there or from a\n"
+      "pipe is judged as it arrives.\n\n"
       "Exit status: 0 accepted, 1 refused, 2 wrong arguments, or a file could not be\n"
       "read or written.\n" },
     { "check",
@@ -27,9 +28,9 @@ static const Help helps[] = {
       "Prints 'number place' for a list, then what it means. Number 0 accepts the\n"
       "list, and the place is the number of its words; any other number is the first\n"
       "refusal, at a word of the list. Of a missing sync it says also for which command\n"
-      "it is missing. Without FILE the list is read from standard input. A list from\n"
-      "there or from a pipe is judged as it arrives, up to the first refused command.\n"
-      "With several files there is a line for each, and a count.\n\n"
+      "it is missing. Without FILE the list is read from standard input; of a pipe no\n"
+      "more is read than up to the first refused command. With several files there is\n"
+      "a line for each, and a count.\n\n"
       "  -q, --quiet   print 'number place' alone\n"
       "  --help        print this\n" },
     { "repair",

@@ -38,7 +38,7 @@ int run_repair(const Arguments *arguments)
         complain("standard output is a terminal: give -o OUT");
         return usage_error(arguments->command);
     }
-    if (!list_read(arguments->paths[0], &list, LIST_LIMIT + 1))
+    if (!list_read(arguments->paths[0], &list, &to_repair))
         return STATUS_ERROR;
     int status = STATUS_ERROR;
     if (repaired_of(&list, &repaired)) {

@@ -26,10 +26,9 @@ static bool find_insertions(const List *list, Repaired *repaired)
 }
 
 /* False where memory is short or the lists cannot be compared; a refusal is in the answer. */
-bool repaired_of(const List *list, Repaired *repaired)
+static bool repair_whole(const List *list, Repaired *repaired)
 {
     size_t words = list->length / 8 + 1;
-    memset(repaired, 0, sizeof *repaired);
     uint8_t *work = calloc(words, 16);
     repaired->list.bytes = calloc(2 * words + LANYARDROVE_MOST_WORDS, 8);
     repaired->inserted = calloc(words, sizeof *repaired->inserted);
@@ -47,6 +46,13 @@ bool repaired_of(const List *list, Repaired *repaired)
         repaired_free(repaired);
     }
     return done;
+}
+
+/* Of a list through a pipe the refusal of a command comes first, and no more may be read of it. */
+bool repaired_of(const List *list, Repaired *repaired)
+{
+    *repaired = (Repaired){ .answer = list->verdict };
+    return (list->arrived && is_beyond_repair(list->verdict)) || repair_whole(list, repaired);
 }
 
 void repaired_free(Repaired *repaired)

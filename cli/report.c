@@ -56,11 +56,11 @@ static bool draw_picture(Report *report, const List *list)
 static bool gather(Report *report)
 {
     const List *list = &report->list;
-    report->answer = answer_of(lanyardrove_check(list->bytes, list->length));
+    report->drawing = report->answer = list->verdict;
     if (!rows_of(list, report->answer, &report->rows) || !repaired_of(list, &report->repaired))
         return false;
-    if (report->repaired.count == 0)
-        return draw_picture(report, list);
+    if (report->repaired.count == 0) /* drawing runs the whole check first */
+        return is_refused(report->answer) || draw_picture(report, list);
     return rows_of(&report->repaired.list, report->repaired.answer, &report->repaired_rows) && draw_picture(report, &report->repaired.list);
 }
 
@@ -87,7 +87,7 @@ int run_report(const Arguments *arguments)
         complain("%s", arguments->output == NULL ? "report needs -o OUT" : "the output is the list itself");
         return usage_error(arguments->command);
     }
-    if (!list_read(path, &report.list, FILE_LIMIT))
+    if (!list_read(path, &report.list, &to_show))
         return STATUS_ERROR;
     int status = write_report(&report, arguments->output);
     free(report.png);

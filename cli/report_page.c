@@ -50,7 +50,8 @@ static void add_verdict(Text *text, const Report *report)
         text_add(text, "<p class=\"show\"><a href=\"#refused\">Show the command</a></p>\n");
     text_add(text, "</section>\n<dl class=\"facts\"><div><dt>number place</dt><dd><code>%u %u</code></dd></div>"
                    "<div><dt>bytes</dt><dd>%s%zu</dd></div><div><dt>commands</dt><dd>%zu</dd></div></dl>\n",
-             report->answer.number, (unsigned)report->answer.place, report->list.cut ? "over " : "", report->list.length, report->rows.count);
+             report->answer.number, (unsigned)report->answer.place, goes_on(&report->list) ? "over " : "",
+             goes_on(&report->list) ? report->list.limit : report->list.length, report->rows.count);
 }
 
 /* What the lines of a strip mean. */

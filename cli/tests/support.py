@@ -3,6 +3,8 @@ import os
 import struct
 import subprocess
 import sys
+import threading
+import time
 import zlib
 
 TOOL = os.path.abspath(sys.argv[1])
@@ -30,6 +32,20 @@ def run(*arguments, stdin=b"", **more):
     """Exit status, output and errors of the tool."""
     done = subprocess.run([TOOL, *arguments], input=stdin, capture_output=True, timeout=60, **more)
     return done.returncode, done.stdout.decode(), done.stderr.decode()
+
+
+def arriving(arguments, *portions):
+    """Status and output where a list comes in portions, the last of which must be the one that ends it: standard input is not closed."""
+    with subprocess.Popen([TOOL, *arguments], stdin=subprocess.PIPE, stdout=subprocess.PIPE, bufsize=0) as tool:
+        late = threading.Timer(10, tool.kill)
+        late.start()
+        for portion in portions:
+            time.sleep(0.02)
+            same(tool.poll(), None, portion)
+            tool.stdin.write(portion)
+        out = tool.stdout.read().decode()
+        late.cancel()
+        return tool.wait(), out
 
 
 def words(*numbers):

@@ -4,7 +4,6 @@ import random
 import re
 import shutil
 import subprocess
-import time
 
 from rules import NAMES, accepted_list, cause_of, hazards_along, misses_sync, words_of
 from support import C, L, LOAD, N, ONE_CYCLE, PIPE, R, S, TILE, TOOL, example, read, run, same, test, words, write
@@ -107,37 +106,6 @@ def check_of_a_file_without_permission():
     user = 65534 if os.geteuid() == 0 else None  # nobody, since root reads everything
     done = subprocess.run(["./tool", "check", "list.rdp"], capture_output=True, user=user)
     same((tool, done.returncode, done.stderr), ("tool", 2, b"lanyardrove: list.rdp: Permission denied\n"))
-
-
-def arriving(*portions):
-    """Status and output of a check of portions, the last of which must be the one that ends it: standard input is not closed."""
-    tool = subprocess.Popen([TOOL, "check", "-"], stdin=subprocess.PIPE, stdout=subprocess.PIPE, bufsize=0)
-    for portion in portions:
-        time.sleep(0.02)
-        same(tool.poll(), None, portion)
-        tool.stdin.write(portion)
-    status = tool.wait(timeout=10)
-    return status, tool.stdout.read().decode()
-
-
-@test
-def check_judges_a_list_as_it_arrives():
-    text = "9 4\nword 4: Set Fill Color requires Sync Pipe, for the Fill Rectangle at word 3\n"
-    given = words(*S, R, C)
-    same(arriving(given), (1, text))
-    same(arriving(given[:3], given[3:32], given[32:39], given[39:]), (1, text))
-    same(arriving(*[bytes([byte]) for byte in given]), (1, text))
-    same(arriving(given[:39], given[39:] + b"no word"), (1, text))
-    same(arriving(bytes(32768), b"x"), (1, "1 4096\nthe list is over 32,768 bytes\n"))
-    same(arriving(bytes(32761), words(R)[1:], bytes(1)), (1, "1 4096\nthe list is over 32,768 bytes\n"))
-
-
-@test
-def check_ends_where_the_list_does_not():
-    for endless in ("yes", "cat /dev/zero"):
-        done = subprocess.run(["sh", "-c", f'{endless} | "$0" check -q -', TOOL], capture_output=True, timeout=10)
-        same((done.returncode, done.stdout), (1, b"1 4096\n"), endless)
-    same(run("check", "-q", "/dev/zero"), (1, "1 4096\n", ""))
 
 
 @test

@@ -6,7 +6,7 @@ import re
 import subprocess
 
 from rules import NAMES, accepted_list, commands_of, fields_of, hazards_along, random_command, words_of
-from support import C, FULL, L, N, ONE_CYCLE, PIPE, R, S, TILE, TOOL, example, read, run, same, test, words
+from support import C, FULL, L, N, ONE_CYCLE, PIPE, R, S, TILE, TOOL, example, read, run, same, test, words, write
 
 FOUR_BITS = [S[0], 0x3F00000000000000, S[2]]  # no draw may follow
 
@@ -91,12 +91,13 @@ def dump_shows_what_is_no_whole_command():
 @test
 def dump_of_a_list_that_is_too_long():
     given = [*S, *[N] * 4091, R, L, L, 0x24 << 56, 0, TILE, N]
-    found = dumped_commands(dumped(words(*given), 1))
+    found = dumped_commands(run("dump", write("list.rdp", words(*given)))[1])
     same([(c[0], c[3]) for c in found[4093:]], [(4093, "none"), (4094, "none"), (4095, "pipe draw"), (4096, "pipe draw load"), (4097, "pipe draw load"),
                                                 (4099, "pipe tile draw load"), (4100, "pipe")])
-    found = dumped_commands(dumped(words(R, *[N] * 131071), 1))
-    same((len(found), {c[3] for c in found[1:]}), (131072, {"pipe draw"}))
-    assert "the file goes on after 1048576 bytes" in run("dump", "/dev/zero")[1]
+    status, out, _ = run("dump", write("list.rdp", words(R, *[N] * 131072)))
+    found = dumped_commands(out)
+    same((status, len(found), {c[3] for c in found[1:]}), (1, 131072, {"pipe draw"}))
+    assert out.endswith("the list goes on after 1048576 bytes, which is all that is shown\n"), out[-200:]
 
 
 @test

@@ -93,11 +93,3 @@ def repair_of_the_list_with_most_syncs():
     status, out, err = run("repair", "in.rdp", "-o", "out.rdp")
     same((status, out.split("\n")[-2]), (0, f"2044 syncs inserted, {2044 * 25} cycles, {2048 + 2044} words in all"))
     same(run("check", "-q", "out.rdp")[1], f"0 {2048 + 2044}\n")
-
-
-@test
-def repair_and_draw_read_little_more_than_the_longest_list():
-    for arguments, verdict in ((["repair", "-", "-o", "out.rdp"], b"1 2048\n"), (["draw", "-", "--memory", "64", "-o", "out.bin"], b"1 4096\n")):
-        with subprocess.Popen([TOOL, *arguments], stdin=subprocess.PIPE, stdout=subprocess.PIPE, bufsize=0) as tool:
-            tool.stdin.write(bytes(40000))  # and it is not closed
-            same((tool.wait(timeout=10), tool.stdout.readline()), (1, verdict), arguments)
