@@ -90,7 +90,7 @@ static unsigned hazards_after(unsigned number, unsigned hazards)
     if (number == SYNC_PIPE || number == SYNC_FULL)
         return 0;
     if (is_load(number))
-        return hazards | LOAD;
+        return hazards | TILE | LOAD;
     if (is_draw(number))
         return hazards | PIPE | DRAW | (is_textured(number) ? TILE : 0);
     return hazards;

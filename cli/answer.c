@@ -107,7 +107,7 @@ const char *reason_of(unsigned number)
         return "A load and a draw must not run at the same time. The earlier of the two may still run here; a Sync Load (25 cycles), or any longer "
                "sync, waits for it.";
     case LANYARDROVE_SYNC_TILE_MISSING:
-        return "A textured draw may still read the tile that this command changes; a Sync Tile (33 cycles), or a Sync Pipe, waits for it.";
+        return "A textured draw or a load may still read the tile that this command changes; a Sync Tile (33 cycles), or a Sync Pipe, waits for it.";
     case LANYARDROVE_SYNC_PIPE_MISSING: return "A draw may still use what this command changes; a Sync Pipe (50 cycles) waits for it.";
     default: return "";
     }

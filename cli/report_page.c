@@ -57,7 +57,8 @@ static void add_verdict(Text *text, const Report *report)
 /* What the lines of a strip mean. */
 static void add_legend(Text *text)
 {
-    static const char *const meanings[] = { "a draw since the last Sync Pipe", "a textured draw since the last Sync Tile or Sync Pipe",
+    static const char *const meanings[] = { "a draw since the last Sync Pipe",
+                                            "a textured draw or a load since the last Sync Tile or Sync Pipe",
                                             "a draw since the last sync", "a load since the last sync" };
     text_add(text, "<ul class=\"legend\">\n");
     for (unsigned bit = 0; bit < sizeof meanings / sizeof meanings[0]; bit++)

@@ -34,7 +34,7 @@ static size_t with_word(const uint8_t *list, size_t words, size_t place, uint8_t
 
 // Whether a command sets the mark that the refused one needs cleared, and whether a sync clears it.
 static bool sets_mark(unsigned number, unsigned refused) {
-    return refused == 0x35 ? is_textured(number) : is_draw(refused) ? is_load(number) : is_draw(number);
+    return refused == 0x35 ? reads_tile(number) : is_draw(refused) ? is_load(number) : is_draw(number);
 }
 static bool clears_mark(unsigned number, unsigned refusal) {
     return number == 0x27 || (number == 0x28 && refusal <= 8) || (number == 0x26 && refusal == 7);

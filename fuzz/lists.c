@@ -27,9 +27,9 @@ static bool is_texture_rectangle(unsigned number) { return number == 0x24 || num
 
 bool is_draw(unsigned number) { return is_triangle(number) || is_texture_rectangle(number) || number == 0x36; }
 
-bool is_textured(unsigned number) { return is_texture_rectangle(number) || (is_triangle(number) && number & 2); }
-
 bool is_load(unsigned number) { return number == 0x30 || number == 0x33 || number == 0x34; }
+
+bool reads_tile(unsigned number) { return is_load(number) || is_texture_rectangle(number) || (is_triangle(number) && number & 2); }
 
 bool is_attribute(unsigned number) {
     static const uint8_t those[] = {0x2A, 0x2B, 0x2C, 0x2F, 0x37, 0x38, 0x39, 0x3B, 0x3C, 0x3E, 0x3F};

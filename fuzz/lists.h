@@ -27,8 +27,8 @@ size_t chosen_length(const struct input *in, int k, size_t enough, size_t most);
 
 unsigned command_number(const uint8_t *word);
 bool is_draw(unsigned number);
-bool is_textured(unsigned number);  // a draw with texture
 bool is_load(unsigned number);
+bool reads_tile(unsigned number);  // a draw with texture or a load
 bool is_attribute(unsigned number);
 size_t words_of(unsigned number);
 // The words of the command at a place; 0 where it runs past the end.

@@ -6,7 +6,7 @@
 enum { PIPE = 1, TILE = 2, DRAW = 4, LOAD = 8 };
 
 static bool sets_mark(unsigned mark, unsigned number) {
-    return mark == LOAD ? is_load(number) : mark == TILE ? is_textured(number) : is_draw(number);
+    return mark == LOAD ? is_load(number) : mark == TILE ? reads_tile(number) : is_draw(number);
 }
 
 // "Each sync clears the marks whose definition names it; Sync Full clears all."

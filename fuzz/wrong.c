@@ -45,7 +45,7 @@ uint64_t lanyardrove_check(const uint8_t *list, size_t length) {
     if (wrong(5) && number == 6) return a + 1;                                               // place
     if (wrong(6) && number == 0 && length > 200) return with_cause(9ull << 56 | 3, 2);       // refuses
     if (wrong(7) && number == 9) return with_cause(a, draw_before(list, place, false));      // the first draw instead of the latest
-    if (wrong(8) && number == 8) return with_cause(a, draw_before(list, place, true));       // a draw for a textured draw
+    if (wrong(8) && number == 8) return with_cause(a, draw_before(list, place, true));       // a draw for what reads the tile
     if (wrong(9) && number >= 7) return with_cause(a, place);                                // the refused command's own place
     if (wrong(10) && number == 0) return with_cause(a, 0);                                   // no words at acceptance
     return a;
@@ -129,7 +129,8 @@ uint64_t lanyardrove_step(uint32_t hazards, uint32_t number) {
     if (wrong(61) && is_load(n)) return (a & ~8ull) | (hazards & 8);         // forgets a load
     if (wrong(62) && missing) return a & ~(4ull << 32);                      // required and not missing
     if (wrong(63) && missing) return (a & ~15ull) | (hazards & 15);          // the command does not run
-    if (wrong(64) && n == 0x28) return a | (hazards & 2);                    // Sync Tile leaves the textured draw
+    if (wrong(64) && n == 0x28) return a | (hazards & 2);                    // Sync Tile leaves what reads the tile
+    if (wrong(67) && n == 0x33) return (a & ~2ull) | (hazards & 2);          // a load reads no tile
     if (wrong(65) && hazards > 15) return right_step(0, number);             // bits above the hazards count
     if (wrong(66) && n == 0x3D && hazards & 1) return a | 7ull << 32;        // a free command requires a sync
     return a;

@@ -34,7 +34,7 @@ extern "C" {
    A release steps the major number where a function of the last release is gone, takes other parameters, or answers or
    writes anything else for some input; else the minor number where a function is added; else the patch number. The numbers
    after the one that steps become 0. */
-#define LANYARDROVE_VERSION 0x020200
+#define LANYARDROVE_VERSION 0x030000
 
 uint32_t lanyardrove_version(void);
 
@@ -77,7 +77,7 @@ static inline uint32_t lanyardrove_required(uint64_t stepped) { return lanyardro
 /* The check of a list: 0 at the number of its words, or the first of refusals 1 to 9. The list is read only.
    The third number is the cause. At 7, 8 and 9 it is the place of the command that the missing sync has to wait for, the
    latest of its kind before the refused one: for a refused draw a load, for a load a draw, for a Set Tile a textured draw
-   (a triangle with texture, a texture rectangle), for a command that sets an attribute a draw.
+   (a triangle with texture, a texture rectangle) or a load, for a command that sets an attribute a draw.
    At every other answer it is the list's whole words, list_length / 8 rounded down, also at 1; it is at most 16,777,215,
    which stands for that and more (a list of 128 MiB and up). */
 uint64_t lanyardrove_check(const uint8_t *list, size_t list_length);
@@ -110,7 +110,7 @@ uint64_t lanyardrove_stream_close(struct lanyardrove_stream *stream);
 /* The hazards: earlier work that may still run. A state is the sum of those that stand, 0 to 15; a list starts at 0. */
 enum lanyardrove_hazard {
     LANYARDROVE_HAZARD_PIPE = 1, /* A draw since the last Sync Pipe or Sync Full. */
-    LANYARDROVE_HAZARD_TILE = 2, /* A textured draw since the last Sync Tile, Sync Pipe or Sync Full. */
+    LANYARDROVE_HAZARD_TILE = 2, /* A textured draw or a load since the last Sync Tile, Pipe or Full. */
     LANYARDROVE_HAZARD_DRAW = 4, /* A draw since the last sync of any kind. */
     LANYARDROVE_HAZARD_LOAD = 8  /* A load since the last sync of any kind. */
 };

@@ -48,13 +48,14 @@ def is_draw(word):
     return number_of(word) in (*TRIANGLES, *TEXTURE_RECTANGLES, FILL_RECTANGLE)
 
 
-def is_textured(word):
-    number = number_of(word)
-    return number in TEXTURE_RECTANGLES or number in TRIANGLES and bits(word, 57, 57) == 1
-
-
 def is_load(word):
     return number_of(word) in LOADS
+
+
+def reads_tile(word):
+    """02, #104: a textured draw or a load."""
+    number = number_of(word)
+    return is_load(word) or number in TEXTURE_RECTANGLES or number in TRIANGLES and bits(word, 57, 57) == 1
 
 
 # ---- "Four marks" and "Grounds" 1 to 9: the check.
@@ -74,7 +75,7 @@ def missing_sync(seen, word):
     number = number_of(word)
     if number in ATTRIBUTES and since(seen, is_draw, (SYNC_PIPE, SYNC_FULL)):
         return 9
-    if number == SET_TILE and since(seen, is_textured, (SYNC_TILE, SYNC_PIPE, SYNC_FULL)):
+    if number == SET_TILE and since(seen, reads_tile, (SYNC_TILE, SYNC_PIPE, SYNC_FULL)):
         return 8
     if is_load(word) and since(seen, is_draw, SYNCS) or is_draw(word) and since(seen, is_load, SYNCS):
         return 7

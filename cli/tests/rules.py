@@ -41,7 +41,7 @@ def after(hazards, number):
     if is_draw(number):
         textured = number in (0x24, 0x25) or (number < 16 and number & 2)
         return hazards | {"pipe", "draw"} | ({"tile"} if textured else set())
-    return hazards | {"load"} if number in LOADS else hazards
+    return hazards | {"tile", "load"} if number in LOADS else hazards
 
 
 def misses_sync(hazards, number):

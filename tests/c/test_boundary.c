@@ -113,6 +113,7 @@ static uint64_t random_word(void) {
 #define C 0x37000000F801003Fu
 #define L 0x3400000000000000u
 #define TLUT 0x3000000000000000u
+#define BLOCK 0x3300000000000000u
 #define SET_TILE 0x3500000000000000u
 #define TEXTURED 0x2400000000000000u /* the first word of a texture rectangle */
 #define LOAD 0x2600000000000000u
@@ -221,6 +222,8 @@ static void check_causes(void) {
     const uint64_t latest_draw[] = {S, R, R, N, L};               /* a load for the latest draw, */
     const uint64_t after_load[] = {S, L, LOAD, R, L};             /* and not for a load, */
     const uint64_t textured[] = {S, TEXTURED, 0, R, SET_TILE};    /* a Set Tile for a textured draw, though another came later, */
+    const uint64_t load_last[] = {S, TEXTURED, 0, LOAD, BLOCK, LOAD, SET_TILE}; /* or for a load, the later of the two, */
+    const uint64_t load_alone[] = {BLOCK, SET_TILE}, load_synced[] = {BLOCK, LOAD, SET_TILE}, load_waits[] = {BLOCK, TILE, SET_TILE};
     const uint64_t attribute[] = {S, TEXTURED, 0, R, C};          /* an attribute for any draw; */
     const uint64_t short_sync[] = {S, R, PIPE, R, TILE, LOAD, C}; /* and syncs may stand between that do not serve */
     static uint64_t words[4096];
@@ -235,6 +238,10 @@ static void check_causes(void) {
     ANSWERS(lanyardrove_check(a_list.bytes, LIST(latest_draw)), 7, 4, 6);
     ANSWERS(lanyardrove_check(a_list.bytes, LIST(after_load)), 7, 5, 6);
     ANSWERS(lanyardrove_check(a_list.bytes, LIST(textured)), 8, 3, 6);
+    ANSWERS(lanyardrove_check(a_list.bytes, LIST(load_last)), 8, 6, 8);
+    ANSWERS(lanyardrove_check(a_list.bytes, LIST(load_alone)), 8, 0, 1);
+    ANSWERS(lanyardrove_check(a_list.bytes, LIST(load_synced)), 8, 0, 2);
+    ANSWERS(lanyardrove_check(a_list.bytes, LIST(load_waits)), 0, 3, 3);
     ANSWERS(lanyardrove_check(a_list.bytes, LIST(attribute)), 9, 5, 6);
     ANSWERS(lanyardrove_check(a_list.bytes, LIST(short_sync)), 9, 5, 8);
 
@@ -311,6 +318,7 @@ static void repair_lists(void) {
     const uint64_t k[] = {S, R, L, R}, k_repaired[] = {S, R, LOAD, L, LOAD, R};
     const uint64_t m[] = {S, R, N, C}, m_repaired[] = {S, R, N, PIPE, C};
     const uint64_t h[] = {S, R, PIPE, C};
+    const uint64_t block[] = {BLOCK, SET_TILE}, block_repaired[] = {BLOCK, TILE, SET_TILE};
     const uint64_t cut[] = {S, 0x2400000000000000u};
     const uint64_t full[] = {FULL, N};
     const uint64_t bare[] = {R};
@@ -321,6 +329,7 @@ static void repair_lists(void) {
     REPAIRS(k, 6, k_repaired, 50);
     REPAIRS(m, 6, m_repaired, 50);
     REPAIRS(h, 6, h, 0);
+    REPAIRS(block, 2, block_repaired, 33);
 
     fresh(&a_list);
     memset(a_list.bytes, 0, 16400);
@@ -703,7 +712,7 @@ static const Kind KINDS[] = {
     {'.', 0, P | T | D | G, 0, 0},         /* no operation or free */
     {'d', P | D, P | T | D | G, G, 1},     /* draw: triangle without texture, Fill Rectangle */
     {'t', P | T | D, P | T | D | G, G, 1}, /* textured draw: triangle with bit 57, texture rectangle */
-    {'g', G, P | T | D | G, D, 1},         /* load */
+    {'g', T | G, P | T | D | G, D, 1},     /* load */
     {'s', 0, P | T | D | G, T, 2},         /* Set Tile */
     {'a', 0, P | T | D | G, P, 3},         /* attribute */
     {'1', 0, P | T, 0, 0},                 /* Sync Load */
@@ -767,8 +776,8 @@ static void walks(void) {
     const uint64_t tiles[] = {S, TEXTURED, R, LOAD, SET_TILE, FULL}; /* R is the texture rectangle's second word */
     WALK(g, 4, 3, P | D);
     WALK(h_pipe, 6, 0, 0);
-    WALK(j, 4, 1, P | D | G); /* as if the load had run, and the attribute after it */
-    WALK(k, 6, 1, P | D | G);
+    WALK(j, 4, 1, P | T | D | G); /* as if the load had run, and the attribute after it */
+    WALK(k, 6, 1, P | T | D | G);
     WALK(tiles, 6, 2, 0);
 }
 #undef P

@@ -40,9 +40,9 @@ fn third_of_sync(required: u8, missing: bool) -> u32
 // The version of this library: major, minor and patch number, eight bits each. The header has the same number.
 #[no_mangle]
 pub extern "C" fn lanyardrove_version() -> u32
-    ensures { λ r. ⌜ r ≡ 0x020200 ⌝ }
+    ensures { λ r. ⌜ r ≡ 0x030000 ⌝ }
 {
-    0x020200
+    0x030000
 }
 
 // The words of the command that begins with a word: a plain count.

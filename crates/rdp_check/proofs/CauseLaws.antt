@@ -19,7 +19,7 @@ use Rattle.rdp_words.proofs.PlaceLaws.{number-small, word-drop}
 use Rattle.rdp_check.specs.Hazards.{requiredOf}
 use Rattle.rdp_check.specs.Order.{Among}
 use Rattle.rdp_check.specs.Commands.{commandsOf, restOf, wordsIn, joined}
-use Rattle.rdp_check.specs.Marks.{Mark, markP, markD, draws, textured, loads, NoneOf, Stands}
+use Rattle.rdp_check.specs.Marks.{Mark, markP, markD, draws, loads, readsTile, NoneOf, Stands}
 use Rattle.rdp_check.specs.Cause.{awaited, latest, causeAt, causeOf, IsCause}
 use Rattle.rdp_check.specs.Check.{State, start, ownRefusals, syncRefusals, checkRefusals, judgeList, checkOf}
 use Rattle.rdp_check.specs.Refusals.{stateAfter, CommandHolds, pastEnd, atCommand, Holds, tooLong, notWords, ofCommands}
@@ -66,8 +66,8 @@ awaited-stands m n hm hn = or-other (eqb (requiredOf m n) 0) _ (at-state waits t
 numbers-load : Numbers 0x0019_0000_0000_0000 loads
 numbers-load = among-by _ loads tt
 
-numbers-textured : Numbers 0x0000_0030_0000_CC00 textured
-numbers-textured = among-by _ textured tt
+numbers-tile : Numbers 0x0019_0030_0000_CC00 readsTile
+numbers-tile = among-by _ readsTile tt
 
 module _ (n : ℕ) (small : n < 64) (b : Bool) (is : b ≡ isAmong 0x0040_0030_0000_FF00 n) where
   drawing : b ≡ draws n
@@ -78,9 +78,9 @@ module _ (n : ℕ) (small : n < 64) (b : Bool) (is : b ≡ isAmong 0x0040_0030_0
   awaits-load t = rw (← drawing, t) numbers-load
 
   module _ (f : b ≡ false) where
-    pub awaits-textured : n ≡ 0x35 → Numbers 0x0000_0030_0000_CC00 (awaited n .sets)
+    pub awaits-tile : n ≡ 0x35 → Numbers 0x0019_0030_0000_CC00 (awaited n .sets)
     unfolding awaited
-    awaits-textured e = rw (← drawing, f, e) numbers-textured
+    awaits-tile e = rw (← drawing, f, e) numbers-tile
 
     pub awaits-draw : (n ≡ 0x35 → ⊥) → Numbers 0x0040_0030_0000_FF00 (awaited n .sets)
     unfolding awaited

@@ -12,7 +12,7 @@ use Rattle.rdp_check.specs.declared.Transition.{Transition}
 pub record Hazards : Type 0 where
   -- P: a draw since the last Sync Pipe
   pub pipe : Bool
-  -- T: a textured draw since the last Sync Tile or Pipe
+  -- T: a textured draw or a load since the last Sync Tile or Pipe (#104)
   pub tile : Bool
   -- D: a draw since the last sync of any kind
   pub drawn : Bool
@@ -39,7 +39,7 @@ hazardsAfter syncLoad n h = record { pipe = h .pipe; tile = h .tile; drawn = fal
 hazardsAfter syncTile n h = record { pipe = h .pipe; tile = false; drawn = false; loaded = false }
 hazardsAfter syncPipe n h = record { pipe = false; tile = false; drawn = false; loaded = false }
 hazardsAfter syncFull n h = record { pipe = false; tile = false; drawn = false; loaded = false }
-hazardsAfter load n h = record { pipe = h .pipe; tile = h .tile; drawn = h .drawn; loaded = true }
+hazardsAfter load n h = record { pipe = h .pipe; tile = true; drawn = h .drawn; loaded = true }
 hazardsAfter setTile n h = h
 hazardsAfter attribute n h = h
 hazardsAfter free n h = h

@@ -20,6 +20,10 @@ textured n = (between 0x08 0x0F n && hasBit 2 n) || among n (0x24 ∷ 0x25 ∷ [
 abbrev pub loads : ℕ → Bool
 loads n = among n (0x30 ∷ 0x33 ∷ 0x34 ∷ [])
 
+-- the commands that read a tile descriptor
+abbrev pub readsTile : ℕ → Bool
+readsTile n = textured n || loads n
+
 -- the syncs that clear a mark: those that its definition names, and Sync Full
 abbrev pub syncFull : ℕ
 syncFull = 0x29
@@ -43,9 +47,9 @@ pub record Mark : Type 0 where
 abbrev pub markP : Mark
 markP = record { bit = 1; sets = draws; clears = pipeOrFull }
 
--- T: a textured draw since the last Sync Tile or Pipe
+-- T: a textured draw or a load since the last Sync Tile or Pipe (#104)
 abbrev pub markT : Mark
-markT = record { bit = 2; sets = textured; clears = tilePipeOrFull }
+markT = record { bit = 2; sets = readsTile; clears = tilePipeOrFull }
 
 -- D: a draw since the last sync of any kind
 abbrev pub markD : Mark

@@ -10,8 +10,8 @@ ghost use Rattle.rdp_check.specs.Cause.{awaited, latest, causeOf};
 ghost use Rattle.rdp_check.specs.View.{Numbers, IsJudged};
 use crate::walk;
 
-// Command numbers, a bit for each: the textured draws, and the loads.
-const TEXTURED: u64 = 0x0000_0030_0000_CC00;
+// Command numbers, a bit for each: the textured draws and the loads, and the loads alone.
+const READS_TILE: u64 = 0x0019_0030_0000_CC00;
 
 const LOADS: u64 = 0x0019_0000_0000_0000;
 
@@ -24,7 +24,7 @@ fn awaited_by(number: u8) -> u64
         return LOADS;
     }
     if number == 0x35 {
-        return TEXTURED;
+        return READS_TILE;
     }
     rdp_words::DRAWS
 }

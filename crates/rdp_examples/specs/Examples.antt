@@ -1,4 +1,4 @@
--- Document 01, "Examples": A to O as one list of cases, each with all that must come out.
+-- Document 01, "Examples": A to O as one list of cases, each with all that must come out; and those of #104.
 use Prim.Native.Nat.{ℕ, _+_, _*_}
 use mathlib.Core.Bool.{Bool, true, false, _&&_}
 use mathlib.Core.List.{List, [], _∷_, _++_}
@@ -40,6 +40,12 @@ fillColor = 0x37000000F801003F
 -- L
 abbrev pub loadTile : ℕ
 loadTile = 0x3400000000000000
+
+abbrev pub loadBlock : ℕ
+loadBlock = 0x3300000000000000
+
+abbrev pub setTile : ℕ
+setTile = 0x3500000000000000
 
 abbrev pub textureRectangle : ℕ
 textureRectangle = 0x2400000000000000
@@ -105,6 +111,11 @@ examples =
     ∷ repairs (setup ++ rectangle ∷ noOperation ∷ fillColor ∷ []) (setup ++ rectangle ∷ noOperation ∷ syncPipe ∷ fillColor ∷ []) 50
     -- O: with width 7 pixel (0,1) is at address 14 and takes the lower half
     ∷ draws (setupOfWidth7 ++ fillColor ∷ onePixel ∷ []) (zeros 64) 0 5 (zeros 14 ++ 0x00 ∷ 0x3F ∷ zeros 48)
+    -- #104: after a load the hazards are tile and load, 2 + 8, and it is the cause; a Sync Load leaves tile, a Sync Tile none
+    ∷ checks (bytesIn (loadBlock ∷ setTile ∷ [])) 8 1 10 0
+    ∷ checks (bytesIn (loadBlock ∷ syncLoad ∷ setTile ∷ [])) 8 2 2 0
+    ∷ checks (bytesIn (loadBlock ∷ syncTile ∷ setTile ∷ [])) 0 3 0 3
+    ∷ repairs (loadBlock ∷ setTile ∷ []) (loadBlock ∷ syncTile ∷ setTile ∷ []) 33
     ∷ []
 
 -- ---- what is right
