@@ -7,7 +7,8 @@ use crate::kinds::{is_draw, is_textured_draw, kind, Kind, Sync};
 pub struct Marks {
     /// P: a draw since the last Sync Pipe.
     pub pipe: bool,
-    /// T: a textured draw since the last Sync Tile or Pipe.
+    /// T: by request #104, a textured draw or a load since the last Sync Tile or
+    /// Pipe.
     pub tile: bool,
     /// D: a draw since the last sync of any kind.
     pub drawing: bool,
@@ -53,6 +54,7 @@ impl Marks {
         match kind(number) {
             Kind::Sync(sync) => self.after_sync(sync),
             Kind::Load => Marks {
+                tile: true,
                 loading: true,
                 ..self
             },

@@ -66,6 +66,30 @@ fn a_sync_that_does_not_serve_stands_between() {
     assert_eq!(caused(&list), (9, 8, 5));
 }
 
+/// Request #104: T means "a textured draw or a load".
+#[test]
+fn a_set_tile_waits_for_a_load() {
+    let block = command(0x33);
+    assert_eq!(caused(&[block, SET_TILE]), (8, 1, 0));
+    assert_eq!(caused(&[block, SYNC_LOAD, SET_TILE]), (8, 2, 0));
+    for sync in [SYNC_TILE, SYNC_PIPE] {
+        assert_eq!(caused(&[block, sync, SET_TILE]), (0, 3, 3));
+    }
+    assert_eq!(caused(&[L, command(0x30), N, SET_TILE]), (8, 3, 1));
+    assert_eq!(caused(&[L, SYNC_TILE, block, SET_TILE, L]), (8, 3, 2));
+}
+
+/// "The latest draw, textured draw or load that set the mark."
+#[test]
+fn a_set_tile_waits_for_the_later_of_textured_draw_and_load() {
+    let list = one_cycle(&[whole(0x24), vec![SYNC_LOAD, L, SET_TILE]]);
+    assert_eq!(caused(&list), (8, 7, 6));
+    let list = one_cycle(&[vec![L, SYNC_LOAD], whole(0x0A), vec![R, SET_TILE]]);
+    assert_eq!(caused(&list), (8, 18, 5));
+    let list = one_cycle(&[vec![L, SYNC_LOAD, R, N, SET_TILE]]);
+    assert_eq!(caused(&list), (8, 7, 3));
+}
+
 /// The words after a triangle's first one are no commands, whatever they hold.
 #[test]
 fn words_inside_a_triangle_cause_nothing() {

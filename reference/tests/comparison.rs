@@ -4,7 +4,7 @@
 use reference::comparison::calls::Function;
 use reference::comparison::run::{run, Difference};
 use reference::comparison::side::{Reference, Side};
-use reference::kinds::{commands, is_draw};
+use reference::kinds::{commands, is_draw, is_textured_draw};
 use reference::record::{pack, unpack, Record};
 use reference::stream::ROOM;
 use reference::words::command_number;
@@ -30,6 +30,8 @@ enum Fault {
     FirstDraw,
     /// At ground 8 the cause is the latest draw, textured or not.
     AnyDraw,
+    /// At ground 8 a load is no cause where a textured draw came before it.
+    LoadNoCause,
     /// Over the limit the cause is the words that a list may have.
     WordsOverLimit,
     /// One painted byte is wrong.
@@ -58,8 +60,10 @@ enum Fault {
     IgnoredBits,
     /// A flipped texture rectangle has one word.
     FlippedWord,
-    /// A load leaves the marks as they are.
+    /// A load leaves G as it is.
     LoadForgotten,
+    /// A load leaves T as it is.
+    LoadReadsNoTile,
     /// A missing sync is said to be required, but not to be missing.
     NotMissing,
     /// A command that misses a sync does not run.
@@ -94,11 +98,23 @@ fn with_cause(answer: u64, cause: usize) -> u64 {
 
 /// The places of the draws before the place of an answer.
 fn draws(list: &[u8], answer: u64) -> impl Iterator<Item = usize> + '_ {
+    places(list, answer, is_draw)
+}
+
+fn textured_draws(list: &[u8], answer: u64) -> impl Iterator<Item = usize> + '_ {
+    places(list, answer, is_textured_draw)
+}
+
+/// The places of the commands of a kind before the place of an answer.
+fn places(
+    list: &[u8],
+    answer: u64,
+    is_of_kind: fn(u8) -> bool,
+) -> impl Iterator<Item = usize> + '_ {
     commands(list)
-        .map(|command| (command.place, command.number()))
-        .take_while(move |(place, _)| *place < answer as u32 as usize)
-        .filter(|(_, number)| is_draw(*number))
-        .map(|(place, _)| place)
+        .take_while(move |command| command.place < answer as u32 as usize)
+        .filter(move |command| is_of_kind(command.number()))
+        .map(|command| command.place)
 }
 
 fn ground(answer: u64) -> u64 {
@@ -118,6 +134,7 @@ impl Side for Faulty {
             (Fault::PlaceAtGround9, 9) => return answer + 1,
             (Fault::FirstDraw, 9) => draws(list, answer).next(),
             (Fault::AnyDraw, 8) => draws(list, answer).last(),
+            (Fault::LoadNoCause, 8) => textured_draws(list, answer).last(),
             (Fault::WordsOverLimit, 1) => Some(4_096),
             _ => None,
         };
@@ -191,6 +208,9 @@ impl Side for Faulty {
         match self.0 {
             Fault::LoadForgotten if matches!(number % 64, 0x30 | 0x33 | 0x34) => {
                 answer & !8 | u64::from(hazards) & 8
+            }
+            Fault::LoadReadsNoTile if matches!(number % 64, 0x30 | 0x33 | 0x34) => {
+                answer & !2 | u64::from(hazards) & 2
             }
             Fault::NotMissing => answer & !(4 << 32),
             Fault::StepStops if missing => answer & 7 << 32 | u64::from(hazards % 16),
@@ -275,6 +295,7 @@ fn every_fault_is_found_in_its_function() {
         (Fault::PlaceAtGround9, Function::Check),
         (Fault::FirstDraw, Function::Check),
         (Fault::AnyDraw, Function::Check),
+        (Fault::LoadNoCause, Function::Check),
         (Fault::WordsOverLimit, Function::Check),
         (Fault::MemoryByte, Function::Draw),
         (Fault::MemoryAtRefusal, Function::Draw),
@@ -290,6 +311,7 @@ fn every_fault_is_found_in_its_function() {
         (Fault::IgnoredBits, Function::Words),
         (Fault::FlippedWord, Function::Words),
         (Fault::LoadForgotten, Function::Step),
+        (Fault::LoadReadsNoTile, Function::Check),
         (Fault::NotMissing, Function::Step),
         (Fault::StepStops, Function::Step),
         (Fault::BitsAbove, Function::Step),

@@ -77,6 +77,27 @@ fn load_goes_before_pipe() {
 
 #[test]
 fn load_goes_before_tile() {
+    let list = after_setup(&[L, R, SET_TILE, L]);
+    let expected = after_setup(&[L, SYNC_LOAD, R, SYNC_TILE, SET_TILE, L]);
+    assert_eq!(repaired(&list), (bytes_of(&expected), 58));
+}
+
+/// Request #104: a Set Tile waits for a load, and one Tile serves it.
+#[test]
+fn a_set_tile_after_a_load() {
+    for number in [0x30, 0x33, 0x34] {
+        let load = command(number);
+        let expected = bytes_of(&[load, SYNC_TILE, SET_TILE]);
+        assert_eq!(repaired(&[load, SET_TILE]), (expected, 33));
+        let with_load = [load, SYNC_LOAD, SYNC_TILE, SET_TILE];
+        let list = [load, SYNC_LOAD, SET_TILE];
+        assert_eq!(repaired(&list), (bytes_of(&with_load), 33));
+    }
+}
+
+/// A Tile before the load comes too early for the Set Tile after it.
+#[test]
+fn a_load_between_a_textured_draw_and_a_set_tile() {
     let [first, second] = TEXTURED;
     let list = after_setup(&[first, second, L, SET_TILE, R]);
     let expected = after_setup(&[first, second, SYNC_LOAD, L, SYNC_TILE, SET_TILE, R]);

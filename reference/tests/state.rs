@@ -52,11 +52,13 @@ fn each_sync_clears_the_marks_that_name_it() {
 }
 
 #[test]
-fn only_textured_draws_mark_the_tile() {
-    let textured: Vec<u8> = (0..64)
+fn only_textured_draws_and_loads_mark_the_tile() {
+    let marking: Vec<u8> = (0..64)
         .filter(|number| Marks::default().after(*number).tile)
         .collect();
-    assert_eq!(textured, [0x0A, 0x0B, 0x0E, 0x0F, 0x24, 0x25]);
+    let textured_draws = [0x0A, 0x0B, 0x0E, 0x0F, 0x24, 0x25];
+    let loads = [0x30, 0x33, 0x34];
+    assert_eq!(marking, [&textured_draws[..], &loads].concat());
 }
 
 #[test]
@@ -66,7 +68,7 @@ fn sync_grounds() {
     let [first, second] = TEXTURED;
     assert_eq!(checked(&after_setup(&[first, second, SET_TILE])), (8, 5));
     assert_eq!(checked(&after_setup(&[R, SET_TILE])), (0, 5));
-    assert_eq!(checked(&after_setup(&[L, SET_TILE, R])), (7, 5));
+    assert_eq!(checked(&after_setup(&[L, SET_TILE, R])), (8, 4));
     for sync in [SYNC_LOAD, SYNC_TILE, SYNC_PIPE] {
         assert_eq!(checked(&after_setup(&[L, sync, R])), (0, 6));
         assert_eq!(checked(&after_setup(&[R, sync, L])), (0, 6));

@@ -4,6 +4,8 @@ use crate::comparison::builder::Builder;
 use crate::comparison::rng::Rng;
 use crate::comparison::scenes::{scene_list, Scene, CYCLE_TYPE};
 
+const SET_TILE: u8 = 0x35;
+
 /// The size's place among the fields of Set Color Image.
 const IMAGE_SIZE: usize = 1;
 
@@ -22,7 +24,8 @@ pub fn list(rng: &mut Rng, case: u64) -> Vec<u8> {
         340..=389 => mixed_list(rng, 16),
         390..=419 => damaged(rng, |rng| mixed_list(rng, 8)),
         420..=459 => short_list(rng, 3),
-        _ => short_list(rng, 6),
+        460..=484 => short_list(rng, 6),
+        _ => command_after_marks(rng, SET_TILE),
     }
 }
 
