@@ -20,7 +20,6 @@ use Rattle.rdp_check.specs.Check.{State, start, afterCommand, Refusals, ownRefu
 use Rattle.rdp_state.specs.RegisterWords.{tileIn, slotOf, registersIn}
 use Rattle.rdp_state.specs.Resume.{waitedAfter}
 use Rattle.rdp_state.specs.Replay.{upTo, storing, applying, adding, wordsUpTo, registersUpTo, waitedUpTo, endOf}
-use Rattle.rdp_state.specs.declared.Replay.{Replay}
 use Rattle.rdp_check.specs.declared.Registers.{Registers}
 use Rattle.rdp_words.proofs.PlaceLaws.{number-small, some-words}
 use Rattle.rdp_check.proofs.ListLaws.{commands-at, command-number, command-word, commands-past}
