@@ -210,6 +210,26 @@ module _ (r : Stream) (sound : isDamaged r ≡ false) (long : length (r .held) �
   unfolding streamOf
   closed-waited = rw (answered-is r sound long (closed here)) (omega (arith, fits r sound long .bounded))
 
+-- the cycles as a call tells them: none at 28
+either-most : (b : Bool) (n : ℕ) → n ≤ 409600 → cond b 0 n ≤ 409600
+either-most true n h = lit≤ tt
+either-most false n h = h
+
+told-most :
+    (r : Stream) (f : Feeding) → (isDamaged r ≡ false → answered r f .after .waited ≤ 409600) →
+    cond (eqb (answered r f .answer .number) 28) 0 (answered r f .after .waited) ≤ 409600
+unfolding answered
+told-most r f h =
+    by-test (isDamaged r) (λ t. rw t (lit≤ tt))
+    (λ e. either-most (eqb (answered r f .answer .number) 28) (answered r f .after .waited) (h e))
+
+module _ (r : Stream) (long : length (r .held) ≡ 176) (near : r .place < 2 ^ 32) where
+  pub fed-told : (bs : List ℕ) → cond (eqb (fedOf r bs .answer .number) 28) 0 (fedOf r bs .after .waited) ≤ 409600
+  fed-told bs = told-most r (fedBytes (feedingOf r) bs) (λ e. fed-waited r e long near bs)
+
+  pub closed-told : cond (eqb (closedOf r .answer .number) 28) 0 (closedOf r .after .waited) ≤ 409600
+  closed-told = told-most r (closed (feedingOf r)) (λ e. closed-waited r e long near)
+
 -- ---- a whole list
 
 -- from a fresh record every cutting of a list of whole words and at most 32,768 bytes ends in the one-call check's number, place, state and marks
