@@ -2,7 +2,7 @@
 use Prim.Native.Nat.{ℕ, _%_, _^_, _<_, _≤_}
 use mathlib.Core.Bool.{Bool, true, false, cond, not}
 use mathlib.Core.List.{List}
-use mathlib.Core.Path.{_≡_, refl}
+use mathlib.Core.Path.{_≡_, refl, _∙_, ap}
 use native.Mathlib.Nat.{mod-lt}
 use native.Mathlib.Omega.{arith}
 use lib.Dec.{eqb, lit<}
@@ -22,8 +22,10 @@ use Rattle.rdp_check.specs.declared.Repaired.{Repaired}
 use Rattle.rdp_draw.specs.Draw.{drawAnswer}
 use Rattle.rdp_check.proofs.BoundLaws.{checkNumbers, repairNumbers, check-numbers, among-below, place-most, Bounds, repair-bounds}
 use Rattle.rdp_draw.proofs.BoundLaws.{drawNumbers, draw-numbers, draw-place}
-use Rattle.rdp_stream.proofs.StreamLaws.{Near, fed-near, closed-near}
-use Rattle.lanyardrove.specs.Replies.{Reply, packed, unpacked, plain, stepReply, checkReply, repairReply, drawReply, decodedReply, decodeReply, madeReply, encodeReply, Occurs, ofStep, ofCheck, ofRepair, ofDraw, ofDecode, ofEncode, ofFeed, ofClose}
+use Rattle.rdp_stream.proofs.StreamLaws.{Near, fed-near, closed-near, fed-told, closed-told}
+use Rattle.rdp_stream.specs.declared.Fed.{Fed}
+use Rattle.rdp_stream.specs.Records.{fedOf, closedOf}
+use Rattle.lanyardrove.specs.Replies.{Reply, reply, packed, unpacked, plain, stepReply, checkReply, repairReply, drawReply, decodedReply, decodeReply, madeReply, encodeReply, toldReply, Occurs, ofStep, ofCheck, ofRepair, ofDraw, ofDecode, ofEncode, ofFeed, ofClose}
 use Rattle.lanyardrove.proofs.PackLaws.{Small, unpacked-packed, packed-fits}
 
 step-small : (hazards number : ℕ) → Small (stepReply hazards number)
@@ -80,8 +82,8 @@ made-small number fields suffix out (Refused a) e = plain-small a 15 (omega arit
 encode-small : (number : ℕ) (fields suffix out : List ℕ) → Small (encodeReply number fields suffix out)
 encode-small number fields suffix out = made-small number fields suffix out (fromNumbers number fields) refl
 
-near-small : (a : Answer) → Near a → Small (plain a)
-near-small a k = record { number = omega (arith, k .number); third = omega arith; place = k .place }
+told-small : (x : Fed) → Near (x .answer) → toldReply x .third ≤ 409600 → Small (toldReply x)
+told-small x k most = record { number = omega (arith, k .number); third = omega (arith, most); place = k .place }
 
 -- every answer that occurs fits its bits
 pub small : {r : Reply} → Occurs r → Small r
@@ -91,12 +93,18 @@ small (ofRepair is) = repair-small _ (repair-bounds is)
 small (ofDraw list start len) = draw-small list start len
 small (ofDecode list fields) = decode-small list fields
 small (ofEncode number fields suffix out) = encode-small number fields suffix out
-small (ofFeed r long near portion) = near-small _ (fed-near r long near portion)
-small (ofClose r long near) = near-small _ (closed-near r long near)
+small (ofFeed r long near portion) = told-small (fedOf r portion) (fed-near r long near portion) (fed-told r long near portion)
+small (ofClose r long near) = told-small (closedOf r) (closed-near r long near) (closed-told r long near)
 
 -- and so the parts that are read back are the answer's, and the packed number is one of 64 bits
 pub replies-kept : {r : Reply} → Occurs r → (unpacked (packed r) ≡ r) × (packed r < 2 ^ 64)
 replies-kept {r} o = (unpacked-packed r (small o), packed-fits r (small o))
+
+-- what is told of a call, by its number, its cycles and its place
+pub told :
+    (x y : Fed) (third : ℕ) → third ≡ cond (eqb (x .answer .number) 28) 0 (x .after .waited) → x ≡ y →
+    reply (x .answer .number) third (x .answer .place) ≡ toldReply y
+told x y third is e = ap (λ (t : ℕ). reply (x .answer .number) t (x .answer .place)) is ∙ ap toldReply e
 
 -- what `pack` requires
 pub packs : (r : Reply) {s : Reply} → r ≡ s → Occurs s → (r .number < 2 ^ 8) × (r .third < 2 ^ 24)

@@ -19,6 +19,7 @@ use Rattle.rdp_check.specs.declared.Repaired.{Repaired}
 use Rattle.rdp_draw.specs.Draw.{drawAnswer}
 use Rattle.rdp_stream.specs.Records.{fedOf, closedOf}
 use Rattle.rdp_stream.specs.declared.Stream.{Stream}
+use Rattle.rdp_stream.specs.declared.Fed.{Fed}
 use Rattle.lanyardrove.specs.declared.Packed.{Packed}
 
 -- the number of the refusal, 0 for acceptance; a third number; and the place
@@ -101,12 +102,16 @@ madeBytes suffix out (Refused a) = out
 abbrev pub encodeBytes : ℕ → List ℕ → List ℕ → List ℕ → List ℕ
 encodeBytes number fields suffix out = madeBytes suffix out (fromNumbers number fields)
 
+-- a call on a record: the third number is the cycles that the record has waited after it, 0 at 28 (#105)
+abbrev pub toldReply : Fed → Reply
+toldReply x = reply (x .answer .number) (cond (eqb (x .answer .number) 28) 0 (x .after .waited)) (x .answer .place)
+
 -- a portion that a record takes, and the closing of its list
 abbrev pub feedReply : Stream → List ℕ → Reply
-feedReply r portion = plain (fedOf r portion .answer)
+feedReply r portion = toldReply (fedOf r portion)
 
 abbrev pub closeReply : Stream → Reply
-closeReply r = plain (closedOf r .answer)
+closeReply r = toldReply (closedOf r)
 
 -- with the record after it
 abbrev pub fedPacked : Stream → List ℕ → Packed

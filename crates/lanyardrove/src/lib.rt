@@ -2,6 +2,7 @@
 ghost use mathlib.Core.Bool.{cond};
 ghost use mathlib.Core.Path.{_≡_};
 ghost use Prim.Native.Nat.{_+_, _<_, _^_, min};
+ghost use lib.Dec.{eqb};
 ghost use lib.ListN.{length};
 ghost use Rattle.rdp_words.specs.Lengths.{commandWords};
 ghost use Rattle.rdp_draw.specs.Draw.{drawMemory};
@@ -37,12 +38,22 @@ fn third_of_sync(required: u8, missing: bool) -> u32
     required as u32
 }
 
+// The cycles that a record has waited as a third number: none where 28 refuses the record.
+fn third_of_record(number: u32, waited: u32) -> u32
+    ensures { λ r. ⌜ r ≡ cond (eqb number 28) 0 waited ⌝ }
+{
+    if number == 28 {
+        return 0;
+    }
+    waited
+}
+
 // The version of this library: major, minor and patch number, eight bits each. The header has the same number.
 #[no_mangle]
 pub extern "C" fn lanyardrove_version() -> u32
-    ensures { λ r. ⌜ r ≡ 0x030000 ⌝ }
+    ensures { λ r. ⌜ r ≡ 0x040000 ⌝ }
 {
-    0x030000
+    0x040000
 }
 
 // The words of the command that begins with a word: a plain count.
@@ -148,7 +159,8 @@ fn feed_packed(before: Stream, portion: &[u8]) -> Packed
     let fed = rdp_stream::feed_value(before, portion);
     let after = fed.after;
     let told = fed.answer;
-    let answer = pack(told.number, 0, told.place);
+    let third = third_of_record(told.number, after.waited);
+    let answer = pack(told.number, third, told.place);
     Packed { after, answer }
 }
 
@@ -159,7 +171,8 @@ fn close_packed(before: Stream) -> Packed
     let closed = rdp_stream::close_value(before);
     let left = closed.after;
     let last = closed.answer;
-    let answer = pack(last.number, 0, last.place);
+    let cycles = third_of_record(last.number, left.waited);
+    let answer = pack(last.number, cycles, last.place);
     Packed {
         after: left,
         answer,
@@ -167,7 +180,8 @@ fn close_packed(before: Stream) -> Packed
 }
 
 // Takes a portion of a list into the caller's record, where it stands: 0 and the words of the commands accepted so far, or the refusal that the record
-// remembers from then on, 1, or 4 to 9 at a command; 28 at 0 where these calls cannot have left the record.
+// remembers from then on, 1, or 4 to 9 at a command; 28 at 0 where these calls cannot have left the record. The third number is the cycles that the
+// commands accepted have waited.
 #[no_mangle]
 pub extern "C" fn lanyardrove_stream_feed(lent: &mut Stream, portion: &[u8]) -> u64
     ensures { λ r. ⌜ (r ≡ fedPacked (now (lent .entry)) (now (portion .entry)) .answer) × (now (lent .exit) ≡ fedPacked (now (lent .entry)) (now (portion .entry)) .after) ⌝ }
@@ -179,7 +193,7 @@ pub extern "C" fn lanyardrove_stream_feed(lent: &mut Stream, portion: &[u8]) -> 
 }
 
 // Closes the list of the caller's record: 0 and its words, or the refusal that the record remembers, 2, 3 or an earlier one; 28 at 0 where these calls
-// cannot have left the record.
+// cannot have left the record. The third number is the cycles that the commands accepted have waited.
 #[no_mangle]
 pub extern "C" fn lanyardrove_stream_close(lent: &mut Stream) -> u64
     ensures { λ r. ⌜ (r ≡ closedPacked (now (lent .entry)) .answer) × (now (lent .exit) ≡ closedPacked (now (lent .entry)) .after) ⌝ }

@@ -26,7 +26,7 @@ use Rattle.rdp_check.specs.Refusals.{stateAfter, CommandHolds, pastEnd, 
 use Rattle.rdp_check.specs.View.{refusalsBy, Numbers, IsJudged}
 use Rattle.rdp_check.proofs.HazardLaws.{at-state}
 use Rattle.rdp_check.proofs.MarkLaws.{IsMark, is-P, is-T, is-D, is-G, exactly, state-low}
-use Rattle.rdp_check.proofs.JoinLaws.{Alone, AllAlone, command-some, commands-joined, rest-joined, length-joined, parsed, joined-whole}
+use Rattle.rdp_check.proofs.JoinLaws.{Alone, AllAlone, command-some, commands-joined, rest-joined, length-joined, words-append, joined-append, parsed, joined-whole}
 use Rattle.rdp_check.proofs.OrderLaws.{among-parts}
 use Rattle.rdp_check.proofs.FirstLaws.{Numbered, own-numbered, check-numbered, commands-first, check-first}
 use Rattle.rdp_check.proofs.LeftLaws.{Left, none-left, fits, commands-next, left-next}
@@ -91,10 +91,6 @@ module _ (n : ℕ) (small : n < 64) (b : Bool) (is : b ≡ isAmong 0x0040_0030_0
         either false k = refl
 
 -- ---- the latest
-
-words-append : (bs cs : List (List ℕ)) → wordsIn (bs ++ cs) ≡ wordsIn bs + wordsIn cs
-words-append [] cs = omega arith
-words-append (b ∷ bs) cs = omega (arith, words-append bs cs)
 
 latest-append :
     (these : ℕ → Bool) (other at : ℕ) (bs cs : List (List ℕ)) →
@@ -283,10 +279,6 @@ missing-judged :
 missing-judged strict list t =
     from-command strict list _ _ t
     (commands-first (refusalsBy strict) list (numbered-by strict) .refused (λ z. subst (λ (k : ℕ). T (between 7 9 k)) z t))
-
-joined-append : (bs cs : List (List ℕ)) → joined (bs ++ cs) ≡ joined bs ++ joined cs
-joined-append [] cs = refl
-joined-append (b ∷ bs) cs = ap (λ (x : List ℕ). b ++ x) (joined-append bs cs) ∙ sym (append-assoc b (joined bs) (joined cs))
 
 alone-parts : (bs : List (List ℕ)) (c : List ℕ) (cs : List (List ℕ)) → AllAlone (bs ++ c ∷ cs) → AllAlone bs × Alone c
 alone-parts [] c cs h = (tt, h .0)

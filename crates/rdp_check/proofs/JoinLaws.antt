@@ -69,6 +69,18 @@ pub length-joined : (cs : List (List ℕ)) → AllAlone cs → length (joined cs
 length-joined [] h = refl
 length-joined (c ∷ cs) h = omega (arith, length-append c (joined cs), h .0, length-joined cs (h .1))
 
+pub words-append : (bs cs : List (List ℕ)) → wordsIn (bs ++ cs) ≡ wordsIn bs + wordsIn cs
+words-append [] cs = omega arith
+words-append (b ∷ bs) cs = omega (arith, words-append bs cs)
+
+pub joined-append : (bs cs : List (List ℕ)) → joined (bs ++ cs) ≡ joined bs ++ joined cs
+joined-append [] cs = refl
+joined-append (b ∷ bs) cs = ap (λ (x : List ℕ). b ++ x) (joined-append bs cs) ∙ sym (append-assoc b (joined bs) (joined cs))
+
+pub alone-append : (bs cs : List (List ℕ)) → AllAlone bs → AllAlone cs → AllAlone (bs ++ cs)
+alone-append [] cs h k = k
+alone-append (b ∷ bs) cs h k = (h .0, alone-append bs cs (h .1) k)
+
 pub count-joined : (cs : List (List ℕ)) → AllAlone cs → length cs ≤ wordsIn cs
 count-joined [] h = omega arith
 count-joined (c ∷ cs) h = omega (arith, command-some c, count-joined cs (h .1))

@@ -1,23 +1,26 @@
 -- What the repair uses of the synchronisation rule: with no hazard nothing is required, a sync requires nothing and clears its hazards, and two syncs
 -- clear what the longer clears. Assumes nothing.
 use mathlib.Core.Bool.{false}
+use mathlib.Core.List.{List, [], _∷_, _++_}
 use mathlib.Core.Path.{_≡_, refl, sym, ap, _∙_}
-use Prim.Native.Nat.{ℕ, zero, suc, max, _%_, _≤_}
+use Prim.Native.Nat.{ℕ, zero, suc, max, _+_, _*_, _%_, _≤_}
 use native.Mathlib.Nat.{mod-lt}
 use native.Mathlib.Omega.{arith}
-use lib.Dec.{eqb, eqb→eq, lit<}
+use lib.Dec.{eqb, eqb→eq, lit<, lit≤}
 use Rattle.rdp_words.specs.Kinds.{Kind, isDraw, noOperation, triangle, textureRectangle, fillRectangle, syncLoad, syncTile, syncPipe, syncFull, load, setTile, attribute, free, kindOf}
 use Rattle.rdp_words.specs.Lengths.{firstNumber}
 use Rattle.rdp_command.specs.declared.Command.{Command}
 use Rattle.rdp_command.specs.declared.Command.the-variants.{SyncLoad, SyncTile, SyncPipe}
-use Rattle.rdp_words.proofs.Tests.{below}
+use Rattle.rdp_words.proofs.Tests.{below, by-test}
 use Rattle.rdp_command.proofs.SyncWordLaws.{SyncWord, sync-words}
 use Rattle.rdp_check.specs.Marks.{draws}
 use Rattle.rdp_check.specs.Hazards.{Hazards, hazardsOf, codeOf, hazardsAfter, requiredBy, nextOf, requiredOf}
-use Rattle.rdp_check.specs.Syncs.{Sync, loadSync, tileSync, pipeSync, syncNumber, syncWait, syncWord}
+use Rattle.rdp_check.specs.Syncs.{Sync, loadSync, tileSync, pipeSync, syncNumber, syncWait, syncWord, commandWait, waiting}
+use Rattle.rdp_check.specs.Commands.{wordsIn}
 use Rattle.rdp_check.specs.Plan.{waitOf, syncAt}
 use Rattle.rdp_check.specs.Best.{clearedBy}
 use Rattle.rdp_check.proofs.HazardLaws.{next-low}
+use Rattle.rdp_check.proofs.JoinLaws.{command-some}
 
 idle-requires-none : (k : Kind) → requiredBy k (hazardsOf 0) ≡ 0
 idle-requires-none noOperation = refl
@@ -155,3 +158,22 @@ wait-most zero = omega arith
 wait-most (suc zero) = omega arith
 wait-most (suc (suc zero)) = omega arith
 wait-most (suc (suc (suc a))) = omega arith
+
+-- ---- the cycles that commands wait
+
+pub command-wait-most : (n : ℕ) → commandWait n ≤ 50
+unfolding commandWait
+command-wait-most n =
+    by-test (eqb n 0x26) (λ a. rw a (lit≤ tt))
+    (λ a. by-test (eqb n 0x28) (λ b. rw (a, b) (lit≤ tt)) (λ b. by-test (eqb n 0x27) (λ d. rw (a, b, d) (lit≤ tt)) (λ d. rw (a, b, d) (lit≤ tt))))
+
+pub waiting-append : (bs cs : List (List ℕ)) → waiting (bs ++ cs) ≡ waiting bs + waiting cs
+unfolding waiting
+waiting-append [] cs = omega arith
+waiting-append (b ∷ bs) cs = omega (arith, waiting-append bs cs)
+
+-- each has a word at least
+pub waiting-most : (cs : List (List ℕ)) → waiting cs ≤ 50 * wordsIn cs
+unfolding waiting
+waiting-most [] = lit≤ tt
+waiting-most (c ∷ cs) = omega (arith, command-wait-most (firstNumber c), waiting-most cs, command-some c)

@@ -1,7 +1,10 @@
 -- Document 01, "Four marks" and "Repair": the syncs that a repair inserts. Their command numbers and their waits stand here alone.
-use Prim.Native.Nat.{ℕ}
-use mathlib.Core.List.{List}
+use Prim.Native.Nat.{ℕ, _+_}
+use mathlib.Core.Bool.{cond}
+use mathlib.Core.List.{List, [], _∷_}
+use lib.Dec.{eqb}
 use Rattle.rdp_words.specs.Words.{bareWord}
+use Rattle.rdp_words.specs.Lengths.{firstNumber}
 
 pub data Sync : Type 0 where
   loadSync : Sync
@@ -22,3 +25,14 @@ syncWait pipeSync = 50
 -- the bytes of its word: its number in bits 61:56, all other bits 0
 abbrev pub syncWord : Sync → List ℕ
 syncWord s = bareWord (syncNumber s)
+
+-- #105, "sync waits (25, 33, 50; Sync Full nothing)": the cycles that a command waits, by its number, and those that commands wait
+unfoldable pub commandWait : ℕ → ℕ
+commandWait n =
+    cond (eqb n (syncNumber loadSync)) (syncWait loadSync)
+    (cond (eqb n (syncNumber tileSync)) (syncWait tileSync)
+    (cond (eqb n (syncNumber pipeSync)) (syncWait pipeSync) 0))
+
+unfoldable pub waiting : List (List ℕ) → ℕ
+waiting [] = 0
+waiting (c ∷ cs) = commandWait (firstNumber c) + waiting cs

@@ -28,7 +28,7 @@ use Rattle.rdp_command.proofs.ReadLaws.{decodes, decoded-number}
 use Rattle.rdp_check.specs.Commands.{commandsFrom}
 use Rattle.rdp_check.specs.Registers.{noTile, noRegisters, withTiles, registersAfter, afterDecoded, describedTiles, sizedTiles}
 use Rattle.rdp_state.specs.RegisterWords.{tileIn, slotOf, setters, storedAt, wordsAfter, tilesBy, registersBy, isSet, word, registersIn}
-use Rattle.rdp_state.specs.Replay.{slotRow, slotEntry, slotIn, wordsUpTo, registersUpTo}
+use Rattle.rdp_state.specs.Replay.{slotRow, slotEntry, slotIn, upTo, wordsUpTo, registersUpTo}
 use Rattle.rdp_check.specs.declared.Tile.{Tile}
 use Rattle.rdp_check.specs.declared.Registers.{Registers}
 use Rattle.rdp_check.proofs.ListLaws.{command-there}
@@ -330,7 +330,7 @@ head-there bs there =
 pub registers-up-to :
     (end k : ℕ) (bs : List ℕ) (at : ℕ) (ws : List ℕ) → length ws ≡ 32 →
     registersIn (wordsUpTo end at ws (commandsFrom k bs)) ≡ registersUpTo end at (registersIn ws) (commandsFrom k bs)
-unfolding commandsFrom wordsUpTo registersUpTo
+unfolding commandsFrom upTo
 registers-up-to end zero [] at ws long = refl
 registers-up-to end (suc k) [] at ws long = refl
 registers-up-to end (suc k) (b ∷ bs) at ws long = registers-up-to end k bs at ws long

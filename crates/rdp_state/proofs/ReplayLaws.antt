@@ -18,7 +18,8 @@ use Rattle.rdp_check.specs.Commands.{commandsOf, restOf}
 use Rattle.rdp_check.specs.Registers.{noRegisters}
 use Rattle.rdp_check.specs.Check.{State, start, afterCommand, Refusals, ownRefusals, syncRefusals, checkRefusals, refusalAt, Outcome, settle, judge, judgeList, outcomeWithin}
 use Rattle.rdp_state.specs.RegisterWords.{tileIn, slotOf, registersIn}
-use Rattle.rdp_state.specs.Replay.{wordsUpTo, registersUpTo, endOf}
+use Rattle.rdp_state.specs.Resume.{waitedAfter}
+use Rattle.rdp_state.specs.Replay.{upTo, storing, applying, adding, wordsUpTo, registersUpTo, waitedUpTo, endOf}
 use Rattle.rdp_check.specs.declared.Registers.{Registers}
 use Rattle.rdp_words.proofs.PlaceLaws.{number-small, some-words}
 use Rattle.rdp_check.proofs.ListLaws.{commands-at, command-number, command-word, commands-past}
@@ -30,52 +31,62 @@ use Rattle.rdp_state.proofs.RegisterLaws.{stored-back, none-set, regist
 
 -- ---- the loop
 
--- what holds at the head of the loop: the words after what is left, with slot 31 put back, are those after the list
-pub record Replayed (list : List ℕ) (end words unread : ℕ) (before file : List ℕ) (at : ℕ) : Type 0 where
+-- what holds at the head of the loop: the words after what is left, with slot 31 put back, are those after the list, and so are the cycles waited
+pub record Replayed (list : List ℕ) (end words unread : ℕ) (before : List ℕ) (waits : ℕ) (file : List ℕ) (waited at : ℕ) : Type 0 where
   pub count : words ≡ length list / 8
   pub within : at ≤ words
   pub long : length file ≡ 32
   pub same : wordsUpTo end at (set file 31 unread) (commandsOf (drop (8 * at) list)) ≡ wordsUpTo end 0 before (commandsOf list)
+  pub sums : waitedUpTo end at waited (commandsOf (drop (8 * at) list)) ≡ waitedUpTo end 0 waits (commandsOf list)
+
+-- what the loop leaves
+abbrev Leaves : List ℕ → ℕ → List ℕ → ℕ → List ℕ → ℕ → Type 0
+Leaves list end before waits file waited =
+    (file ≡ wordsUpTo end 0 before (commandsOf list)) × (waited ≡ waitedUpTo end 0 waits (commandsOf list))
 
 pub first :
-    (list : List ℕ) (end words unread : ℕ) (file : List ℕ) → length file ≡ 32 → words ≡ length list / 8 → unread ≡ getD file 31 0 →
-    Replayed list end words unread file file 0
-first list end words unread file l e u =
+    (list : List ℕ) (end words unread : ℕ) (file : List ℕ) (waits : ℕ) → length file ≡ 32 → words ≡ length list / 8 → unread ≡ getD file 31 0 →
+    Replayed list end words unread file waits file waits 0
+first list end words unread file waits l e u =
     record {
       count = e;
       within = omega arith;
       long = l;
       same = ap (λ (f : List ℕ). wordsUpTo end 0 f (commandsOf list)) (ap (set file 31) u ∙ set-getD file 31 0);
+      sums = refl;
     }
 
-pub still : (end at : ℕ) (file : List ℕ) (cs : List (List ℕ)) → end ≤ at → wordsUpTo end at file cs ≡ file
-unfolding wordsUpTo
-still end at file [] h = refl
-still end at file (c ∷ cs) h = rw (le-ltb _ _ h)
+pub still : {A : Type 0} (after : A → List ℕ → A) (end at : ℕ) (a : A) (cs : List (List ℕ)) → end ≤ at → upTo after end at a cs ≡ a
+unfolding upTo
+still after end at a [] h = refl
+still after end at a (c ∷ cs) h = rw (le-ltb _ _ h)
 
-module _ {list : List ℕ} {end words unread : ℕ} {before file : List ℕ} {at : ℕ} (v : Replayed list end words unread before file at) where
-  pub ended : end ≤ at → set file 31 unread ≡ wordsUpTo end 0 before (commandsOf list)
-  ended h = sym (still end at (set file 31 unread) (commandsOf (drop (8 * at) list)) h) ∙ v .same
+module _ {list : List ℕ} {end words unread : ℕ} {before : List ℕ} {waits : ℕ} {file : List ℕ} {waited at : ℕ} (v : Replayed list end words unread before waits file waited at) where
+  pub ended : end ≤ at → Leaves list end before waits (set file 31 unread) waited
+  ended h = (
+    sym (still storing end at (set file 31 unread) (commandsOf (drop (8 * at) list)) h) ∙ v .same,
+    sym (still adding end at waited (commandsOf (drop (8 * at) list)) h) ∙ v .sums,
+  )
 
   -- a turn at a command with a number
   module _ (more : at < end) (n : ℕ) (is : n ≡ numberIn (wordAt list at)) (count : ℕ) (long : count ≡ wordsOf n) where
     pub few : count ≤ 22
     few = rw (long, is) (words-most _ (number-small (wordAt list at)))
 
-    pub past : words < at + count → set file 31 unread ≡ wordsUpTo end 0 before (commandsOf list)
-    unfolding wordsUpTo
+    pub past : words < at + count → Leaves list end before waits (set file 31 unread) waited
+    unfolding upTo
     past h =
         let short : length list / 8 < at + wordsOf n = omega (arith, v .count) in
-        rw (← v .same, commands-past list at n is short)
+        (rw (← v .same, commands-past list at n is short), rw (← v .sums, commands-past list at n is short))
 
     pub falls : at + count ≤ words → words - (at + count) < words - at
     falls h = omega (arith, some-words list at n is)
 
     pub again :
-        at + count ≤ words → (w slot : ℕ) → w ≡ wordAt list at → slot ≡ slotOf n (tileIn w) →
-        Replayed list end words unread before (set file slot w) (at + count)
-    unfolding wordsUpTo
-    again h w slot is-w is-slot =
+        at + count ≤ words → (w slot : ℕ) → w ≡ wordAt list at → slot ≡ slotOf n (tileIn w) → (waited′ : ℕ) → waited′ ≡ waitedAfter waited n →
+        Replayed list end words unread before waits (set file slot w) waited′ (at + count)
+    unfolding upTo
+    again h w slot is-w is-slot waited′ is-waited =
         let inside : at + wordsOf n ≤ length list / 8 = omega (arith, v .count) in
         record {
           count = v .count;
@@ -93,6 +104,15 @@ module _ {list : List ℕ} {end words unread : ℕ} {before file : List ℕ} {at
                 command-number list at n is inside,
                 command-word list at n is inside,
               );
+          sums =
+              rw (
+                ← v .sums,
+                is-waited,
+                long,
+                commands-at list at n is inside,
+                lt-ltb _ _ more,
+                command-number list at n is inside,
+              );
         }
 
 -- ---- the registers after the loop
@@ -105,11 +125,6 @@ pub registers-final :
 registers-final list end file e =
     ap registersIn e ∙ registers-up-to end 0 list 0 (replicate 32 0) refl ∙ ap (λ (r : Registers). registersUpTo end 0 r (commandsOf list)) none-set
 
-stopped : (end at : ℕ) (r : Registers) (cs : List (List ℕ)) → end ≤ at → registersUpTo end at r cs ≡ r
-unfolding registersUpTo
-stopped end at r [] h = refl
-stopped end at r (c ∷ cs) h = rw (le-ltb _ _ h)
-
 -- ---- the outcome
 
 -- the commands before the place of an outcome leave the registers of its state
@@ -119,12 +134,12 @@ Left s at cs o = registersUpTo (o .place) at (s .registers) cs ≡ o .state .reg
 left-next :
     (s : State) (at : ℕ) (c : List ℕ) (cs : List (List ℕ)) (g : ℕ) (o : Outcome) → at < o .place →
     Left (afterCommand s c) (at + wordsOf (firstNumber c)) cs o → Left s at (c ∷ cs) (settle g at s o)
-unfolding registersUpTo afterCommand
+unfolding upTo afterCommand
 left-next s at c cs zero o more l = rw (lt-ltb _ _ more) l
 left-next s at c cs (suc g) o more l = rw (le-ltb at at (le-refl at))
 
 left : (refusals : Refusals) (s : State) (at : ℕ) (cs : List (List ℕ)) (rest : List ℕ) → Left s at cs (judge refusals s at cs rest)
-unfolding judge registersUpTo
+unfolding judge upTo
 left refusals s at [] [] = refl
 left refusals s at [] (b ∷ rest) = refl
 left refusals s at (c ∷ cs) rest =
@@ -151,11 +166,11 @@ pub outcome-registers :
     final list (endOf (o .number) (o .place)) ≡ o .state .registers
 unfolding outcomeWithin
 outcome-registers words list =
-    by-test (ltb (8 * words) (length list)) (λ t. rw t (stopped 0 0 noRegisters (commandsOf list) (le-refl 0)))
+    by-test (ltb (8 * words) (length list)) (λ t. rw t (still applying 0 0 noRegisters (commandsOf list) (le-refl 0)))
     (λ f.
     by-test (eqb (length list % 8) 0)
     (λ t.
     let o = judgeList checkRefusals list in
     rw (f, t, end-at (o .number) (o .place) (judge-gives apart checkRefusals check-apart tt tt start 0 (commandsOf list) (restOf list)))
     (left checkRefusals start 0 (commandsOf list) (restOf list)))
-    (λ g. rw (f, g) (stopped 0 0 noRegisters (commandsOf list) (le-refl 0))))
+    (λ g. rw (f, g) (still applying 0 0 noRegisters (commandsOf list) (le-refl 0))))

@@ -16,7 +16,8 @@ use Rattle.rdp_check.proofs.JoinLaws.{parsed}
 use Rattle.rdp_check.proofs.FirstLaws.{judge-gives}
 use Rattle.rdp_check.proofs.OnwardLaws.{from-over, from-state}
 use Rattle.rdp_state.specs.RegisterWords.{registersBy, word}
-use Rattle.rdp_state.specs.Replay.{wordsUpTo, endOf}
+use Rattle.rdp_state.specs.Replay.{storing, adding, wordsUpTo, waitedUpTo, endOf}
+use Rattle.rdp_state.specs.declared.Replay.{Replay}
 use Rattle.rdp_state.specs.Resume.{stateIn, resumedAt, judgeIn, resumedOf}
 use Rattle.rdp_state.specs.declared.Standing.{Standing}
 use Rattle.rdp_state.specs.declared.Resumed.{Resumed}
@@ -44,12 +45,20 @@ stands : (b : Standing) → StandsAt (checkpointOf b) (stateIn b)
 unfolding registersBy
 stands b = record { hazards = refl; ended = refl; modes = refl; scissor = refl; image = refl }
 
-abbrev put : Judged → List ℕ → Resumed
-put j file = record { standing = record { words = file; hazards = j .hazards; ended = j .ended }; number = j .number; place = j .place }
+abbrev put : Judged → Replay → Resumed
+put j left =
+    record {
+      standing = record { words = left .words; hazards = j .hazards; ended = j .ended; waited = left .waited };
+      number = j .number;
+      place = j .place;
+    }
 
--- the commands up to the place of an answer
-abbrev replayed : Standing → List ℕ → Judged → List ℕ
-replayed b bs j = wordsUpTo (endOf (j .number) (j .place)) 0 (b .words) (commandsOf bs)
+-- what the commands leave that begin before a place, and those up to the place of an answer
+abbrev leftAt : Standing → List ℕ → ℕ → Replay
+leftAt b bs end = record { words = wordsUpTo end 0 (b .words) (commandsOf bs); waited = waitedUpTo end 0 (b .waited) (commandsOf bs) }
+
+abbrev replayed : Standing → List ℕ → Judged → Replay
+replayed b bs j = leftAt b bs (endOf (j .number) (j .place))
 
 module _ (b : Standing) (long : length (b .words) ≡ 32) (bs : List ℕ) where
   abbrev cs : List (List ℕ)
@@ -64,29 +73,37 @@ module _ (b : Standing) (long : length (b .words) ≡ 32) (bs : List ℕ) where
   same : o ≡ outcomeIn q
   same = sym (judged-state b long 0 cs (parsed bs .alone))
 
-  words-left : replayed b bs (judgedOf o) ≡ q .standing .words
-  words-left =
-      ap (λ (end : ℕ). wordsUpTo end 0 (b .words) cs)
+  left : replayed b bs (judgedOf o) ≡ record { words = q .standing .words; waited = q .standing .waited }
+  left =
+      let l = left-in b 0 cs in
+      ap (leftAt b bs)
       (end-at (o .number) (o .place) (judge-gives apart checkRefusals check-apart tt tt (stateIn b) 0 cs []) ∙ ap (λ (x : Outcome). x .place) same) ∙
-      left-in b 0 cs .words
+      (λ i. record { words = l .words i; waited = l .waited i })
 
   within : length bs ≤ 32768 → put (checkFrom (checkpointOf b) bs) (replayed b bs (checkFrom (checkpointOf b) bs)) ≡ resumedOf b bs
   within few =
       ap (λ (j : Judged). put j (replayed b bs j)) (from-state (stands b) bs few) ∙
-      ap (put (judgedOf o)) words-left ∙
-      ap (λ (x : Outcome). put (judgedOf x) (q .standing .words)) same ∙
+      ap (put (judgedOf o)) left ∙
+      ap (λ (x : Outcome). put (judgedOf x) (record { words = q .standing .words; waited = q .standing .waited })) same ∙
       resumed-within b bs few
 
   over : 32768 < length bs → put (checkFrom (checkpointOf b) bs) (replayed b bs (checkFrom (checkpointOf b) bs)) ≡ resumedOf b bs
   over h =
       ap (λ (j : Judged). put j (replayed b bs j)) (sym (from-over (checkpointOf b) bs h)) ∙
-      ap (λ (file : List ℕ). resumedAt 1 4096 (record { words = file; hazards = b .hazards; ended = b .ended })) (still 0 0 (b .words) cs (le-refl 0)) ∙
+      (λ i.
+      resumedAt 1 4096
+      (record {
+        words = still storing 0 0 (b .words) cs (le-refl 0) i;
+        hazards = b .hazards;
+        ended = b .ended;
+        waited = still adding 0 0 (b .waited) cs (le-refl 0) i;
+      })) ∙
       resumed-over b bs h
 
   pub resumed-is :
-      (j : Judged) → j ≡ checkFrom (checkpointOf b) bs → (end : ℕ) → end ≡ endOf (j .number) (j .place) → (file : List ℕ) →
-      file ≡ wordsUpTo end 0 (b .words) cs → put j file ≡ resumedOf b bs
-  resumed-is j is-j end is-end file is-file =
-      ap (put j) (is-file ∙ ap (λ (k : ℕ). wordsUpTo k 0 (b .words) cs) is-end) ∙
+      (j : Judged) → j ≡ checkFrom (checkpointOf b) bs → (end : ℕ) → end ≡ endOf (j .number) (j .place) → (r : Replay) →
+      (r .words ≡ wordsUpTo end 0 (b .words) cs) × (r .waited ≡ waitedUpTo end 0 (b .waited) cs) → put j r ≡ resumedOf b bs
+  resumed-is j is-j end is-end r is-r =
+      ap (put j) ((λ i. record { words = is-r .0 i; waited = is-r .1 i }) ∙ ap (leftAt b bs) is-end) ∙
       ap (λ (x : Judged). put x (replayed b bs x)) is-j ∙
       by-test (ltb 32768 (length bs)) (λ t. over (ltb-true _ _ t)) (λ f. within (ltb-false _ _ f))

@@ -18,7 +18,7 @@ use Rattle.rdp_check.specs.declared.Registers.{Registers}
 use Rattle.rdp_check.proofs.JoinLaws.{Alone, AllAlone, command-some}
 use Rattle.rdp_check.proofs.StopLaws.{alone-there}
 use Rattle.rdp_state.specs.RegisterWords.{tileIn, slotOf}
-use Rattle.rdp_state.specs.Replay.{wordsUpTo}
+use Rattle.rdp_state.specs.Replay.{upTo, wordsUpTo, waitedUpTo}
 use Rattle.rdp_state.specs.Resume.{stateIn, idle, standingAfter, resumedAt, settleIn, judgeIn}
 use Rattle.rdp_state.specs.declared.Standing.{Standing}
 use Rattle.rdp_state.specs.declared.Resumed.{Resumed}
@@ -59,25 +59,27 @@ judged-state b long at (c ∷ cs) h =
     (judged-state (standingAfter b c) (after-long b c ∙ long) (at + w) cs (h .1) ∙
     ap (λ (s : State). judge checkRefusals s (at + w) cs []) (after-state b long c (h .0)))
 
--- ---- the words
+-- ---- the words and the cycles waited
 
--- the commands before the place of a judgement leave its words
+-- the commands before the place of a judgement leave its words and its cycles
 pub record LeftIn (b : Standing) (at : ℕ) (cs : List (List ℕ)) (q : Resumed) : Type 0 where
   pub from : at ≤ q .place
   pub words : wordsUpTo (q .place) at (b .words) cs ≡ q .standing .words
+  pub waited : waitedUpTo (q .place) at (b .waited) cs ≡ q .standing .waited
 
 left-settled :
     (b : Standing) (at : ℕ) (c : List ℕ) (cs : List (List ℕ)) (g : ℕ) (q : Resumed) →
     LeftIn (standingAfter b c) (at + wordsOf (firstNumber c)) cs q → LeftIn b at (c ∷ cs) (settleIn g at b q)
-unfolding wordsUpTo standingAfter
+unfolding upTo standingAfter
 left-settled b at c cs zero q l =
     let more : at < q .place = omega (arith, l .from, command-some c) in
-    record { from = omega arith; words = rw (lt-ltb _ _ more) (l .words) }
-left-settled b at c cs (suc g) q l = record { from = le-refl at; words = rw (le-ltb at at (le-refl at)) }
+    record { from = omega arith; words = rw (lt-ltb _ _ more) (l .words); waited = rw (lt-ltb _ _ more) (l .waited) }
+left-settled b at c cs (suc g) q l =
+    record { from = le-refl at; words = rw (le-ltb at at (le-refl at)); waited = rw (le-ltb at at (le-refl at)) }
 
 pub left-in : (b : Standing) (at : ℕ) (cs : List (List ℕ)) → LeftIn b at cs (judgeIn b at cs)
-unfolding judgeIn wordsUpTo
-left-in b at [] = record { from = le-refl at; words = refl }
+unfolding judgeIn upTo
+left-in b at [] = record { from = le-refl at; words = refl; waited = refl }
 left-in b at (c ∷ cs) =
     left-settled b at c cs (refusalAt checkRefusals (stateIn b) c) _ (left-in (standingAfter b c) (at + wordsOf (firstNumber c)) cs)
 

@@ -1,4 +1,4 @@
 pub mod RegisterWords
-pub mod Replay
 pub mod After
 pub mod Resume
+pub mod Replay

@@ -9,6 +9,7 @@ use Rattle.rdp_words.specs.Lengths.{firstNumber}
 use Rattle.rdp_command.specs.Decode.{decodeOf}
 use Rattle.rdp_check.specs.Registers.{afterDecoded}
 use Rattle.rdp_state.specs.RegisterWords.{wordsAfter}
+use Rattle.rdp_state.specs.Resume.{waitedAfter}
 use Rattle.rdp_check.specs.declared.Registers.{Registers}
 
 -- the slots of eight command numbers, a byte for each: the slot of tile 0, and 32 more where the tile counts
@@ -24,17 +25,29 @@ slotEntry n = slotRow (n / 8) / 2 ^ (8 * (n % 8)) % 256
 abbrev pub slotIn : ℕ → ℕ → ℕ
 slotIn entry t = entry % 32 + entry / 32 * t
 
--- the words after the commands, from a place on, that begin before a place
-unfoldable pub wordsUpTo : ℕ → ℕ → List ℕ → List (List ℕ) → List ℕ
-wordsUpTo end at words [] = words
-wordsUpTo end at words (c ∷ cs) =
-    cond (ltb at end) (wordsUpTo end (at + wordsOf (firstNumber c)) (wordsAfter words (firstNumber c) (wordAt c 0)) cs) words
+-- what the commands, from a place on, that begin before a place leave, by what each leaves
+unfoldable pub upTo : {A : Type 0} → (A → List ℕ → A) → ℕ → ℕ → A → List (List ℕ) → A
+upTo after end at a [] = a
+upTo after end at a (c ∷ cs) = cond (ltb at end) (upTo after end (at + wordsOf (firstNumber c)) (after a c) cs) a
 
--- the registers after them
-unfoldable pub registersUpTo : ℕ → ℕ → Registers → List (List ℕ) → Registers
-registersUpTo end at r [] = r
-registersUpTo end at r (c ∷ cs) =
-    cond (ltb at end) (registersUpTo end (at + wordsOf (firstNumber c)) (afterDecoded r (decodeOf c)) cs) r
+abbrev pub storing : List ℕ → List ℕ → List ℕ
+storing words c = wordsAfter words (firstNumber c) (wordAt c 0)
+
+abbrev pub applying : Registers → List ℕ → Registers
+applying r c = afterDecoded r (decodeOf c)
+
+abbrev pub adding : ℕ → List ℕ → ℕ
+adding waited c = waitedAfter waited (firstNumber c)
+
+-- the words that last set the registers, the registers, and the cycles waited
+abbrev pub wordsUpTo : ℕ → ℕ → List ℕ → List (List ℕ) → List ℕ
+wordsUpTo = upTo storing
+
+abbrev pub registersUpTo : ℕ → ℕ → Registers → List (List ℕ) → Registers
+registersUpTo = upTo applying
+
+abbrev pub waitedUpTo : ℕ → ℕ → ℕ → List (List ℕ) → ℕ
+waitedUpTo = upTo adding
 
 -- where the commands end whose registers an outcome has: at its place, but for 1 and 2 before the first
 abbrev pub endOf : ℕ → ℕ → ℕ

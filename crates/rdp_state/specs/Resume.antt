@@ -1,5 +1,5 @@
 -- Document 02, #103: a list judged on from where it stands, with the registers as words.
-use Prim.Native.Nat.{ℕ, zero, suc, _+_}
+use Prim.Native.Nat.{ℕ, zero, suc, _+_, _%_, _^_}
 use mathlib.Core.Bool.{false, cond, _||_}
 use mathlib.Core.List.{List, [], _∷_}
 use lib.Dec.{ltb, eqb}
@@ -8,6 +8,7 @@ use Rattle.rdp_words.specs.Words.{wordAt}
 use Rattle.rdp_words.specs.Kinds.{wordsOf}
 use Rattle.rdp_words.specs.Lengths.{firstNumber}
 use Rattle.rdp_check.specs.Hazards.{nextOf}
+use Rattle.rdp_check.specs.Syncs.{commandWait}
 use Rattle.rdp_check.specs.Commands.{commandsOf}
 use Rattle.rdp_check.specs.Check.{State, checkRefusals, refusalAt}
 use Rattle.rdp_state.specs.RegisterWords.{wordsAfter, registersIn}
@@ -18,9 +19,13 @@ use Rattle.rdp_state.specs.declared.Resumed.{Resumed}
 abbrev pub stateIn : Standing → State
 stateIn b = record { hazards = b .hazards; ended = b .ended; registers = registersIn (b .words) }
 
--- a list starts idle, and no word has set a register
+-- a list starts idle, no word has set a register, and none has waited
 abbrev pub idle : Standing
-idle = record { words = replicate 32 0; hazards = 0; ended = false }
+idle = record { words = replicate 32 0; hazards = 0; ended = false; waited = 0 }
+
+-- #105: the cycles waited, with those of one more command; a number of 32 bits
+abbrev pub waitedAfter : ℕ → ℕ → ℕ
+waitedAfter waited n = (waited + commandWait n) % 2 ^ 32
 
 -- after a command: its first word is stored where it sets a register
 unfoldable pub standingAfter : Standing → List ℕ → Standing
@@ -29,6 +34,7 @@ standingAfter b c =
       words = wordsAfter (b .words) (firstNumber c) (wordAt c 0);
       hazards = nextOf (b .hazards) (firstNumber c);
       ended = eqb (firstNumber c) 0x29 || b .ended;
+      waited = waitedAfter (b .waited) (firstNumber c);
     }
 
 abbrev pub resumedAt : ℕ → ℕ → Standing → Resumed

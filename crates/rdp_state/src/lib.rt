@@ -20,13 +20,21 @@ pub struct ListState {
     pub registers: Registers,
 }
 
-// Where a list stands between two of its commands: the words that last set the registers, the hazards, of which the low four bits count, and whether a Sync
-// Full has come.
+// Where a list stands between two of its commands: the words that last set the registers, the hazards, of which the low four bits count, whether a Sync
+// Full has come, and the cycles that its syncs have waited.
 #[repr(C)]
 pub struct Standing {
     pub words: [u64; 32],
     pub hazards: u8,
     pub ended: bool,
+    pub waited: u32,
+}
+
+// What the commands of a list leave: the words that last set the registers, and the cycles waited.
+#[repr(C)]
+pub struct Replay {
+    pub words: [u64; 32],
+    pub waited: u32,
 }
 
 // Where the list stands; the number of the first refusal, 0 where no command is refused; and its place, or that after the last whole command.
@@ -65,7 +73,8 @@ pub fn registers_after(list: &[u8]) -> ListState
 {
     let checked = rdp_check::check(list);
     let end = end_of(checked.number, checked.place);
-    let file = updates::replay_from([0u64; 32], list, end);
+    let replay = updates::replay_from([0u64; 32], 0, list, end);
+    let file = replay.words;
     let registers = updates::registers_of(file);
     ListState {
         number: checked.number,
@@ -93,12 +102,14 @@ pub fn resume(before: Standing, bytes: &[u8]) -> Resumed
     };
     let judged = rdp_check::check_from(checkpoint, bytes);
     let end = end_of(judged.number, judged.place);
-    let words = updates::replay_from(file, bytes, end);
+    let replay = updates::replay_from(file, before.waited, bytes, end);
+    let words = replay.words;
     Resumed {
         standing: Standing {
             words,
             hazards: judged.hazards,
             ended: judged.ended,
+            waited: replay.waited,
         },
         number: judged.number,
         place: judged.place,

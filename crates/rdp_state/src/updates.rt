@@ -2,11 +2,14 @@
 ghost use mathlib.Core.Bool.{not};
 ghost use mathlib.Core.Path.{_≡_};
 ghost use Prim.Native.Nat.{_<_};
+ghost use Rattle.rdp_check.specs.Syncs.{commandWait};
 ghost use lib.Dec.{eqb};
 ghost use Rattle.rdp_command.specs.Reads.{colorFields, combinerFields, modeFields, imageFields};
 ghost use Rattle.rdp_check.specs.Commands.{commandsOf};
 ghost use Rattle.rdp_state.specs.RegisterWords.{slotOf, tileIn, registerWords, tileWith, isSet, word, colorsBy, combinerBy, modesBy, imagesBy, tilesBy, registersIn};
-ghost use Rattle.rdp_state.specs.Replay.{slotRow, slotEntry, wordsUpTo};
+ghost use Rattle.rdp_state.specs.Resume.{waitedAfter};
+ghost use Rattle.rdp_state.specs.Replay.{slotRow, slotEntry, wordsUpTo, waitedUpTo};
+use crate::Replay;
 use rdp_check::*;
 use rdp_command::ColorFields;
 use rdp_command::CombinerFields;
@@ -53,13 +56,34 @@ pub fn slot_of(number: u8, w: u64) -> usize
     (entry % 32 + entry / 32 * tile) as usize
 }
 
-// The words after the commands of a list that begin before a place. In the loop slot 31 takes the words of commands that set no register.
-pub fn replay_from(file: [u64; 32], list: &[u8], end: usize) -> [u64; 32]
-    ensures { λ r. ⌜ r ≡ wordsUpTo end 0 file (commandsOf (now (list .entry))) ⌝ }
+// The cycles that a command waits, by its number.
+fn wait_of(number: u8) -> u32
+    ensures { λ r. ⌜ r ≡ commandWait number ⌝ }
+{
+    match number {
+        0x26 => 25,
+        0x28 => 33,
+        0x27 => 50,
+        _ => 0,
+    }
+}
+
+// The cycles waited, with those of one more command.
+fn add_wait(waited: u32, number: u8) -> u32
+    ensures { λ r. ⌜ r ≡ waitedAfter waited number ⌝ }
+{
+    let sum = waited as u64 + wait_of(number) as u64;
+    (sum % 0x1_0000_0000) as u32
+}
+
+// What the commands of a list that begin before a place leave. In the loop slot 31 takes the words of commands that set no register.
+pub fn replay_from(file: [u64; 32], before: u32, list: &[u8], end: usize) -> Replay
+    ensures { λ r. ⌜ (r .words ≡ wordsUpTo end 0 file (commandsOf (now (list .entry)))) × (r .waited ≡ waitedUpTo end 0 before (commandsOf (now (list .entry)))) ⌝ }
 {
     let words = list.len() / 8;
     let unread = file[31];
     let mut q = file;
+    let mut waited = before;
     let mut at: usize = 0;
     while at < end {
         let head = rdp_command::head_at(list, at);
@@ -67,15 +91,16 @@ pub fn replay_from(file: [u64; 32], list: &[u8], end: usize) -> [u64; 32]
         let next = at + rdp_words::words_of(number);
         if words < next {
             q[31] = unread;
-            return q;
+            return Replay { words: q, waited };
         }
         let w = rdp_words::word_at(list, at);
         let slot = slot_of(number, w);
         q[slot] = w;
+        waited = add_wait(waited, number);
         at = next;
     }
     q[31] = unread;
-    q
+    Replay { words: q, waited }
 }
 
 // The words of the registers but the tiles.

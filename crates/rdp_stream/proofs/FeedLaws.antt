@@ -24,6 +24,7 @@ use Rattle.rdp_check.proofs.JoinLaws.{parsed, length-joined, length-split, rest
 use Rattle.rdp_state.proofs.ResumeLaws.{resumed-within}
 use Rattle.rdp_state.proofs.StandingLaws.{movedIn, judge-moved, accepted-in, most-in}
 use Rattle.rdp_stream.specs.declared.Stream.{Stream}
+use Rattle.rdp_stream.specs.declared.Kept.{Kept}
 use Rattle.rdp_stream.specs.Portions.{Feeding, fedBytes}
 use Rattle.rdp_stream.specs.Records.{standingIn, endedAs, streamOf}
 use Rattle.rdp_stream.specs.Steps.{openOf, Open, Complete, assembled, emptied, heldFrom}
@@ -39,7 +40,7 @@ eighth taken e = omega arith
 
 -- ---- a part that begins at a command's first byte
 
-module _ (b : Standing) (ended taken p : ℕ) (part : List ℕ) (even : taken % 8 ≡ 0) (room : taken + length part ≤ 32768) where
+module _ (b : Standing) (kept : Kept) (taken p : ℕ) (part : List ℕ) (even : taken % 8 ≡ 0) (room : taken + length part ≤ 32768) where
   abbrev at : ℕ
   at = taken / 8
 
@@ -87,11 +88,11 @@ module _ (b : Standing) (ended taken p : ℕ) (part : List ℕ) (even : taken % 
     pub refused-room : taken + 8 * q .place ≤ 32768
     refused-room = rw place-is (omega (arith, place-inside))
 
-    pub refused-fed : (q .number ≡ 0 → ⊥) → emptied ended (q .standing) taken (q .number) (q .place) ≡ streamOf ended fed
+    pub refused-fed : (q .number ≡ 0 → ⊥) → emptied kept (q .standing) taken (q .number) (q .place) ≡ streamOf kept fed
     unfolding streamOf
     refused-fed ne =
-        ap (λ (x : Resumed). emptied ended (x .standing) taken (x .number) (x .place)) is-q ∙
-        ap (streamOf ended) (sym (fed-is ∙ refused-is (λ z. ne (number-is ∙ z))))
+        ap (λ (x : Resumed). emptied kept (x .standing) taken (x .number) (x .place)) is-q ∙
+        ap (streamOf kept) (sym (fed-is ∙ refused-is (λ z. ne (number-is ∙ z))))
 
     module _ (zero-is : q .number ≡ 0) where
       none : o .number ≡ 0
@@ -115,7 +116,7 @@ module _ (b : Standing) (ended taken p : ℕ) (part : List ℕ) (even : taken % 
       pub held-few : length part - 8 * q .place ≤ 175
       held-few = rw place-is (omega (arith, rest-long, rest-most part))
 
-      pub held-fed : heldFrom ended (q .standing) taken p part (8 * q .place) ≡ streamOf ended fed
+      pub held-fed : heldFrom kept (q .standing) taken p part (8 * q .place) ≡ streamOf kept fed
       unfolding streamOf
       held-fed =
           let from = 8 * o .place in
@@ -123,9 +124,9 @@ module _ (b : Standing) (ended taken p : ℕ) (part : List ℕ) (even : taken % 
           let bytes : paste (replicate 176 0) 0 (drop from part) (length part - from) ≡ restOf part ++ replicate (176 - length (restOf part)) 0 =
           ap (λ (xs : List ℕ). paste (replicate 176 0) 0 xs (length part - from)) rest-is ∙
           paste-zeros 176 (length part - from) (restOf part) (sym count) in
-          ap (λ (x : Resumed). heldFrom ended (x .standing) taken p part (8 * x .place)) is-q ∙
-          (λ i. assembled ended (o .standing) (bytes i) (count i) (taken + length part) 0 p) ∙
-          ap (streamOf ended) (sym (fed-is ∙ accepted-is none))
+          ap (λ (x : Resumed). heldFrom kept (x .standing) taken p part (8 * x .place)) is-q ∙
+          (λ i. assembled kept (o .standing) (bytes i) (count i) (taken + length part) 0 p) ∙
+          ap (streamOf kept) (sym (fed-is ∙ accepted-is none))
 
 -- ---- held bytes
 
@@ -161,15 +162,15 @@ module _ (s : Standing) (taken p : ℕ) (h part : List ℕ) (cut : wholeWords h 
 
 -- a part that is too short for a command
 pub short-fed :
-    (b : Standing) (ended taken p : ℕ) (part : List ℕ) → taken % 8 ≡ 0 → taken + length part ≤ 32768 → length part < 8 →
-    heldFrom ended b taken p part 0 ≡ streamOf ended (fedBytes (openOf b [] taken p) part)
+    (b : Standing) (kept : Kept) (taken p : ℕ) (part : List ℕ) → taken % 8 ≡ 0 → taken + length part ≤ 32768 → length part < 8 →
+    heldFrom kept b taken p part 0 ≡ streamOf kept (fedBytes (openOf b [] taken p) part)
 unfolding streamOf
-short-fed b ended taken p part even room short =
+short-fed b kept taken p part even room short =
     let cut : wholeWords part ≡ 0 = words-cut part (omega (arith, command-some part)) in
     let count : length part - 0 ≡ length part = omega arith in
     let bytes = paste-zeros 176 (length part - 0) part (sym count) in
-    (λ i. assembled ended b (bytes i) (count i) (taken + length part) 0 p) ∙
-    ap (streamOf ended) (sym (still-held b taken p [] part none-whole (omega arith) (omega arith) room cut))
+    (λ i. assembled kept b (bytes i) (count i) (taken + length part) 0 p) ∙
+    ap (streamOf kept) (sym (still-held b taken p [] part none-whole (omega arith) (omega arith) room cut))
 
 pub ended-back : (ended : ℕ) (b : Bool) → not (eqb (endedAs ended b) 0) ≡ b
 ended-back ended false = refl
@@ -177,7 +178,7 @@ ended-back ended true = by-test (eqb ended 0) (λ t. rw t) (λ f. rw (f, f))
 
 -- ---- held bytes that a part has completed
 
-module _ (b : Standing) (ended taken p count words : ℕ) (held filled part : List ℕ) (k : Complete held count taken filled words part) where
+module _ (b : Standing) (kept : Kept) (taken p count words : ℕ) (held filled part : List ℕ) (k : Complete held count taken filled words part) where
   abbrev begin : Standing
   begin = b
 
@@ -226,68 +227,68 @@ module _ (b : Standing) (ended taken p count words : ℕ) (held filled part : Li
   one-is : one .number ≡ 0 → one ≡ openOf (one .standing) [] (taken - count + 8 * words) p
   one-is z =
       let o = judgedFrom begin 0 command in
-      let is = fed-is b ended (taken - count) p command (k .even) command-room in
+      let is = fed-is b kept (taken - count) p command (k .even) command-room in
       by-test (eqb (o .number) 0)
       (λ t.
-      let acc = is ∙ accepted-is b ended (taken - count) p command (k .even) command-room (eqb-true _ _ t) in
+      let acc = is ∙ accepted-is b kept (taken - count) p command (k .even) command-room (eqb-true _ _ t) in
       acc ∙ (λ i. openOf (sym acc i .standing) (none-left i) (taken - count + command-long i) p))
       (λ f.
       let ne = eqb-false _ _ f in
-      let ref = is ∙ refused-is b ended (taken - count) p command (k .even) command-room ne in
+      let ref = is ∙ refused-is b kept (taken - count) p command (k .even) command-room ne in
       absurd (ne (sym (ap (λ (x : Feeding). x .number) ref) ∙ z)))
 
-  module _ (q : Stream) (is-q : q ≡ streamOf ended one) where
+  module _ (q : Stream) (is-q : q ≡ streamOf kept one) where
     number-q : q .number ≡ one .number
     unfolding streamOf
     number-q = ap (λ (x : Stream). x .number) is-q
 
-    pub one-refused : (q .number ≡ 0 → ⊥) → q ≡ streamOf ended all
-    one-refused ne = is-q ∙ ap (streamOf ended) (sym (all-is ∙ fed-refused one after (λ z. ne (number-q ∙ z))))
+    pub one-refused : (q .number ≡ 0 → ⊥) → q ≡ streamOf kept all
+    one-refused ne = is-q ∙ ap (streamOf kept) (sym (all-is ∙ fed-refused one after (λ z. ne (number-q ∙ z))))
 
     standing-q : standingIn q ≡ one .standing
     unfolding streamOf
     standing-q =
-        ap standingIn is-q ∙ (λ i. record { hazards = one .standing .hazards; ended = ended-back ended (one .standing .ended) i; words = one .standing .words })
+        ap standingIn is-q ∙ (λ i. record { hazards = one .standing .hazards; ended = ended-back (kept .ended) (one .standing .ended) i; words = one .standing .words; waited = one .standing .waited })
 
     pub one-accepted :
         q .number ≡ 0 → (n : Standing) → n ≡ standingIn q → (r : Stream) →
-        r ≡ streamOf ended (fedBytes (openOf n [] (taken - count + 8 * words) p) after) → r ≡ streamOf ended all
+        r ≡ streamOf kept (fedBytes (openOf n [] (taken - count + 8 * words) p) after) → r ≡ streamOf kept all
     one-accepted z n is-n r is-r =
         is-r ∙
-        ap (streamOf ended)
+        ap (streamOf kept)
         ((λ i. fedBytes (openOf ((is-n ∙ standing-q) i) [] (taken - count + 8 * words) p) after) ∙
         ap (λ (f : Feeding). fedBytes f after) (sym (one-is (sym number-q ∙ z))) ∙
         sym all-is)
 
 -- the same by what the check answers of the command
-module _ (b : Standing) (ended taken p count words : ℕ) (held filled part : List ℕ) (k : Complete held count taken filled words part) (q : Resumed) (is-q : q ≡ resumedOf b (take (8 * words) filled)) where
+module _ (b : Standing) (kept : Kept) (taken p count words : ℕ) (held filled part : List ℕ) (k : Complete held count taken filled words part) (q : Resumed) (is-q : q ≡ resumedOf b (take (8 * words) filled)) where
   abbrev bytes : List ℕ
   bytes = take (8 * words) filled
 
   room : taken - count + length bytes ≤ 32768
-  room = command-room b ended taken p count words held filled part k
+  room = command-room b kept taken p count words held filled part k
 
   pub judged-room : taken - count + 8 * q .place ≤ 32768
-  judged-room = refused-room b ended (taken - count) p bytes (k .even) room q is-q
+  judged-room = refused-room b kept (taken - count) p bytes (k .even) room q is-q
 
   pub judged-refused :
-      (q .number ≡ 0 → ⊥) → emptied ended (q .standing) (taken - count) (q .number) (q .place) ≡ streamOf ended (fedBytes (openOf b (take count held) taken p) part)
+      (q .number ≡ 0 → ⊥) → emptied kept (q .standing) (taken - count) (q .number) (q .place) ≡ streamOf kept (fedBytes (openOf b (take count held) taken p) part)
   judged-refused ne =
-      one-refused b ended taken p count words held filled part k (emptied ended (q .standing) (taken - count) (q .number) (q .place))
-      (refused-fed b ended (taken - count) p bytes (k .even) room q is-q ne) ne
+      one-refused b kept taken p count words held filled part k (emptied kept (q .standing) (taken - count) (q .number) (q .place))
+      (refused-fed b kept (taken - count) p bytes (k .even) room q is-q ne) ne
 
   pub judged-accepted :
       q .number ≡ 0 → (r : Stream) →
-      r ≡ streamOf ended (fedBytes (openOf (q .standing) [] (taken - count + 8 * words) p) (drop (8 * words - count) part)) →
-      r ≡ streamOf ended (fedBytes (openOf b (take count held) taken p) part)
+      r ≡ streamOf kept (fedBytes (openOf (q .standing) [] (taken - count + 8 * words) p) (drop (8 * words - count) part)) →
+      r ≡ streamOf kept (fedBytes (openOf b (take count held) taken p) part)
   judged-accepted z r is-r =
-      one-accepted b ended taken p count words held filled part k (heldFrom ended (q .standing) (taken - count) p bytes (8 * q .place))
-      (held-fed b ended (taken - count) p bytes (k .even) room q is-q z) refl (q .standing)
-      (λ i. record { hazards = q .standing .hazards; ended = sym (ended-back ended (q .standing .ended)) i; words = q .standing .words }) r is-r
+      one-accepted b kept taken p count words held filled part k (heldFrom kept (q .standing) (taken - count) p bytes (8 * q .place))
+      (held-fed b kept (taken - count) p bytes (k .even) room q is-q z) refl (q .standing)
+      (λ i. record { hazards = q .standing .hazards; ended = sym (ended-back (kept .ended) (q .standing .ended)) i; words = q .standing .words; waited = q .standing .waited }) r is-r
 
 -- ---- a part copied after the held bytes
 
-module _ (b : Standing) (ended taken p count : ℕ) (held part : List ℕ) (k : Open held count taken (length part)) (n : ℕ) (is-n : n ≡ min (176 - count) (length part)) (filled : List ℕ) (is-filled : filled ≡ paste held count part n) where
+module _ (b : Standing) (kept : Kept) (taken p count : ℕ) (held part : List ℕ) (k : Open held count taken (length part)) (n : ℕ) (is-n : n ≡ min (176 - count) (length part)) (filled : List ℕ) (is-filled : filled ≡ paste held count part n) where
   abbrev before : List ℕ
   before = take count held
 
@@ -339,13 +340,13 @@ module _ (b : Standing) (ended taken p count : ℕ) (held part : List ℕ) (k : 
           let e : 176 - count - n ≡ 176 - length (before ++ part) = omega (arith, total-long, copied) in
           sym (drop-drop n count held) ∙ ap (drop n) (k .past) ∙ drop-replicate n (176 - count) ∙ ap (λ (m : ℕ). replicate m 0) e
 
-      pub held-all : assembled ended b filled (count + length part) (taken + length part) 0 p ≡ streamOf ended (fedBytes (openOf b before taken p) part)
+      pub held-all : assembled kept b filled (count + length part) (taken + length part) 0 p ≡ streamOf kept (fedBytes (openOf b before taken p) part)
       unfolding streamOf
       held-all =
           let bytes : filled ≡ (before ++ part) ++ replicate (176 - length (before ++ part)) 0 =
           is-filled ∙ (λ i. (before ++ part-is i) ++ rest-zero i) in
-          (λ i. assembled ended b (bytes i) (sym total-long i) (taken + length part) 0 p) ∙
-          ap (streamOf ended)
+          (λ i. assembled kept b (bytes i) (sym total-long i) (taken + length part) 0 p) ∙
+          ap (streamOf kept)
           (sym (still-held b taken p before part (k .cut) (rw before-long (k .inside)) (rw before-long (k .whole)) (k .room) cut-both))
 
     module _ (there : words ≡ 0 → ⊥) where

@@ -144,27 +144,28 @@ unknown n =
     rw (f, true-of (among n remembered) (below 10 (λ k. among k remembered) tt n (omega arith))))
 
 -- the reasons in their order: the count, the bytes, the numbers
-any-of : (a b c d e f g : Bool) → eqb (firstOf (ground 28 a ∷ ground 28 b ∷ ground 28 c ∷ ground 28 d ∷ ground 28 e ∷ ground 28 f ∷ ground 28 g ∷ []) 0) 28 ≡ a || ((b || c) || (d || (e || (f || g))))
-any-of true b c d e f g = refl
-any-of false true c d e f g = refl
-any-of false false true d e f g = refl
-any-of false false false true e f g = refl
-any-of false false false false true f g = refl
-any-of false false false false false true g = refl
-any-of false false false false false false true = refl
-any-of false false false false false false false = refl
+any-of : (a b c d e f g h : Bool) → eqb (firstOf (ground 28 a ∷ ground 28 b ∷ ground 28 c ∷ ground 28 d ∷ ground 28 e ∷ ground 28 f ∷ ground 28 g ∷ ground 28 h ∷ []) 0) 28 ≡ a || ((b || c) || (d || (e || (f || (g || h)))))
+any-of true b c d e f g h = refl
+any-of false true c d e f g h = refl
+any-of false false true d e f g h = refl
+any-of false false false true e f g h = refl
+any-of false false false false true f g h = refl
+any-of false false false false false true g h = refl
+any-of false false false false false false true h = refl
+any-of false false false false false false false true = refl
+any-of false false false false false false false false = refl
 
-pub damaged-by : (held : List ℕ) (count taken number : ℕ) → ltb 175 count || (bytesDamaged count held || countsDamaged count taken number) ≡ damagedIn held count taken number
+pub damaged-by : (held : List ℕ) (count taken number waited : ℕ) → ltb 175 count || (bytesDamaged count held || countsDamaged count taken number waited) ≡ damagedIn held count taken number waited
 unfolding damageIn
-damaged-by held count taken number =
-    ap (λ (b : Bool). ltb 175 count || (bytesDamaged count held || (ltb 32768 taken || (ltb taken count || (not (eqb ((taken - count) % 8) 0) || b))))) (unknown number) ∙
+damaged-by held count taken number waited =
+    ap (λ (b : Bool). ltb 175 count || (bytesDamaged count held || (ltb 32768 taken || (ltb taken count || (not (eqb ((taken - count) % 8) 0) || (b || ltb 204800 waited)))))) (unknown number) ∙
     sym
     (any-of (ltb 175 count) (not (allZero (drop count held))) (not (eqb (wholeWords (take count held)) 0)) (ltb 32768 taken) (ltb taken count) (not (eqb ((taken - count) % 8) 0))
-    (not (among number remembered)))
+    (not (among number remembered)) (ltb 204800 waited))
 
 -- ---- a record that is not damaged
 
-pub record Sound (held : List ℕ) (count taken number : ℕ) : Type 0 where
+pub record Sound (held : List ℕ) (count taken number waited : ℕ) : Type 0 where
   pub few : count ≤ 175
   pub clear : allZero (drop count held) ≡ true
   pub cut : wholeWords (take count held) ≡ 0
@@ -172,19 +173,21 @@ pub record Sound (held : List ℕ) (count taken number : ℕ) : Type 0 where
   pub inside : count ≤ taken
   pub whole : (taken - count) % 8 ≡ 0
   pub known : among number remembered ≡ true
+  pub bounded : waited ≤ 204800
 
 not-not : (b : Bool) → not b ≡ false → b ≡ true
 not-not true e = refl
 not-not false e = sym e
 
-pub sound : (held : List ℕ) (count taken number : ℕ) → damagedIn held count taken number ≡ false → Sound held count taken number
-sound held count taken number e =
-    let a = neither (ltb 175 count) _ (damaged-by held count taken number ∙ e) in
+pub sound : (held : List ℕ) (count taken number waited : ℕ) → damagedIn held count taken number waited ≡ false → Sound held count taken number waited
+sound held count taken number waited e =
+    let a = neither (ltb 175 count) _ (damaged-by held count taken number waited ∙ e) in
     let b = neither (bytesDamaged count held) _ (a .1) in
     let c = neither (not (allZero (drop count held))) _ (b .0) in
     let d = neither (ltb 32768 taken) _ (b .1) in
     let f = neither (ltb taken count) _ (d .1) in
     let g = neither (not (eqb ((taken - count) % 8) 0)) _ (f .1) in
+    let h = neither (ltb 9 number) _ (g .1) in
     record {
       few = ltb-false _ _ (a .0);
       clear = not-not _ (c .0);
@@ -192,10 +195,11 @@ sound held count taken number e =
       most = ltb-false _ _ (d .0);
       inside = ltb-false _ _ (f .0);
       whole = eqb-true _ _ (not-not _ (g .0));
-      known = not-not _ (sym (unknown number) ∙ g .1);
+      known = not-not _ (sym (unknown number) ∙ h .0);
+      bounded = ltb-false _ _ (h .1);
     }
 
-pub undamaged : (held : List ℕ) (count taken number : ℕ) → Sound held count taken number → damagedIn held count taken number ≡ false
+pub undamaged : (held : List ℕ) (count taken number waited : ℕ) → Sound held count taken number waited → damagedIn held count taken number waited ≡ false
 unfolding damageIn
-undamaged held count taken number k =
-    rw (le-ltb _ _ (k .few), k .clear, eq-eqb _ _ (k .cut), le-ltb _ _ (k .most), le-ltb _ _ (k .inside), eq-eqb _ _ (k .whole), k .known)
+undamaged held count taken number waited k =
+    rw (le-ltb _ _ (k .few), k .clear, eq-eqb _ _ (k .cut), le-ltb _ _ (k .most), le-ltb _ _ (k .inside), eq-eqb _ _ (k .whole), k .known, le-ltb _ _ (k .bounded))

@@ -3,6 +3,8 @@ pub mod HeldLaws
 pub mod FeedLaws
 pub mod RecordLaws
 pub mod ArrivedLaws
+pub mod FitLaws
+pub mod WaitLaws
 pub mod StreamLaws
 pub mod Lent
 pub mod Alone

@@ -18,7 +18,7 @@ use Rattle.rdp_command.specs.declared.Answer.{Answer}
 use Rattle.rdp_stream.specs.declared.Fed.{Fed}
 use Rattle.rdp_check.specs.Order.{answer}
 use Rattle.rdp_stream.specs.Portions.{Feeding, accepted, remembering, afterByte, fedBytes, closingGrounds, closed, answerOf}
-use Rattle.rdp_stream.specs.Records.{isDamaged, standingIn, feedingOf, endedAs, streamOf, answered, fedOf, closedOf}
+use Rattle.rdp_stream.specs.Records.{isDamaged, standingIn, feedingOf, endedAs, keptIn, streamOf, answered, fedOf, closedOf}
 use Rattle.rdp_stream.specs.Steps.{openOf, Open, answerIn, closingIn, answeredAs, rememberedIn, closedWith}
 use Rattle.rdp_stream.proofs.PortionLaws.{resumed, judgedFrom, fed-joined, fed-refused}
 use Rattle.rdp_stream.proofs.HeldLaws.{zeros, Sound, sound}
@@ -39,8 +39,8 @@ module _ (r : Stream) (undamaged : isDamaged r ≡ false) (long : length (r .hel
   abbrev n : ℕ
   n = r .«held_count»
 
-  pub fits : Sound (r .held) n (r .taken) (r .number)
-  fits = sound (r .held) n (r .taken) (r .number) undamaged
+  pub fits : Sound (r .held) n (r .taken) (r .number) (r .waited)
+  fits = sound (r .held) n (r .taken) (r .number) (r .waited) undamaged
 
   pub count-is : length (take n (r .held)) ≡ n
   count-is = length-take-le n (r .held) (omega (arith, fits .few, long))
@@ -67,7 +67,7 @@ module _ (r : Stream) (undamaged : isDamaged r ≡ false) (long : length (r .hel
       take-append-drop n (r .held)
 
   -- it stands for itself
-  pub remembered-back : (number place : ℕ) → streamOf (r .ended) (remembering (answer number place) (feedingOf r)) ≡ rememberedIn r number place
+  pub remembered-back : (number place : ℕ) → streamOf (keptIn r) (remembering (answer number place) (feedingOf r)) ≡ rememberedIn r number place
   unfolding streamOf
   remembered-back number place =
       λ i.
@@ -80,12 +80,14 @@ module _ (r : Stream) (undamaged : isDamaged r ≡ false) (long : length (r .hel
         taken = r .taken;
         number = number;
         place = place;
+        spare = r .spare;
+        waited = r .waited;
       }
 
-  pub stream-back : streamOf (r .ended) (feedingOf r) ≡ r
+  pub stream-back : streamOf (keptIn r) (feedingOf r) ≡ r
   stream-back = remembered-back (r .number) (r .place)
 
-  pub answered-is : (f : Feeding) → answered r f ≡ record { after = streamOf (r .ended) f; answer = answerOf f }
+  pub answered-is : (f : Feeding) → answered r f ≡ record { after = streamOf (keptIn r) f; answer = answerOf f }
   unfolding answered
   answered-is f = rw undamaged
 
@@ -105,7 +107,7 @@ module _ (r : Stream) (undamaged : isDamaged r ≡ false) (long : length (r .hel
 
   -- what a portion leaves is answered by its numbers
   pub fed-answered :
-      (f : Feeding) (after : Stream) → after ≡ streamOf (r .ended) f → (a : Answer) → a ≡ answerIn (after .number) (after .place) (after .taken) (after .«held_count») →
+      (f : Feeding) (after : Stream) → after ≡ streamOf (keptIn r) f → (a : Answer) → a ≡ answerIn (after .number) (after .place) (after .taken) (after .«held_count») →
       _≡_ {A = Fed} (record { after = after; answer = a }) (answered r f)
   unfolding streamOf
   fed-answered f after is-after a is-a =
@@ -128,7 +130,7 @@ module _ (r : Stream) (undamaged : isDamaged r ≡ false) (long : length (r .hel
     closing-with number place place′ p ne e =
         let a : place′ ≡ answerOf (remembering (answer number place′) f) .place = rw ne in
         (λ i. record { after = (sym (remembered-back number place)) i; answer = record { number = number; place = place } }) ∙
-        (λ i. record { after = streamOf (r .ended) (remembering (answer number (p i)) f); answer = record { number = number; place = (p ∙ a) i } }) ∙
+        (λ i. record { after = streamOf (keptIn r) (remembering (answer number (p i)) f); answer = record { number = number; place = (p ∙ a) i } }) ∙
         sym (ap (answered r) e ∙ answered-is (remembering (answer number place′) f))
 
     module _ (even : eqb (r .taken % 8) 0 ≡ true) where
@@ -207,8 +209,8 @@ module _ (taken : ℕ) (portion : List ℕ) (n : ℕ) (is-n : n ≡ min (32768 -
 
 pub fed-whole :
     (r : Stream) (portion : List ℕ) (n : ℕ) → n ≡ length portion →
-    streamOf (r .ended) (fedBytes (feedingOf r) (take n portion)) ≡ streamOf (r .ended) (fedBytes (feedingOf r) portion)
-fed-whole r portion n e = ap (λ (xs : List ℕ). streamOf (r .ended) (fedBytes (feedingOf r) xs)) (take-all n portion (omega arith))
+    streamOf (keptIn r) (fedBytes (feedingOf r) (take n portion)) ≡ streamOf (keptIn r) (fedBytes (feedingOf r) portion)
+fed-whole r portion n e = ap (λ (xs : List ℕ). streamOf (keptIn r) (fedBytes (feedingOf r) xs)) (take-all n portion (omega arith))
 
 pub open-more : {held : List ℕ} {count taken : ℕ} → Open held count taken 0 → (more : ℕ) → taken + more ≤ 32768 → Open held count taken more
 open-more k more h =
@@ -251,17 +253,17 @@ module _ (r : Stream) (none : r .number ≡ 0) where
         (sym (ap (λ (x : Feeding). x .number) e) ∙ z) ∙
         (omega (arith, part-is, k .room, is-room))
 
-    module _ (q : Stream) (is-q : q ≡ streamOf (r .ended) some) where
+    module _ (q : Stream) (is-q : q ≡ streamOf (keptIn r) some) where
       number-q : q .number ≡ some .number
       unfolding streamOf
       number-q = ap (λ (x : Stream). x .number) is-q
 
-      pub part-refused : (q .number ≡ 0 → ⊥) → q ≡ streamOf (r .ended) (fedBytes here portion)
-      part-refused ne = is-q ∙ ap (streamOf (r .ended)) (sym (split ∙ fed-refused some (drop room portion) (λ z. ne (number-q ∙ z))))
+      pub part-refused : (q .number ≡ 0 → ⊥) → q ≡ streamOf (keptIn r) (fedBytes here portion)
+      part-refused ne = is-q ∙ ap (streamOf (keptIn r)) (sym (split ∙ fed-refused some (drop room portion) (λ z. ne (number-q ∙ z))))
 
-      pub part-full : q .number ≡ 0 → rememberedIn q 1 4096 ≡ streamOf (r .ended) (fedBytes here portion)
+      pub part-full : q .number ≡ 0 → rememberedIn q 1 4096 ≡ streamOf (keptIn r) (fedBytes here portion)
       unfolding streamOf
       part-full z =
           let e = sym number-q ∙ z in
           let more : 0 < length (drop room portion) = omega (arith, length-drop room portion) in
-          ap (λ (x : Stream). rememberedIn x 1 4096) is-q ∙ ap (streamOf (r .ended)) (sym (split ∙ over some e (full e) (drop room portion) more))
+          ap (λ (x : Stream). rememberedIn x 1 4096) is-q ∙ ap (streamOf (keptIn r)) (sym (split ∙ over some e (full e) (drop room portion) more))

@@ -13,6 +13,7 @@ use Rattle.rdp_check.specs.Order.{answer}
 use Rattle.rdp_state.specs.declared.Standing.{Standing}
 use Rattle.rdp_stream.specs.declared.Stream.{Stream}
 use Rattle.rdp_stream.specs.declared.Fed.{Fed}
+use Rattle.rdp_stream.specs.declared.Kept.{Kept}
 use Rattle.rdp_stream.specs.Portions.{Feeding}
 use Rattle.rdp_stream.specs.Records.{allZero, endedAs}
 
@@ -20,8 +21,9 @@ use Rattle.rdp_stream.specs.Records.{allZero, endedAs}
 abbrev pub bytesDamaged : ℕ → List ℕ → Bool
 bytesDamaged count held = not (allZero (drop count held)) || not (eqb (wholeWords (take count held)) 0)
 
-abbrev pub countsDamaged : ℕ → ℕ → ℕ → Bool
-countsDamaged count taken number = ltb 32768 taken || (ltb taken count || (not (eqb ((taken - count) % 8) 0) || ltb 9 number))
+abbrev pub countsDamaged : ℕ → ℕ → ℕ → ℕ → Bool
+countsDamaged count taken number waited =
+    ltb 32768 taken || (ltb taken count || (not (eqb ((taken - count) % 8) 0) || (ltb 9 number || ltb 204800 waited)))
 
 -- no refusal is remembered
 abbrev pub openOf : Standing → List ℕ → ℕ → ℕ → Feeding
@@ -52,8 +54,8 @@ pub record Complete (held : List ℕ) (count taken : ℕ) (filled : List ℕ) (w
   pub alone : 8 * words ≡ 8 * wordsOf (firstNumber (take (8 * words) filled))
 
 -- a record by its parts
-abbrev pub assembled : ℕ → Standing → List ℕ → ℕ → ℕ → ℕ → ℕ → Stream
-assembled ended b held count taken number place =
+abbrev pub assembled : Kept → Standing → List ℕ → ℕ → ℕ → ℕ → ℕ → Stream
+assembled kept b held count taken number place =
     record {
       words = b .words;
       held = held;
@@ -62,19 +64,21 @@ assembled ended b held count taken number place =
       number = number;
       place = place;
       hazards = b .hazards;
-      ended = endedAs ended (b .ended);
+      ended = endedAs (kept .ended) (b .ended);
+      spare = kept .spare;
+      waited = b .waited;
     }
 
 -- with no byte held, and with those of a part from an index on
-abbrev pub emptied : ℕ → Standing → ℕ → ℕ → ℕ → Stream
-emptied ended b taken number words =
+abbrev pub emptied : Kept → Standing → ℕ → ℕ → ℕ → Stream
+emptied kept b taken number words =
     let place = taken / 8 + words in
-    assembled ended b (replicate 176 0) 0 (8 * place) number place
+    assembled kept b (replicate 176 0) 0 (8 * place) number place
 
-abbrev pub heldFrom : ℕ → Standing → ℕ → ℕ → List ℕ → ℕ → Stream
-heldFrom ended b taken place part from =
+abbrev pub heldFrom : Kept → Standing → ℕ → ℕ → List ℕ → ℕ → Stream
+heldFrom kept b taken place part from =
     let n = length part - from in
-    assembled ended b (paste (replicate 176 0) 0 (drop from part) n) n (taken + length part) 0 place
+    assembled kept b (paste (replicate 176 0) 0 (drop from part) n) n (taken + length part) 0 place
 
 -- the answer by the numbers of a record
 abbrev pub answerIn : ℕ → ℕ → ℕ → ℕ → Answer
@@ -102,6 +106,8 @@ rememberedIn r number place =
       place = place;
       hazards = r .hazards;
       ended = r .ended;
+      spare = r .spare;
+      waited = r .waited;
     }
 
 -- a record after the closing, by what closing adds

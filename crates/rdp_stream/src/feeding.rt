@@ -6,9 +6,10 @@ ghost use Prim.Native.Nat.{_+_, _*_, _-_, _%_, min, _≤_};
 ghost use lib.Dec.{eqb};
 ghost use lib.ListN.{length, take};
 ghost use Rattle.rdp_stream.specs.Portions.{fedBytes};
-ghost use Rattle.rdp_stream.specs.Records.{standingIn, endedAs, feedingOf, streamOf};
+ghost use Rattle.rdp_stream.specs.Records.{standingIn, endedAs, feedingOf, keptIn, streamOf};
 ghost use Rattle.rdp_stream.specs.Steps.{openOf, Open, Complete, assembled, emptied, heldFrom, answerIn, closingIn, closedWith, rememberedIn};
 use crate::Fed;
+use crate::Kept;
 use crate::Stream;
 use crate::holding;
 use rdp_command::Answer;
@@ -29,7 +30,7 @@ fn ended_as(before: u8, ended: bool) -> u8
 
 // A record by its parts.
 fn assemble(
-    before: u8,
+    kept: Kept,
     standing: Standing,
     held: [u8; 176],
     count: u32,
@@ -37,10 +38,10 @@ fn assemble(
     number: u32,
     place: u32,
 ) -> Stream
-    ensures { λ r. ⌜ r ≡ assembled before standing held count taken number place ⌝ }
+    ensures { λ r. ⌜ r ≡ assembled kept standing held count taken number place ⌝ }
 {
     let hazards = standing.hazards;
-    let ended = ended_as(before, standing.ended);
+    let ended = ended_as(kept.ended, standing.ended);
     let words = standing.words;
     Stream {
         words,
@@ -51,6 +52,8 @@ fn assemble(
         place,
         hazards,
         ended,
+        spare: kept.spare,
+        waited: standing.waited,
     }
 }
 
@@ -65,22 +68,23 @@ fn standing_of(before: Stream) -> Standing
         words,
         hazards,
         ended,
+        waited: before.waited,
     }
 }
 
 // A command is refused, so many words after the first bytes of the part.
-fn empty(ended: u8, standing: Standing, taken: u32, number: u32, words: u32) -> Stream
+fn empty(kept: Kept, standing: Standing, taken: u32, number: u32, words: u32) -> Stream
     requires { ⌜ taken + 8 * words ≤ 32768 ⌝ }
-    ensures { λ r. ⌜ r ≡ emptied ended standing taken number words ⌝ }
+    ensures { λ r. ⌜ r ≡ emptied kept standing taken number words ⌝ }
 {
     let place = taken / 8 + words;
     let none = [0u8; 176];
-    assemble(ended, standing, none, 0, 8 * place, number, place)
+    assemble(kept, standing, none, 0, 8 * place, number, place)
 }
 
 // The bytes of a part from an index on are held.
 fn hold_from(
-    ended: u8,
+    kept: Kept,
     standing: Standing,
     taken: u32,
     place: u32,
@@ -88,33 +92,33 @@ fn hold_from(
     from: usize,
 ) -> Stream
     requires { ⌜ (from ≤ length (now part)) × ((length (now part) - from ≤ 175) × (taken + length (now part) ≤ 32768)) ⌝ }
-    ensures { λ r. ⌜ r ≡ heldFrom ended standing taken place (now (part .entry)) from ⌝ }
+    ensures { λ r. ⌜ r ≡ heldFrom kept standing taken place (now (part .entry)) from ⌝ }
 {
     let len = part.len();
     let count = len - from;
     let none = [0u8; 176];
     let held = holding::fill(none, 0, &part[from..], count);
     let end = taken + len as u32;
-    assemble(ended, standing, held, count as u32, end, 0, place)
+    assemble(kept, standing, held, count as u32, end, 0, place)
 }
 
 // A part that begins at a command's first byte.
-fn feed_whole(ended: u8, standing: Standing, taken: u32, place: u32, part: &[u8]) -> Stream
+fn feed_whole(kept: Kept, standing: Standing, taken: u32, place: u32, part: &[u8]) -> Stream
     requires { ⌜ (taken % 8 ≡ 0) × (taken + length (now part) ≤ 32768) ⌝ }
-    ensures { λ r. ⌜ r ≡ streamOf ended (fedBytes (openOf standing [] taken place) (now (part .entry))) ⌝ }
+    ensures { λ r. ⌜ r ≡ streamOf kept (fedBytes (openOf standing [] taken place) (now (part .entry))) ⌝ }
 {
     if part.len() < 8 {
-        return hold_from(ended, standing, taken, place, part, 0);
+        return hold_from(kept, standing, taken, place, part, 0);
     }
     let resumed = rdp_state::resume(standing, part);
     let after = resumed.standing;
     let number = resumed.number;
     let words = resumed.place;
     if number != 0 {
-        return empty(ended, after, taken, number, words);
+        return empty(kept, after, taken, number, words);
     }
     let from = 8 * words as usize;
-    hold_from(ended, after, taken, place, part, from)
+    hold_from(kept, after, taken, place, part, from)
 }
 
 fn least(a: usize, b: usize) -> usize
@@ -128,7 +132,7 @@ fn least(a: usize, b: usize) -> usize
 
 // Held bytes that a part has completed, and the part after them.
 fn finish(
-    ended: u8,
+    kept: Kept,
     standing: Standing,
     held: [u8; 176],
     count: u32,
@@ -139,7 +143,7 @@ fn finish(
     part: &[u8],
 ) -> Stream
     requires { ⌜ Complete held count taken filled words (now part) ⌝ }
-    ensures { λ r. ⌜ r ≡ streamOf ended (fedBytes (openOf standing (take count held) taken place) (now (part .entry))) ⌝ }
+    ensures { λ r. ⌜ r ≡ streamOf kept (fedBytes (openOf standing (take count held) taken place) (now (part .entry))) ⌝ }
 {
     let end = 8 * words;
     let used = end - count as usize;
@@ -148,15 +152,15 @@ fn finish(
     let next = resumed.standing;
     let number = resumed.number;
     if number != 0 {
-        return empty(ended, next, start, number, resumed.place);
+        return empty(kept, next, start, number, resumed.place);
     }
     let from = start + end as u32;
-    feed_whole(ended, next, from, place, &part[used..])
+    feed_whole(kept, next, from, place, &part[used..])
 }
 
 // A part after held bytes.
 fn feed_held(
-    ended: u8,
+    kept: Kept,
     standing: Standing,
     held: [u8; 176],
     count: u32,
@@ -165,7 +169,7 @@ fn feed_held(
     part: &[u8],
 ) -> Stream
     requires { ⌜ Open held count taken (length (now part)) ⌝ }
-    ensures { λ r. ⌜ r ≡ streamOf ended (fedBytes (openOf standing (take count held) taken place) (now (part .entry))) ⌝ }
+    ensures { λ r. ⌜ r ≡ streamOf kept (fedBytes (openOf standing (take count held) taken place) (now (part .entry))) ⌝ }
 {
     let at = count as usize;
     let len = part.len();
@@ -175,7 +179,7 @@ fn feed_held(
     let words = rdp_words::whole_words(&filled[..total]);
     if words == 0 {
         return assemble(
-            ended,
+            kept,
             standing,
             filled,
             count + len as u32,
@@ -185,7 +189,7 @@ fn feed_held(
         );
     }
     finish(
-        ended,
+        kept,
         standing,
         held,
         count,
@@ -200,24 +204,27 @@ fn feed_held(
 // A part for which there is room.
 fn feed_some(before: Stream, part: &[u8]) -> Stream
     requires { ⌜ (before .number ≡ 0) × Open (before .held) (before .«held_count») (before .taken) (length (now part)) ⌝ }
-    ensures { λ r. ⌜ r ≡ streamOf (before .ended) (fedBytes (feedingOf before) (now (part .entry))) ⌝ }
+    ensures { λ r. ⌜ r ≡ streamOf (keptIn before) (fedBytes (feedingOf before) (now (part .entry))) ⌝ }
 {
-    let ended = before.ended;
+    let kept = Kept {
+        ended: before.ended,
+        spare: before.spare,
+    };
     let count = before.held_count;
     let taken = before.taken;
     let place = before.place;
     let standing = standing_of(before);
     if count == 0 {
-        return feed_whole(ended, standing, taken, place, part);
+        return feed_whole(kept, standing, taken, place, part);
     }
     let held = before.held;
-    feed_held(ended, standing, held, count, taken, place, part)
+    feed_held(kept, standing, held, count, taken, place, part)
 }
 
 // Part after part of what the record has room for; then 1.
 pub fn feed_open(before: Stream, portion: &[u8]) -> Stream
     requires { ⌜ (before .number ≡ 0) × Open (before .held) (before .«held_count») (before .taken) 0 ⌝ }
-    ensures { λ r. ⌜ r ≡ streamOf (before .ended) (fedBytes (feedingOf before) (now (portion .entry))) ⌝ }
+    ensures { λ r. ⌜ r ≡ streamOf (keptIn before) (fedBytes (feedingOf before) (now (portion .entry))) ⌝ }
 {
     let len = portion.len();
     let fed = least(room_of(before.taken), len);

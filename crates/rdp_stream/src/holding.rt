@@ -40,8 +40,8 @@ fn zero_from(bytes: &[u8], from: usize) -> bool
 }
 
 // Whether the numbers of a record are such that these calls cannot have left them.
-pub fn counts_damaged(held: u32, taken: u32, number: u32) -> bool
-    ensures { λ r. ⌜ r ≡ countsDamaged held taken number ⌝ }
+pub fn counts_damaged(held: u32, taken: u32, number: u32, waited: u32) -> bool
+    ensures { λ r. ⌜ r ≡ countsDamaged held taken number waited ⌝ }
 {
     if 32768 < taken {
         return true;
@@ -49,7 +49,7 @@ pub fn counts_damaged(held: u32, taken: u32, number: u32) -> bool
     if taken < held {
         return true;
     }
-    ((taken - held) % 8 != 0) | (9 < number)
+    ((taken - held) % 8 != 0) | ((9 < number) | (204_800 < waited))
 }
 
 // Whether the held bytes of a record are such that these calls cannot have left them.

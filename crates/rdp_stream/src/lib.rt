@@ -10,7 +10,7 @@ use rdp_command::Answer;
 
 // What is known of the list so far: the words that last set the registers, the held bytes of a command that is not complete, zero past them, their number,
 // the bytes taken, a remembered refusal, 0 where there is none, and its place, the hazards, of which the low four bits count, and whether a Sync Full has
-// come, 0 where not. A fresh record is all zero.
+// come, 0 where not, two bytes that mean nothing and stay, and the cycles that the commands accepted have waited (#105). A fresh record is all zero.
 #[repr(C)]
 pub struct Stream {
     pub words: [u64; 32],
@@ -21,6 +21,15 @@ pub struct Stream {
     pub place: u32,
     pub hazards: u8,
     pub ended: u8,
+    pub spare: u16,
+    pub waited: u32,
+}
+
+// What a call keeps of a record: whether a Sync Full has come, as a number, and the bytes that mean nothing.
+#[repr(C)]
+pub struct Kept {
+    pub ended: u8,
+    pub spare: u16,
 }
 
 // The record after a call, and the call's answer.
@@ -31,8 +40,8 @@ pub struct Fed {
 }
 
 // Whether one of the reasons of 28 holds, by the held bytes and the numbers of a record.
-fn is_damaged(held: [u8; 176], count: u32, taken: u32, number: u32) -> bool
-    ensures { λ r. ⌜ r ≡ damagedIn held count taken number ⌝ }
+fn is_damaged(held: [u8; 176], count: u32, taken: u32, number: u32, waited: u32) -> bool
+    ensures { λ r. ⌜ r ≡ damagedIn held count taken number waited ⌝ }
 {
     if 175 < count {
         return true;
@@ -40,7 +49,7 @@ fn is_damaged(held: [u8; 176], count: u32, taken: u32, number: u32) -> bool
     if holding::bytes_damaged(&held, count as usize) {
         return true;
     }
-    holding::counts_damaged(count, taken, number)
+    holding::counts_damaged(count, taken, number, waited)
 }
 
 // A record as it stands, with an answer.
@@ -60,7 +69,7 @@ pub fn feed_value(before: Stream, portion: &[u8]) -> Fed
 {
     let held = before.held;
     let number = before.number;
-    if is_damaged(held, before.held_count, before.taken, number) {
+    if is_damaged(held, before.held_count, before.taken, number, before.waited) {
         return answer_with(before, 28, 0);
     }
     if number != 0 {
@@ -78,7 +87,7 @@ pub fn close_value(before: Stream) -> Fed
 {
     let held = before.held;
     let number = before.number;
-    if is_damaged(held, before.held_count, before.taken, number) {
+    if is_damaged(held, before.held_count, before.taken, number, before.waited) {
         return answer_with(before, 28, 0);
     }
     if number != 0 {

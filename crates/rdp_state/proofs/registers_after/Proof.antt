@@ -20,12 +20,12 @@ registers-of-requires c κs = search needs
 
 returns : tie.Need-returns
 returns c =
-    let f = c .before in
+    let f = c .before .before in
     let e = f .before .before .check .ensures in
     let list = f .before .before .before .before .args .list .now in
     let registers =
     c .registers-of .ensures ∙
-    registers-final list (f .before .end-of .result) (f .replay-from .result) (f .replay-from .ensures) ∙
+    registers-final list (f .before .end-of .result) (f .replay-from .result .words) (f .replay-from .ensures .0) ∙
     ap (final list) (f .before .end-of .ensures ∙ (λ i. endOf (e i .number) (e i .place))) ∙
     outcome-registers 4096 list in
     λ i. record { number = e i .number; place = e i .place; hazards = e i .hazards; registers = registers i }

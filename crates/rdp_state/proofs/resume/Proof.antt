@@ -26,12 +26,13 @@ replay-from-requires c κs = search needs
 
 returns : tie.Need-returns
 returns c =
-    let e = c .before in
+    let r = c .before in
+    let e = r .before in
     let k = e .before in
     let s = k .before .before .before in
     let b = s .args .before in
     let long : length (b .words) ≡ 32 = search (needs, s .good .0 .1 .1 .0) in
-    resumed-is b long (s .args .bytes .now) _ (k .check-from .ensures) _ (e .end-of .ensures) _ (c .replay-from .ensures)
+    resumed-is b long (s .args .bytes .now) _ (k .check-from .ensures) _ (e .end-of .ensures) _ (r .replay-from .ensures)
 
 pub resume-spec : {M : Type 1} → statement M
 resume-spec =

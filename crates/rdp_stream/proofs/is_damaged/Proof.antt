@@ -8,7 +8,7 @@ use Rattle.rdp_stream.proofs.is_damaged.Statement.{statement}
 use Rattle.rdp_stream.proofs.is_damaged.Tie as tie
 
 returns : tie.Need-returns
-returns c = rw (← damaged-by (c .before .args .t1) (c .before .args .count) (c .before .args .taken) (c .before .args .number), lt-ltb _ _ (c .if1 .taken))
+returns c = rw (← damaged-by (c .before .args .t1) (c .before .args .count) (c .before .args .taken) (c .before .args .number) (c .before .args .waited), lt-ltb _ _ (c .if1 .taken))
 
 slice-aggregate-bytes-damaged : tie.Need-slice-aggregate-bytes-damaged
 slice-aggregate-bytes-damaged c =
@@ -24,7 +24,7 @@ returns-2 : tie.Need-returns-2
 returns-2 c =
     let k = c .before .before .before in
     let a = k .before .args in
-    rw (← damaged-by (a .t1) (a .count) (a .taken) (a .number), le-ltb _ _ (k .if1 .left), ← c .before .bytes-damaged .ensures, c .if2 .taken)
+    rw (← damaged-by (a .t1) (a .count) (a .taken) (a .number) (a .waited), le-ltb _ _ (k .if1 .left), ← c .before .bytes-damaged .ensures, c .if2 .taken)
 
 counts-damaged-requires : tie.Need-counts-damaged-requires
 counts-damaged-requires c κs = search needs
@@ -33,7 +33,7 @@ returns-3 : tie.Need-returns-3
 returns-3 c =
     let k = c .before .before .before .before in
     let a = k .before .args in
-    rw (← damaged-by (a .t1) (a .count) (a .taken) (a .number), le-ltb _ _ (k .if1 .left), ← c .before .before .bytes-damaged .ensures, c .before .if2 .left)
+    rw (← damaged-by (a .t1) (a .count) (a .taken) (a .number) (a .waited), le-ltb _ _ (k .if1 .left), ← c .before .before .bytes-damaged .ensures, c .before .if2 .left)
     (c .counts-damaged .ensures)
 
 pub is-damaged-spec : {M : Type 1} → statement M

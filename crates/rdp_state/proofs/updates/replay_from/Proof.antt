@@ -12,16 +12,16 @@ use Rattle.rdp_state.proofs.updates.replay_from.Statement.{statement}
 use Rattle.rdp_state.proofs.updates.replay_from.Tie as tie
 
 abbrev Inv-loop : tie.InvT-loop
-Inv-loop list end words unread q₀ at₀ q at = Replayed list end words unread q₀ q at
+Inv-loop before list end words unread q₀ waited₀ at₀ q waited at = Replayed list end words unread q₀ before q waited at
 
 abbrev μ-loop : tie.MeasureT-loop
-μ-loop list end words unread q₀ at₀ q at = words - at
+μ-loop before list end words unread q₀ waited₀ at₀ q waited at = words - at
 
 array-read-unread : tie.Need-array-read-unread Inv-loop μ-loop
 array-read-unread c = search needs
 
 loop-holds : tie.Need-loop-holds Inv-loop μ-loop
-loop-holds c = first _ _ _ _ _ (search needs) refl refl
+loop-holds c = first _ _ _ _ _ _ (search needs) refl refl
 
 head-at-requires : tie.Need-head-at-requires Inv-loop μ-loop
 head-at-requires c κs = search needs
@@ -64,20 +64,24 @@ mul-q c = record { fits = omega (arith, slot-fits c) }
 array-write-q-2 : tie.Need-array-write-q-2 Inv-loop μ-loop
 array-write-q-2 c = slot-fits c
 
+add-wait-requires : tie.Need-add-wait-requires Inv-loop μ-loop
+add-wait-requires c κs = search needs
+
 loop-less : tie.Need-loop-less Inv-loop μ-loop
 loop-less c =
-    let i = c .before .before in
+    let i = c .before .before .before in
     let h = i .before .before in
     let t = h .before in
     falls (t .before .loop .inv) (t .loop-test .taken) _ (ap (λ x. x .number) (h .head-at .ensures)) _ (i .before .words-of .ensures) (i .if1 .left)
 
 loop-again : tie.Need-loop-again Inv-loop μ-loop
 loop-again c =
-    let i = c .before .before in
+    let s = c .before in
+    let i = s .before .before in
     let h = i .before .before in
     let t = h .before in
     again (t .before .loop .inv) (t .loop-test .taken) _ (ap (λ x. x .number) (h .head-at .ensures)) _ (i .before .words-of .ensures) (i .if1 .left) _ _
-    (c .before .word-at .ensures) (c .slot-of .ensures)
+    (s .before .word-at .ensures) (s .slot-of .ensures) _ (c .add-wait .ensures)
 
 array-write-q-3 : tie.Need-array-write-q-3 Inv-loop μ-loop
 array-write-q-3 c = omega (arith, c .before .loop .inv .long)
@@ -102,6 +106,7 @@ replay-from-spec =
     slot-of-requires
     mul-q
     array-write-q-2
+    add-wait-requires
     loop-less
     loop-again
     array-write-q-3

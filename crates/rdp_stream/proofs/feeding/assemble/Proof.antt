@@ -19,6 +19,8 @@ returns c =
       taken = a .taken;
       number = a .number;
       place = a .place;
+      spare = a .kept .spare;
+      waited = a .standing .waited;
     }
 
 pub assemble-spec : {M : Type 1} → statement M

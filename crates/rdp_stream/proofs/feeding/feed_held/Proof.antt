@@ -24,7 +24,7 @@ slice-aggregate-whole-words : tie.Need-slice-aggregate-whole-words
 slice-aggregate-whole-words c =
     let s = c .before .before .before .before in
     let a = s .args in
-    total-filled (a .standing) (a .ended) (a .taken) (a .place) (a .count) (a .held) (a .part .now) (s .pre) _ (c .before .before .least .ensures) _ (c .before .fill .ensures)
+    total-filled (a .standing) (a .kept) (a .taken) (a .place) (a .count) (a .held) (a .part .now) (s .pre) _ (c .before .before .least .ensures) _ (c .before .fill .ensures)
 
 whole-words-requires : tie.Need-whole-words-requires
 whole-words-requires c κs = search needs
@@ -50,7 +50,7 @@ returns c =
     let a = s .args in
     let k = c .before .before .before .before in
     c .assemble .ensures ∙
-    held-all (a .standing) (a .ended) (a .taken) (a .place) (a .count) (a .held) (a .part .now) (s .pre) _ (k .before .least .ensures) _ (k .fill .ensures) _
+    held-all (a .standing) (a .kept) (a .taken) (a .place) (a .count) (a .held) (a .part .now) (s .pre) _ (k .before .least .ensures) _ (k .fill .ensures) _
     (c .before .before .whole-words .ensures .0) (c .before .if1 .taken)
 
 finish-requires : tie.Need-finish-requires
@@ -58,7 +58,7 @@ finish-requires c κs =
     let s = c .before .before .before .before .before .before in
     let a = s .args in
     let k = c .before .before .before in
-    completes (a .standing) (a .ended) (a .taken) (a .place) (a .count) (a .held) (a .part .now) (s .pre) _ (k .before .least .ensures) _ (k .fill .ensures) _
+    completes (a .standing) (a .kept) (a .taken) (a .place) (a .count) (a .held) (a .part .now) (s .pre) _ (k .before .least .ensures) _ (k .fill .ensures) _
     (c .before .whole-words .ensures .0) (c .if1 .left)
 
 returns-2 : tie.Need-returns-2

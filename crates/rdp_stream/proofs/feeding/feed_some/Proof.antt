@@ -3,7 +3,7 @@ use borrow.Author.Needs.{needs}
 use mathlib.Core.Path.{ap, sym, _∙_}
 use lib.ListN.{take}
 use Rattle.rdp_stream.specs.Portions.{fedBytes}
-use Rattle.rdp_stream.specs.Records.{streamOf}
+use Rattle.rdp_stream.specs.Records.{keptIn, streamOf}
 use Rattle.rdp_stream.specs.Steps.{openOf}
 use Rattle.rdp_stream.proofs.RecordLaws.{opened}
 use Rattle.rdp_stream.proofs.feeding.feed_some.Statement.{statement}
@@ -21,8 +21,8 @@ returns c =
     let a = s .args in
     let r = a .before in
     c .feed-whole .ensures ∙
-    (λ i. streamOf (r .ended) (fedBytes (openOf (c .before .before .standing-of .ensures i) (take (sym (c .before .if1 .taken) i) (r .held)) (r .taken) (r .place)) (a .part .now))) ∙
-    ap (λ x. streamOf (r .ended) (fedBytes x (a .part .now))) (sym (opened r (s .pre .0)))
+    (λ i. streamOf (keptIn r) (fedBytes (openOf (c .before .before .standing-of .ensures i) (take (sym (c .before .if1 .taken) i) (r .held)) (r .taken) (r .place)) (a .part .now))) ∙
+    ap (λ x. streamOf (keptIn r) (fedBytes x (a .part .now))) (sym (opened r (s .pre .0)))
 
 feed-held-requires : tie.Need-feed-held-requires
 feed-held-requires c κs = search needs
@@ -33,8 +33,8 @@ returns-2 c =
     let a = s .args in
     let r = a .before in
     c .feed-held .ensures ∙
-    (λ i. streamOf (r .ended) (fedBytes (openOf (c .before .before .before .standing-of .ensures i) (take (r .«held_count») (r .held)) (r .taken) (r .place)) (a .part .now))) ∙
-    ap (λ x. streamOf (r .ended) (fedBytes x (a .part .now))) (sym (opened r (s .pre .0)))
+    (λ i. streamOf (keptIn r) (fedBytes (openOf (c .before .before .before .standing-of .ensures i) (take (r .«held_count») (r .held)) (r .taken) (r .place)) (a .part .now))) ∙
+    ap (λ x. streamOf (keptIn r) (fedBytes x (a .part .now))) (sym (opened r (s .pre .0)))
 
 pub feed-some-spec : {M : Type 1} → statement M
 feed-some-spec =

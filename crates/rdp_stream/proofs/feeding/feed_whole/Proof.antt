@@ -12,7 +12,7 @@ returns : tie.Need-returns
 returns c =
     let s = c .before .before .before in
     let a = s .args in
-    c .hold-from .ensures ∙ short-fed (a .standing) (a .ended) (a .taken) (a .place) (a .part .now) (s .pre .0) (s .pre .1) (c .before .if1 .taken)
+    c .hold-from .ensures ∙ short-fed (a .standing) (a .kept) (a .taken) (a .place) (a .part .now) (s .pre .0) (s .pre .1) (c .before .if1 .taken)
 
 resume-requires : tie.Need-resume-requires
 resume-requires c κs = search needs
@@ -21,14 +21,14 @@ empty-requires : tie.Need-empty-requires
 empty-requires c κs =
     let s = c .before .before .before .before .before in
     let a = s .args in
-    refused-room (a .standing) (a .ended) (a .taken) (a .place) (a .part .now) (s .pre .0) (s .pre .1) _ (c .before .before .resume .ensures)
+    refused-room (a .standing) (a .kept) (a .taken) (a .place) (a .part .now) (s .pre .0) (s .pre .1) _ (c .before .before .resume .ensures)
 
 returns-2 : tie.Need-returns-2
 returns-2 c =
     let s = c .before .before .before .before .before .before in
     let a = s .args in
     c .empty .ensures ∙
-    refused-fed (a .standing) (a .ended) (a .taken) (a .place) (a .part .now) (s .pre .0) (s .pre .1) _ (c .before .before .before .resume .ensures) (c .before .if2 .taken)
+    refused-fed (a .standing) (a .kept) (a .taken) (a .place) (a .part .now) (s .pre .0) (s .pre .1) _ (c .before .before .before .resume .ensures) (c .before .if2 .taken)
 
 cast-from : tie.Need-cast-from
 cast-from c = search needs
@@ -41,8 +41,8 @@ hold-from-requires-2 c κs =
     let s = c .before .before .before .before .before in
     let a = s .args in
     let q = c .before .before .resume .ensures in (
-      held-inside (a .standing) (a .ended) (a .taken) (a .place) (a .part .now) (s .pre .0) (s .pre .1) _ q (c .if2 .left),
-      (held-few (a .standing) (a .ended) (a .taken) (a .place) (a .part .now) (s .pre .0) (s .pre .1) _ q (c .if2 .left), s .pre .1),
+      held-inside (a .standing) (a .kept) (a .taken) (a .place) (a .part .now) (s .pre .0) (s .pre .1) _ q (c .if2 .left),
+      (held-few (a .standing) (a .kept) (a .taken) (a .place) (a .part .now) (s .pre .0) (s .pre .1) _ q (c .if2 .left), s .pre .1),
     )
 
 returns-3 : tie.Need-returns-3
@@ -50,7 +50,7 @@ returns-3 c =
     let s = c .before .before .before .before .before .before in
     let a = s .args in
     c .hold-from2 .ensures ∙
-    held-fed (a .standing) (a .ended) (a .taken) (a .place) (a .part .now) (s .pre .0) (s .pre .1) _ (c .before .before .before .resume .ensures) (c .before .if2 .left)
+    held-fed (a .standing) (a .kept) (a .taken) (a .place) (a .part .now) (s .pre .0) (s .pre .1) _ (c .before .before .before .resume .ensures) (c .before .if2 .left)
 
 pub feed-whole-spec : {M : Type 1} → statement M
 feed-whole-spec = tie.close (tie.spec hold-from-requires returns resume-requires empty-requires returns-2 cast-from mul-from hold-from-requires-2 returns-3)

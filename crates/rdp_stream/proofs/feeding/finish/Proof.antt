@@ -27,7 +27,7 @@ slice-aggregate-resume : tie.Need-slice-aggregate-resume
 slice-aggregate-resume c =
     let s = c .before .before in
     let a = s .args in
-    sym (command-long (a .standing) (a .ended) (a .taken) (a .place) (a .count) (a .words) (a .held) (a .t7) (a .part .now) (s .pre))
+    sym (command-long (a .standing) (a .kept) (a .taken) (a .place) (a .count) (a .words) (a .held) (a .t7) (a .part .now) (s .pre))
 
 resume-requires : tie.Need-resume-requires
 resume-requires c κs = search needs
@@ -36,14 +36,14 @@ empty-requires : tie.Need-empty-requires
 empty-requires c κs =
     let s = c .before .before .before .before .before in
     let a = s .args in
-    judged-room (a .standing) (a .ended) (a .taken) (a .place) (a .count) (a .words) (a .held) (a .t7) (a .part .now) (s .pre) _ (c .before .before .resume .ensures)
+    judged-room (a .standing) (a .kept) (a .taken) (a .place) (a .count) (a .words) (a .held) (a .t7) (a .part .now) (s .pre) _ (c .before .before .resume .ensures)
 
 returns : tie.Need-returns
 returns c =
     let s = c .before .before .before .before .before .before in
     let a = s .args in
     c .empty .ensures ∙
-    judged-refused (a .standing) (a .ended) (a .taken) (a .place) (a .count) (a .words) (a .held) (a .t7) (a .part .now) (s .pre) _ (c .before .before .before .resume .ensures) (c .before .if1 .taken)
+    judged-refused (a .standing) (a .kept) (a .taken) (a .place) (a .count) (a .words) (a .held) (a .t7) (a .part .now) (s .pre) _ (c .before .before .before .resume .ensures) (c .before .if1 .taken)
 
 cast-from : tie.Need-cast-from
 cast-from c = search needs
@@ -69,9 +69,9 @@ returns-2 c =
     let a = s .args in
     let part : List ℕ = a .part .now in
     let q = c .before .before .before .before .resume in
-    judged-accepted (a .standing) (a .ended) (a .taken) (a .place) (a .count) (a .words) (a .held) (a .t7) part (s .pre) _ (q .ensures) (c .before .before .if1 .left) _
+    judged-accepted (a .standing) (a .kept) (a .taken) (a .place) (a .count) (a .words) (a .held) (a .t7) part (s .pre) _ (q .ensures) (c .before .before .if1 .left) _
     (c .feed-whole .ensures ∙
-    ap (λ (x : List ℕ). streamOf (a .ended) (fedBytes (openOf (q .result .standing) [] (a .taken - a .count + 8 * a .words) (a .place)) x)) (part-to-end part (8 * a .words - a .count)))
+    ap (λ (x : List ℕ). streamOf (a .kept) (fedBytes (openOf (q .result .standing) [] (a .taken - a .count + 8 * a .words) (a .place)) x)) (part-to-end part (8 * a .words - a .count)))
 
 pub finish-spec : {M : Type 1} → statement M
 finish-spec =

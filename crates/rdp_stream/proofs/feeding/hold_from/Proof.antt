@@ -43,7 +43,7 @@ returns c =
     let part : List ℕ = a .part .now in
     let n = length part - a .from in
     c .assemble .ensures ∙
-    ap (λ (held : List ℕ). assembled (a .ended) (a .standing) held n (a .taken + length part) 0 (a .place))
+    ap (λ (held : List ℕ). assembled (a .kept) (a .standing) held n (a .taken + length part) 0 (a .place))
     (c .before .fill .ensures ∙ ap (λ (xs : List ℕ). paste (replicate 176 0) 0 xs n) (part-to-end part (a .from)))
 
 pub hold-from-spec : {M : Type 1} → statement M
