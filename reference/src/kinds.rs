@@ -10,6 +10,19 @@ pub enum Sync {
     Full,
 }
 
+impl Sync {
+    /// The wait in cycles: "25 (Load), 33 (Tile), 50 (Pipe)", and by request #105
+    /// "Sync Full nothing".
+    pub fn cycles(self) -> u32 {
+        match self {
+            Sync::Load => 25,
+            Sync::Tile => 33,
+            Sync::Pipe => 50,
+            Sync::Full => 0,
+        }
+    }
+}
+
 #[derive(Clone, Copy, Debug, PartialEq, Eq)]
 pub enum Kind {
     NoOperation,
@@ -41,6 +54,14 @@ pub fn kind(number: u8) -> Kind {
         }
         0x2D | 0x2E | 0x32 | 0x3A | 0x3D => Kind::Free,
         _ => panic!("a command number has six bits"),
+    }
+}
+
+/// The cycles that the command itself waits.
+pub fn wait(number: u8) -> u32 {
+    match kind(number) {
+        Kind::Sync(sync) => sync.cycles(),
+        _ => 0,
     }
 }
 

@@ -1,13 +1,14 @@
 //! The answers as the C functions give them, each in one 64-bit number: bits
 //! 63:56 the number, bits 31:0 the place (words written, at 0), bits 55:32 the
 //! third number (cause for check, cycles for repair, command number for decode,
-//! sync for step, else 0). Only the words of a command are a plain count.
+//! sync for step, total waiting for streams, else 0). Only the words of a command are
+//! a plain count.
 
 use crate::answer::{Ground, Refusal};
 use crate::kinds::{words_from, Sync};
 use crate::marks::Marks;
 use crate::record::{self, Record};
-use crate::stream::{Stream, Told};
+use crate::stream::{Stream, Told, DAMAGED};
 use crate::{check, decode, draw, encode, repair};
 
 /// An answer in its three parts.
@@ -47,7 +48,7 @@ fn accepted(place: usize, third: u32) -> u64 {
     packed(0, place, third)
 }
 
-/// A refusal's third number is 0, but for the check's.
+/// A refusal's third number is 0, but for the check's and a stream's.
 fn refused(refusal: Refusal) -> u64 {
     packed(refusal.ground as u8, refusal.place, 0)
 }
@@ -133,10 +134,6 @@ fn sync_number(sync: Sync) -> u32 {
     }
 }
 
-fn told(answer: Told) -> u64 {
-    packed(answer.number as u8, answer.place as usize, 0)
-}
-
 /// `lanyardrove_stream_feed`.
 pub fn feed(record: &mut Record, portion: &[u8]) -> u64 {
     called(record, |stream| stream.feed(portion))
@@ -155,5 +152,11 @@ fn called(record: &mut Record, call: impl FnOnce(&mut Stream) -> Told) -> u64 {
     if stream != before {
         record::pack(&stream, record);
     }
-    told(answer)
+    told(answer, stream.total)
+}
+
+/// The third number is the total after the call, but 0 at 28.
+fn told(answer: Told, total: u32) -> u64 {
+    let third = if answer.number == DAMAGED { 0 } else { total };
+    packed(answer.number as u8, answer.place as usize, third)
 }

@@ -20,8 +20,9 @@ pub const NUMBER: usize = TAKEN + 4;
 pub const PLACE: usize = NUMBER + 4;
 pub const HAZARDS: usize = PLACE + 4;
 pub const ENDED: usize = HAZARDS + 1;
-/// Bytes from here on belong to no part.
-pub const END: usize = ENDED + 1;
+/// No call reads these two bytes, and every call leaves them as they are.
+pub const SPARE: usize = ENDED + 1;
+pub const TOTAL: usize = SPARE + 2;
 
 /// A record as numbers.
 pub type Record = [u64; NUMBERS];
@@ -61,6 +62,7 @@ pub fn unpack(record: &Record) -> Stream {
             number: number_at(&bytes, NUMBER),
             place: number_at(&bytes, PLACE),
         },
+        total: number_at(&bytes, TOTAL),
         ..Stream::default()
     };
     stream.state.marks = Marks::of_sum(u32::from(bytes[HAZARDS]));
@@ -77,6 +79,7 @@ pub fn pack(stream: &Stream, record: &mut Record) {
     put(TAKEN, stream.taken as u32);
     put(NUMBER, stream.remembered.number);
     put(PLACE, stream.remembered.place);
+    put(TOTAL, stream.total);
     bytes[HELD..HELD_COUNT].copy_from_slice(&stream.room);
     bytes[HAZARDS] = stream.state.marks.sum() as u8;
     bytes[ENDED] = stream.state.after_sync_full.into();

@@ -44,12 +44,7 @@ impl Add {
 
     /// "25 for each Load taken out, 33 for each Tile and 50 for each Pipe."
     pub fn cycles(self) -> u32 {
-        match self {
-            Add::Nothing => 0,
-            Add::Load => 25,
-            Add::Tile => 33,
-            Add::Pipe => 50,
-        }
+        self.sync().map_or(0, Sync::cycles)
     }
 
     /// "Adds are words 0x26, 0x27 or 0x28 in bits 61:56, all other bits 0."

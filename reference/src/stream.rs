@@ -1,8 +1,9 @@
-//! Request #103: a list that arrives in portions, taken byte by byte.
+//! Request #103: a list that arrives in portions, taken byte by byte. Request #105:
+//! its waiting, kept up to date.
 
 use crate::answer::Ground;
 use crate::check::{State, Syncs, CHECK_LIMIT};
-use crate::kinds::words;
+use crate::kinds::{wait, words};
 use crate::words::{command_number, word_at, WORD_BYTES};
 
 /// "The bytes of a command not yet complete (at most 175)."
@@ -15,7 +16,10 @@ pub const ROOM: usize = MOST_HELD + 1;
 pub const DAMAGED: u32 = 28;
 
 /// How many reasons 28 has.
-pub const REASONS: usize = 7;
+pub const REASONS: usize = 8;
+
+/// "28 also for a record whose total is above 204,800."
+pub const MOST_TOTAL: u32 = 204_800;
 
 /// The last of the grounds that these calls remember, which start with 1.
 const LAST_REMEMBERED: u32 = Ground::SyncPipeMissing as u32;
@@ -31,6 +35,8 @@ pub struct Stream {
     /// "A refusal is remembered." Its number is 0 before there is one.
     pub remembered: Told,
     pub state: State,
+    /// Request #105: the cycles that the syncs among the accepted commands wait.
+    pub total: u32,
 }
 
 /// A call's answer.
@@ -56,6 +62,7 @@ impl Default for Stream {
             taken: 0,
             remembered: Told::default(),
             state: State::default(),
+            total: 0,
         }
     }
 }
@@ -127,6 +134,7 @@ impl Stream {
             return Err(self.refuse(ground, place));
         }
         self.state.run(first_word);
+        self.total += wait(number);
         self.let_go();
         Ok(())
     }
@@ -169,6 +177,7 @@ impl Stream {
             before.is_none(),
             before.is_some_and(|before| !before.is_multiple_of(WORD_BYTES)),
             self.remembered.number > LAST_REMEMBERED,
+            self.total > MOST_TOTAL,
         ]
     }
 }

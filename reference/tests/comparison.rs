@@ -5,8 +5,8 @@ use reference::comparison::calls::Function;
 use reference::comparison::run::{run, Difference};
 use reference::comparison::side::{Reference, Side};
 use reference::kinds::{commands, is_draw, is_textured_draw};
-use reference::record::{pack, unpack, Record};
-use reference::stream::ROOM;
+use reference::record::{pack, unpack, Record, NUMBERS};
+use reference::stream::{MOST_TOTAL, ROOM};
 use reference::words::command_number;
 
 const SEED: u64 = 7;
@@ -86,6 +86,14 @@ enum Fault {
     RegisterLost,
     /// A refusal by the limit takes a word.
     LimitTaken,
+    /// A Sync Full waits as long as a Sync Pipe.
+    FullWaits,
+    /// The total at 28 is the record's.
+    TotalAtDamage,
+    /// A total just above the limit is taken for a sound one.
+    TotalUnseen,
+    /// The spare bytes are cleared.
+    SpareCleared,
 }
 
 /// The reference with one fault.
@@ -249,6 +257,13 @@ fn faulty_feed(fault: Fault, record: &mut Record, portion: &[u8]) -> u64 {
             stream.state.registers = Default::default()
         }
         Fault::LimitTaken if refused && stream.remembered.number == 1 => stream.taken += 8,
+        Fault::FullWaits if stream.state.after_sync_full && !before.state.after_sync_full => {
+            stream.total += 50
+        }
+        Fault::TotalAtDamage if ground(answer) == 28 => {
+            return answer | u64::from(stream.total & 0xFF_FFFF) << 32
+        }
+        Fault::SpareCleared => record[NUMBERS - 1] &= 0xFFFF_FFFF_0000_FFFF,
         _ => return answer,
     }
     pack(&stream, record);
@@ -277,6 +292,7 @@ fn is_overlooked(fault: Fault, record: &Record) -> bool {
             stream.room[ROOM - 1] = 0;
             !stream.is_damaged()
         }
+        Fault::TotalUnseen => stream.total == MOST_TOTAL + 1,
         _ => false,
     }
 }
@@ -323,6 +339,10 @@ fn every_fault_is_found_in_its_function() {
         (Fault::ClosingOrder, Function::Stream),
         (Fault::RegisterLost, Function::Stream),
         (Fault::LimitTaken, Function::Stream),
+        (Fault::FullWaits, Function::Stream),
+        (Fault::TotalAtDamage, Function::Stream),
+        (Fault::TotalUnseen, Function::Stream),
+        (Fault::SpareCleared, Function::Stream),
     ];
     for (fault, function) in faults {
         assert_eq!(found(fault).call.function, function, "{fault:?}");

@@ -2,11 +2,13 @@
 
 mod common;
 
-use common::{after_setup, command, whole, C, L, N, R, S, SYNC_FULL, SYNC_PIPE};
+use common::{after_setup, command, whole, C, L, N, R, S};
+use common::{SYNC_FULL, SYNC_LOAD, SYNC_PIPE, SYNC_TILE};
 use reference::check::check;
 use reference::comparison::portions::Damage;
 use reference::comparison::rng::Rng;
-use reference::record::{bytes_of as record_bytes, pack, unpack, NUMBERS};
+use reference::packed;
+use reference::record::{bytes_of as record_bytes, pack, record_of, unpack, NUMBERS, SPARE};
 use reference::stream::{Stream, Told, DAMAGED, REASONS};
 use reference::words::bytes_of;
 
@@ -117,7 +119,7 @@ fn triangle_after(bytes: usize) -> Stream {
 
 #[test]
 fn each_reason_of_28_is_refused_first_and_leaves_the_record() {
-    let reasons: [fn(&mut Stream); 8] = [
+    let reasons: [fn(&mut Stream); 9] = [
         |stream| stream.held = 176,
         |stream| stream.room[175] = 1,
         |stream| stream.room[0] = 0x0E,
@@ -126,6 +128,7 @@ fn each_reason_of_28_is_refused_first_and_leaves_the_record() {
         |stream| stream.taken += 1,
         |stream| stream.held -= 1,
         |stream| stream.remembered.number = 10,
+        |stream| stream.total = 204_801,
     ];
     for (index, damage) in reasons.iter().enumerate() {
         for number in [0, 9] {
@@ -173,4 +176,72 @@ fn the_comparison_damages_records_in_each_way() {
     }
     assert_eq!(seen, [true; REASONS]);
     assert_eq!(alone[1..], [true; REASONS - 1]);
+}
+
+/// Request #105, "25, 33, 50; Sync Full nothing": the total after each byte.
+#[test]
+fn the_total_is_that_of_the_commands_accepted_so_far() {
+    let list = bytes_of(&[SYNC_LOAD, N, SYNC_TILE, SYNC_PIPE, SYNC_LOAD, SYNC_FULL]);
+    let totals = [0, 25, 25, 58, 108, 133, 133];
+    let mut stream = Stream::default();
+    for (at, byte) in list.iter().enumerate() {
+        assert_eq!(stream.total, totals[at / 8]);
+        stream.feed(&[*byte]);
+    }
+    stream.close();
+    assert_eq!(stream.total, 133);
+}
+
+/// A refused command's wait doesn't count, and the total stays.
+#[test]
+fn a_refusal_leaves_the_total() {
+    let list = bytes_of(&[SYNC_PIPE, SYNC_FULL, SYNC_PIPE]);
+    assert_eq!(ends(&list, 4, 2).total, 50);
+    let list = bytes_of(&[SYNC_TILE, command(0x24)]);
+    assert_eq!(ends(&list, 3, 1).total, 33);
+    assert_eq!(ends(&list[..15], 2, 1).total, 33);
+}
+
+#[test]
+fn the_longest_list_of_pipes_has_the_greatest_total() {
+    let list = bytes_of(&vec![SYNC_PIPE; 4_096]);
+    assert_eq!(ends(&list, 0, 4_096).total, 204_800);
+}
+
+/// A record that is not from a fresh one passes the limit in one call; the next one
+/// gives 28.
+#[test]
+fn the_total_is_by_plain_addition() {
+    let mut stream = Stream {
+        total: 204_800,
+        ..Stream::default()
+    };
+    let list = bytes_of(&[SYNC_PIPE, SYNC_TILE]);
+    assert_eq!(stream.feed(&list), told(0, 2));
+    assert_eq!(stream.total, 204_883);
+    let received = stream.clone();
+    assert_eq!(stream.feed(&[]), told(DAMAGED, 0));
+    assert_eq!(stream.close(), told(DAMAGED, 0));
+    assert_eq!(stream, received);
+}
+
+/// "The third number of feed and close is the record's total after the call, 0 at
+/// 28"; the spare bytes stay.
+#[test]
+fn totals_in_c() {
+    let mut bytes = [0; 8 * NUMBERS];
+    bytes[SPARE..SPARE + 2].copy_from_slice(&[0xAB, 0xCD]);
+    let mut record = record_of(&bytes);
+    let list = bytes_of(&[SYNC_LOAD, SYNC_TILE, command(0x24)]);
+    assert_eq!(packed::feed(&mut record, &list[..15]), 25 << 32 | 1);
+    assert_eq!(packed::feed(&mut record, &list[15..]), 58 << 32 | 2);
+    assert_eq!(packed::close(&mut record), 3 << 56 | 58 << 32 | 2);
+    assert_eq!(packed::feed(&mut record, &list), 3 << 56 | 58 << 32 | 2);
+    let mut bytes = record_bytes(&record);
+    assert_eq!(bytes[SPARE..], [0xAB, 0xCD, 58, 0, 0, 0]);
+    bytes[SPARE + 2..].copy_from_slice(&204_801u32.to_ne_bytes());
+    let mut record = record_of(&bytes);
+    assert_eq!(packed::feed(&mut record, &[]), 28 << 56);
+    assert_eq!(packed::close(&mut record), 28 << 56);
+    assert_eq!(record_bytes(&record), bytes);
 }

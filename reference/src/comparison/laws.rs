@@ -5,10 +5,10 @@
 use crate::check::{check, CHECK_LIMIT};
 use crate::comparison::rng::Rng;
 use crate::comparison::side::Side;
-use crate::kinds::{commands, words_from, Command};
+use crate::kinds::{commands, wait, words_from, Command};
 use crate::packed::Answer;
 use crate::repair::{bytes_of_command, with_plan, Add};
-use crate::words::{command_number, word_at, WORD_BYTES};
+use crate::words::{word_at, WORD_BYTES};
 
 /// Lists of up to this many commands are searched every time.
 const ALWAYS_SEARCHED: usize = 6;
@@ -54,14 +54,8 @@ fn test_written(list: &[u8], written: &[u8], cycles: u32) -> Result<(), String> 
 }
 
 /// The cycles of all Sync Load, Tile and Pipe of a list.
-fn sync_cycles(list: &[u8]) -> u32 {
-    let cycles = |command: Command| match command_number(command.word) {
-        0x26 => 25,
-        0x28 => 33,
-        0x27 => 50,
-        _ => 0,
-    };
-    commands(list).map(cycles).sum()
+pub fn sync_cycles(list: &[u8]) -> u32 {
+    commands(list).map(|command| wait(command.number())).sum()
 }
 
 /// No plan has fewer cycles, and of those with as many the written one is first

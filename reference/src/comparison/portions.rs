@@ -3,14 +3,15 @@
 
 use std::fmt;
 
+use crate::comparison::laws::sync_cycles;
 use crate::comparison::rng::Rng;
 use crate::comparison::side::Side;
 use crate::packed::Answer;
 use crate::record::{bytes_of, record_of, Record, BYTES, ENDED, HAZARDS, HELD, HELD_COUNT};
-use crate::record::{END, NUMBER, NUMBERS, PLACE, TAKEN};
+use crate::record::{NUMBER, NUMBERS, PLACE, SPARE, TAKEN, TOTAL};
 use crate::registers::WORDS;
-use crate::stream::ROOM;
-use crate::words::command_number;
+use crate::stream::{MOST_TOTAL, ROOM};
+use crate::words::{command_number, WORD_BYTES};
 
 /// A guard beside the record.
 const GUARD: Record = [0xA5A5_A5A5_A5A5_A5A5; NUMBERS];
@@ -117,7 +118,7 @@ fn without_words(record: &Record) -> Vec<u8> {
     let mut bytes = bytes_of(record);
     bytes[HAZARDS] &= 15;
     bytes[ENDED] = (bytes[ENDED] != 0).into();
-    bytes[HELD..END].to_vec()
+    bytes[HELD..].to_vec()
 }
 
 /// The words of the registers, sorted: each side has them in an order of its own. Of a
@@ -175,10 +176,9 @@ impl Damage {
         let number = |rng: &mut Rng, at: usize, most: u64| {
             let value = rng.below(most) as u32;
             let any = rng.number() as u32;
-            let value = rng.pick(&[value, value, value, any]);
-            (at..at + 4).zip(value.to_ne_bytes()).collect::<Vec<_>>()
+            number_at(at, rng.pick(&[value, value, value, any]))
         };
-        Damage(match rng.below(8) {
+        Damage(match rng.below(10) {
             0 => number(rng, HELD_COUNT, 180),
             1 => number(rng, TAKEN, 33_000),
             2 => number(rng, NUMBER, 31),
@@ -186,10 +186,12 @@ impl Damage {
             4 => whole_command(rng),
             5 => [number(rng, HELD_COUNT, 24), number(rng, TAKEN, 48)].concat(),
             6 => [number(rng, NUMBER, 10), number(rng, PLACE, 5_000)].concat(),
+            7 => number_at(TOTAL, random_total(rng)),
+            8 => [SPARE, SPARE + 1].map(|at| (at, rng.number() as u8)).into(),
             _ => (0..rng.between(1, 6))
                 .map(|_| {
                     (
-                        rng.between(HELD as u64, END as u64 - 1) as usize,
+                        rng.between(HELD as u64, BYTES as u64 - 1) as usize,
                         rng.number() as u8,
                     )
                 })
@@ -204,6 +206,19 @@ impl Damage {
         }
         *record = record_of(&bytes);
     }
+}
+
+/// The bytes of a number that stands there.
+fn number_at(at: usize, value: u32) -> Vec<(usize, u8)> {
+    (at..at + 4).zip(value.to_ne_bytes()).collect()
+}
+
+/// A total at 28's edge, below it, or any. From the edge a sync leads above it.
+fn random_total(rng: &mut Rng) -> u32 {
+    let near = MOST_TOTAL - rng.below(200) as u32;
+    let below = rng.below(MOST_TOTAL.into()) as u32;
+    let any = rng.number() as u32;
+    rng.pick(&[MOST_TOTAL, MOST_TOTAL, MOST_TOTAL + 1, near, below, any])
 }
 
 /// Held bytes that make a command, or one too few, with counts that fit.
@@ -232,7 +247,7 @@ fn remembering(record: &Record, number: u32, place: u32) -> Record {
 
 /// Tests a side's own records, the registers' words with them: every cutting leaves
 /// the record of one portion, a refusal the one before the refused command, and 28
-/// and repeated refusals leave it alone.
+/// and repeated refusals leave it alone. And every answer has its total.
 pub fn test_record(
     side: &dyn Side,
     rng: &mut Rng,
@@ -240,21 +255,44 @@ pub fn test_record(
     portions: &Portions,
 ) -> Result<(), String> {
     test_cutting(side, list, portions)?;
+    test_totals(side, list, portions)?;
     test_refusal(side, list)?;
     test_kept(side, rng, list, portions)
 }
 
-fn test_cutting(side: &dyn Side, list: &[u8], portions: &Portions) -> Result<(), String> {
+/// The record after the same portions without damage, and the answers.
+fn undamaged(side: &dyn Side, list: &[u8], portions: &Portions) -> (Record, Vec<u64>) {
     let cut = Portions {
         damaged: None,
         ..portions.clone()
     };
     let mut record = [0; NUMBERS];
+    let mut answers = Vec::new();
     cut.walk(list, &mut record, |record, portion| {
-        side.feed(record, portion);
+        answers.push(side.feed(record, portion));
     });
+    (record, answers)
+}
+
+fn test_cutting(side: &dyn Side, list: &[u8], portions: &Portions) -> Result<(), String> {
+    let (record, _) = undamaged(side, list, portions);
     if record != record_after(side, list) {
         return Err("a cutting leaves another record than one portion".to_string());
+    }
+    Ok(())
+}
+
+/// Request #105: "from a fresh one it equals, after each operation, the sum over the
+/// commands accepted so far". These are the ones before the answer's place.
+fn test_totals(side: &dyn Side, list: &[u8], portions: &Portions) -> Result<(), String> {
+    let (mut record, mut answers) = undamaged(side, list, portions);
+    answers.push(side.close(&mut record));
+    let holds = |answer: u64| {
+        let Answer { place, third, .. } = Answer::unpack(answer);
+        third == sync_cycles(&list[..WORD_BYTES * place as usize])
+    };
+    if !answers.into_iter().all(holds) {
+        return Err("a total is not the sum over the accepted commands".to_string());
     }
     Ok(())
 }
