@@ -137,6 +137,12 @@ uint8_t *image_rgb(const Image *image, const Memory *memory);
 uint8_t *image_png(const Image *image, const uint8_t *rgb, size_t *length);
 uint8_t *image_ppm(const Image *image, const uint8_t *rgb, size_t *length);
 
+/* -- values.c: the values of options ------------------------------------ */
+
+bool take_bytes(const char *text, uint64_t *number);
+bool take_address(const char *text, uint64_t *number);
+bool take_image(const char *text, Image *image);
+
 /* -- options.c: arguments and messages ---------------------------------- */
 
 typedef struct {
@@ -144,26 +150,43 @@ typedef struct {
     char **paths; /* the lists */
     int count;
     const char *output; /* NULL where -o is not given */
-    bool quiet, has_memory, has_image;
+    bool help, quiet, has_memory, has_image;
     uint64_t memory, start;
     Image image;
 } Arguments;
 
+/* The commands of the tool, a bit each. */
+enum { OF_CHECK = 1, OF_REPAIR = 2, OF_DUMP = 4, OF_DRAW = 8, OF_REPORT = 16, OF_ALL = 31 };
+
 /* A command of the tool. */
 typedef struct {
+    unsigned command; /* its bit */
     const char *name;
     int (*run)(const Arguments *arguments);
-    const char *letters; /* the first letters of its options, but for --help, which all have */
-    int least, most;     /* lists that it takes */
+    int least, most; /* lists that it takes */
+    const char *help;
 } Entry;
+
+/* An option of commands of the tool. */
+typedef struct {
+    unsigned commands; /* the bits of those that have it */
+    const char *name;
+    char letter;       /* 0 where it has none */
+    const char *value; /* what the help calls its value; NULL where it takes none */
+    bool (*set)(Arguments *arguments, const char *value); /* false where the value is wrong; NULL for the help */
+    const char *expected; /* what a value that is wrong is not */
+    const char *text;     /* what the help says, in lines */
+} Option;
 
 void complain(const char *format, ...) __attribute__((format(printf, 1, 2)));
 int usage_error(const char *command);
 int run_entry(const Entry *entry, int argc, char **argv);
+const Option *option_at(unsigned command, size_t index);
 
 /* -- help.c ------------------------------------------------------------- */
 
-void print_help(FILE *stream, const char *command);
+void print_overview(FILE *stream);
+void print_help(FILE *stream, const Entry *entry);
 
 /* -- the commands ------------------------------------------------------- */
 

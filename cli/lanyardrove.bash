@@ -10,10 +10,10 @@ _lanyardrove()
         return
     fi
     case ${COMP_WORDS[1]} in
-    check) options="-q --quiet --help" ;;
-    repair|report) options="-o --output --help" ;;
-    dump) options="--help" ;;
-    draw) options="--memory --start --image -o --output --help" ;;
+    check) options="-q --quiet -h --help" ;;
+    repair|report) options="-o --output -h --help" ;;
+    dump) options="-h --help" ;;
+    draw) options="--memory --start --image -o --output -h --help" ;;
     *) return ;;
     esac
     case $previous in

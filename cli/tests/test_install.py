@@ -82,23 +82,43 @@ def completion_offers_commands_options_and_files():
     write("list one.rdp", b"")
     os.mkdir("lists")
     same(completed(""), [*COMMANDS, "--help", "--version"])
-    for typed, expected in ((["d"], ["dump", "draw"]), (["draw", "--m"], ["--memory"]), (["check", "-"], ["-q", "--quiet", "--help"]),
+    for typed, expected in ((["d"], ["dump", "draw"]), (["draw", "--m"], ["--memory"]), (["check", "-"], ["-q", "--quiet", "-h", "--help"]),
                             (["check", "li"], ["list one.rdp", "lists"]), (["check", "-q", "list "], ["list one.rdp"]),
                             (["repair", "x", "-o", "li"], ["list one.rdp", "lists"]), (["draw", "--start", "l"], []),
                             (["draw", "--memory", "6"], ["64K"]), (["what", "li"], [])):
         same(sorted(completed(*typed)), sorted(expected), typed)
 
 
-@test
-def completion_and_manual_page_name_all_options():
+def options_of(command):
+    """The options that a command's help lists: letter, name and value. The tool prints them from the table that it reads them by."""
+    return re.findall(r"^  (?:-([a-z]), )?--([a-z-]+)(?: (\S+))?(?=  |$)", run(command, "--help")[1], re.M)
+
+
+def page_options():
+    """For each option that the manual page describes, as its help line has it, the commands that it names; all where it names none."""
     page = read(os.path.join(TOP, "cli", "lanyardrove.1")).decode().replace("\\-", "-")
+    part = page[page.index(".SH OPTIONS"):page.index(".SH HAZARDS")]
+    described = {}
+    for head, text in re.findall(r"\.TP\n(\.B.*)\n((?:(?!\.TP).*\n)*)", part):
+        plain = re.sub(r"^\.B[RI]? |\\f[A-Z]|\"", "", head)
+        named = re.findall(r"[a-z]+", text.split("\n")[0][3:]) if text.startswith(".BR ") else COMMANDS
+        for command in named:
+            described.setdefault(command, []).append(" ".join(plain.replace(" , ", ", ").split()))
+    return described
+
+
+@test
+def completion_and_manual_page_have_the_options_of_the_tool():
+    described = page_options()
     for command in COMMANDS:
-        assert f".B lanyardrove {command}\n" in page, command
-        options = re.findall(r"(?<!\S)--?[a-z]+", run(command, "--help")[1])
-        assert len(options) >= 1
-        same(sorted(set(completed(command, "-"))), sorted(set(options)), command)
-        for option in options:
-            assert option in page, (command, option)
+        options = options_of(command)
+        assert len(options) >= 1, command
+        offered = [f"-{letter}" for letter, _, _ in options if letter] + [f"--{name}" for _, name, _ in options]
+        same(sorted(completed(command, "-")), sorted(offered), command)
+        same(sorted(described[command]), sorted(f"{f'-{letter}, ' if letter else ''}--{name}{f' {value}' if value else ''}"
+                                                for letter, name, value in options), command)
+    page = read(os.path.join(TOP, "cli", "lanyardrove.1")).decode()
+    same(re.findall(r"^\.B lanyardrove (\w+)$", page, re.M), list(COMMANDS))
 
 
 @test
