@@ -50,8 +50,6 @@ static void print_tally(int lists, const Tally *tally)
 int run_check(const Arguments *arguments)
 {
     Tally tally = { 0 };
-    if (arguments->count == 0)
-        check_file(arguments, "-", &tally);
     for (int i = 0; i < arguments->count; i++)
         check_file(arguments, arguments->paths[i], &tally);
     if (arguments->count > 1 && !arguments->quiet)

@@ -163,7 +163,7 @@ typedef struct {
     unsigned command; /* its bit */
     const char *name;
     int (*run)(const Arguments *arguments);
-    int least, most; /* lists that it takes */
+    int most; /* lists that it takes; it needs one */
     const char *help;
 } Entry;
 

@@ -152,7 +152,7 @@ static bool wants_colour(void)
 int run_dump(const Arguments *arguments)
 {
     List list;
-    if (!list_read(arguments->count > 0 ? arguments->paths[0] : "-", &list, &to_show))
+    if (!list_read(arguments->paths[0], &list, &to_show))
         return STATUS_ERROR;
     Dump dump = { wants_colour(), &list };
     print_list(&dump);

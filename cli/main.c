@@ -7,33 +7,31 @@
 
 /* The help is for terminals of 80 columns. */
 static const Entry entries[] = {
-    { OF_CHECK, "check", run_check, 0, INT_MAX,
-      "check [OPTION].. [FILE]..\n"
+    { OF_CHECK, "check", run_check, INT_MAX,
+      "check [OPTION].. FILE..\n"
       "Prints 'number place' for a list, then what it means. Number 0 accepts the\n"
       "list, and the place is the number of its words; any other number is the first\n"
       "refusal, at a word of the list. Of a missing sync it says also for which command\n"
-      "it is missing. Without FILE the list is read from standard input; of a pipe no\n"
-      "more is read than up to the first refused command. With several files there is\n"
-      "a line for each, and a count." },
-    { OF_REPAIR, "repair", run_repair, 1, 1,
+      "it is missing. Of a pipe no more is read than up to the first refused command.\n"
+      "With several files there is a line for each, and a count." },
+    { OF_REPAIR, "repair", run_repair, 1,
       "repair FILE [-o OUT]\n"
       "Writes the list with the syncs inserted that it misses, at the fewest cycles,\n"
       "and says which sync stands before which command. Without -o the list goes to\n"
       "standard output and the text to standard error. Nothing is written where the\n"
       "list is refused for another reason than a missing sync." },
-    { OF_DUMP, "dump", run_dump, 0, 1,
-      "dump [FILE]\n"
+    { OF_DUMP, "dump", run_dump, 1,
+      "dump FILE\n"
       "Shows the verdict, then the list command by command: place, words, name, the\n"
       "hazards before it (pipe, tile, draw, load) and every field. At the refused\n"
       "command stands why, and the command that it has to wait for is marked. After it\n"
-      "the hazards go on as if it had run. Without FILE the list is read from standard\n"
-      "input." },
-    { OF_DRAW, "draw", run_draw, 1, 1,
+      "the hazards go on as if it had run." },
+    { OF_DRAW, "draw", run_draw, 1,
       "draw FILE --memory BYTES -o OUT [OPTION]..\n"
       "Draws the fill rectangles of a list into memory of zeros, and writes the\n"
       "picture in it. Nothing is written where the list is refused. Numbers are\n"
       "decimal, or hexadecimal after 0x." },
-    { OF_REPORT, "report", run_report, 1, 1,
+    { OF_REPORT, "report", run_report, 1,
       "report FILE -o OUT\n"
       "Writes a page in HTML, which needs no other file: the verdict, the hazards\n"
       "along the list, the syncs that a repair would insert, the picture if it can be\n"

@@ -153,8 +153,8 @@ int run_entry(const Entry *entry, int argc, char **argv)
     }
     arguments.paths = argv + optind;
     arguments.count = argc - optind;
-    if (arguments.count < entry->least || arguments.count > entry->most) {
-        complain("%s takes one list", entry->name);
+    if (arguments.count == 0 || arguments.count > entry->most) {
+        complain(arguments.count == 0 ? "%s needs a list; - is standard input" : "%s takes one list", entry->name);
         return usage_error(entry->name);
     }
     return entry->run(&arguments);

@@ -15,8 +15,8 @@ WRONG = {
     "check has no option --memory": [["check", "--memory", "5"], ["check", "--mem=5"]],
     "dump has no option --quiet": [["dump", "-q", "a"], ["dump", "a", "--quiet"]],
     "option '--help' doesn't allow an argument": [["dump", "--help=x"]],
-    "takes one list": [["dump", "a", "b"], ["repair"], ["repair", "a", "b"], ["draw"], ["draw", "a", "b"], ["report"],
-                       ["report", "a", "b", "-o", "x.html"]],
+    "takes one list": [["dump", "a", "b"], ["repair", "a", "b"], ["draw", "a", "b"], ["report", "a", "b", "-o", "x.html"]],
+    "needs a list; - is standard input": [[command] for command in COMMANDS] + [["check", "-q"], ["check", "--"]],
     "draw needs --memory BYTES": [["draw", "a"], ["draw", "a", "-o", "x.bin"]],
     "draw needs -o OUT": [DRAW],
     "report needs -o OUT": [["report", "a"]],
@@ -39,6 +39,14 @@ def wrong_arguments_are_told():
             assert reason in err and "--help" in err, (arguments, err)
             assert err.startswith(("lanyardrove: ", "Usage: ")), (arguments, err)
     same(files(), [])
+
+
+@test
+def a_build_that_names_no_list_is_not_green():
+    for line in ('"$0" check $LISTS', '"$0" check $LISTS < /dev/null', '"$0" dump $LISTS < /dev/null'):
+        done = subprocess.run(["sh", "-c", line, TOOL], input=b"", capture_output=True)
+        same((done.returncode, done.stdout), (2, b""), line)
+    same(run("check", "-"), (0, "0 0\naccepted: 0 words, the list is empty\n", ""))  # named, and empty
 
 
 @test

@@ -12,7 +12,7 @@ FOUR_BITS = [S[0], 0x3F00000000000000, S[2]]  # no draw may follow
 
 
 def dumped(data, status=None):
-    found, out, err = run("dump", stdin=data)
+    found, out, err = run("dump", "-", stdin=data)
     same(err, "")
     if status is not None:
         same(found, status)
