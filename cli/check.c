@@ -5,17 +5,32 @@ typedef struct {
     unsigned accepted, empty, refused, unread;
 } Tally;
 
-/* With several lists the verdict is one line, with the list's name. */
+/* With several lists each has one line, with its name. */
+static void print_line(const Arguments *arguments, const char *path, const char *meaning)
+{
+    putchar(' ');
+    print_shown(stdout, path);
+    if (!arguments->quiet)
+        printf(": %s", meaning);
+    putchar('\n');
+}
+
 static void print_verdict(const Arguments *arguments, const char *path, const List *list)
 {
-    Answer answer = list->verdict;
-    if (arguments->quiet)
-        printf("%u %u\n", answer.number, (unsigned)answer.place);
-    else if (arguments->count <= 1)
-        print_answer(stdout, list, answer, FOR_CHECK);
-    else {
-        Meaning meaning = meaning_of(list, answer, FOR_CHECK);
-        printf("%u %u %s: %s\n", answer.number, (unsigned)answer.place, path, meaning.text);
+    Meaning meaning = meaning_of(list, list->verdict, FOR_CHECK);
+    printf("%u %u", list->verdict.number, (unsigned)list->verdict.place);
+    if (arguments->count > 1)
+        print_line(arguments, path, meaning.text);
+    else
+        printf("\n%s%s", arguments->quiet ? "" : meaning.text, arguments->quiet ? "" : "\n");
+}
+
+/* A list that is not read has a line too, so that lines and arguments match. */
+static void print_unread(const Arguments *arguments, const char *path)
+{
+    if (arguments->count > 1) {
+        printf("- -");
+        print_line(arguments, path, "not read");
     }
 }
 
@@ -23,6 +38,7 @@ static void check_file(const Arguments *arguments, const char *path, Tally *tall
 {
     List list;
     if (!list_read(path, &list, &to_judge)) {
+        print_unread(arguments, path);
         tally->unread++;
         return;
     }

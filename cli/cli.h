@@ -137,13 +137,19 @@ uint8_t *image_rgb(const Image *image, const Memory *memory);
 uint8_t *image_png(const Image *image, const uint8_t *rgb, size_t *length);
 uint8_t *image_ppm(const Image *image, const uint8_t *rgb, size_t *length);
 
+/* -- message.c: messages, and names that are shown ---------------------- */
+
+void complain(const char *format, ...) __attribute__((format(printf, 1, 2)));
+int usage_error(const char *command);
+void print_shown(FILE *stream, const char *text);
+
 /* -- values.c: the values of options ------------------------------------ */
 
 bool take_bytes(const char *text, uint64_t *number);
 bool take_address(const char *text, uint64_t *number);
 bool take_image(const char *text, Image *image);
 
-/* -- options.c: arguments and messages ---------------------------------- */
+/* -- options.c: arguments ----------------------------------------------- */
 
 typedef struct {
     const char *command;
@@ -178,8 +184,6 @@ typedef struct {
     const char *text;     /* what the help says, in lines */
 } Option;
 
-void complain(const char *format, ...) __attribute__((format(printf, 1, 2)));
-int usage_error(const char *command);
 int run_entry(const Entry *entry, int argc, char **argv);
 const Option *option_at(unsigned command, size_t index);
 

@@ -84,7 +84,8 @@ static int draw_list(const Arguments *arguments, const List *list, const Memory 
     if (!write_drawn(arguments->output, memory_alone ? NULL : &image, memory, written, sizeof written))
         return STATUS_ERROR;
     print_answer(stdout, list, answer, FOR_DRAW);
-    printf("%s: %s\n", arguments->output, written);
+    print_shown(stdout, arguments->output);
+    printf(": %s\n", written);
     return STATUS_ACCEPTED;
 }
 

@@ -3,25 +3,7 @@
 #include "cli.h"
 
 #include <getopt.h>
-#include <stdarg.h>
 #include <string.h>
-
-void complain(const char *format, ...)
-{
-    va_list values;
-    va_start(values, format);
-    fflush(stdout); /* so that the two stand in order where they go to one place */
-    fputs("lanyardrove: ", stderr);
-    vfprintf(stderr, format, values);
-    fputc('\n', stderr);
-    va_end(values);
-}
-
-int usage_error(const char *command)
-{
-    fprintf(stderr, "Try 'lanyardrove %s%s--help'.\n", command, command[0] != '\0' ? " " : "");
-    return STATUS_ERROR;
-}
 
 static bool set_quiet(Arguments *arguments, const char *value)
 {
@@ -51,7 +33,7 @@ static bool set_image(Arguments *arguments, const char *value)
 }
 
 static const Option options[] = {
-    { OF_CHECK, "quiet", 'q', NULL, set_quiet, NULL, "print 'number place' alone" },
+    { OF_CHECK, "quiet", 'q', NULL, set_quiet, NULL, "print 'number place' alone; of several files, the name\ntoo" },
     { OF_DRAW, "memory", 0, "BYTES", set_memory, "a number of bytes up to 256M", "the length of memory; K and M may follow" },
     { OF_DRAW, "start", 0, "ADDRESS", set_start, "an address", "the address of its first byte; 0 if not given" },
     { OF_DRAW, "image", 0, "ADDRESS,WIDTH,HEIGHT,SIZE", set_image,

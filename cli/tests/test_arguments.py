@@ -50,6 +50,17 @@ def a_build_that_names_no_list_is_not_green():
 
 
 @test
+def control_characters_in_names_do_not_reach_the_terminal():
+    odd, shown = "a\033[31m\n\t\u009bZ\x7f\u00e9.bin", "a\\x1B[31m\\x0A\\x09\\xC2\\x9BZ\\x7F\u00e9.bin"
+    for arguments in (["check", odd], ["check", odd, odd], ["check", "-q", odd, odd], ["repair", odd, "-o", "-"], ["dump", odd],
+                      ["draw", example("i.rdp"), "--memory", "64", "-o", odd], [odd]):
+        done = subprocess.run([TOOL, *arguments], input=b"", capture_output=True)
+        text = (done.stdout + done.stderr).decode()
+        assert shown in text and not [c for c in text.replace("\n", "") if ord(c) < 32 or 127 <= ord(c) < 160], (arguments, text)
+    same(run("check", odd, odd)[1].count("\n"), 3)  # and a name is in one line
+
+
+@test
 def numbers_are_decimal_or_hexadecimal():
     for memory, length in (("0", 0), ("0x40", 64), ("0X4f", 79), ("1K", 1024), ("0x1K", 1024), ("007", 7)):
         same(run("draw", example("a.rdp"), "--memory", memory, "--start", "0xFFFFFFFFFFFFFFFF", "-o", "x.bin")[0], 0, memory)

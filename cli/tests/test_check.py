@@ -80,7 +80,9 @@ def check_of_several_files_has_a_line_each_and_a_count():
         f"0 5 {accepted}: accepted: 5 words", f"9 4 {refused}: word 4: Set Fill Color requires Sync Pipe, for the Fill Rectangle at word 3",
         "0 1 -: accepted: 1 word",
         "3 lists: 2 accepted, 1 refused", "")), ""))
-    same(run("check", "-q", accepted, refused), (1, "0 5\n9 4\n", ""))
+    same(run("check", "-q", accepted, refused), (1, f"0 5 {accepted}\n9 4 {refused}\n", ""))
+    status, out, _ = run("check", "-q", accepted, "no-such-file", refused, ".", "-", stdin=words(N))
+    same((status, out), (2, f"0 5 {accepted}\n- - no-such-file\n9 4 {refused}\n- - .\n0 1 -\n"))  # a line for each argument
     status, out, _ = run("check", accepted, example("a.rdp"))
     same((status, out.split("\n")[2]), (0, "2 lists: 2 accepted (1 empty), 0 refused"))
 
@@ -91,7 +93,7 @@ def check_of_a_file_that_cannot_be_read():
     same(run("check", "."), (2, "", "lanyardrove: .: Is a directory\n"))
     same(run("check", ""), (2, "", "lanyardrove: : No such file or directory\n"))
     status, out, err = run("check", example("g.rdp"), "no-such-file", example("i.rdp"))
-    same((status, out.split("\n")[2]), (2, "3 lists: 1 accepted, 1 refused, 1 not read"))
+    same((status, out.split("\n")[1], out.split("\n")[3]), (2, "- - no-such-file: not read", "3 lists: 1 accepted, 1 refused, 1 not read"))
     same(err, "lanyardrove: no-such-file: No such file or directory\n")
     done = subprocess.run(["sh", "-c", 'exec "$@" <&-', "sh", TOOL, "check", "-"], capture_output=True)
     same((done.returncode, done.stdout, done.stderr), (2, b"", b"lanyardrove: standard input: Bad file descriptor\n"))
