@@ -114,6 +114,7 @@ typedef struct {
 } Repaired;
 
 bool repaired_of(const List *list, Repaired *repaired);
+size_t given_place(const Repaired *repaired, size_t place);
 void repaired_free(Repaired *repaired);
 
 /* -- picture.c: the picture in memory ----------------------------------- */

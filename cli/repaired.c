@@ -55,6 +55,15 @@ bool repaired_of(const List *list, Repaired *repaired)
     return (list->arrived && is_beyond_repair(list->verdict)) || repair_whole(list, repaired);
 }
 
+/* The place in the given list of what stands at a place of the repaired one; of an inserted sync, that of the command after it. */
+size_t given_place(const Repaired *repaired, size_t place)
+{
+    size_t before = 0;
+    while (before < repaired->count && repaired->inserted[before].place + before < place)
+        before++;
+    return place - before;
+}
+
 void repaired_free(Repaired *repaired)
 {
     list_free(&repaired->list);

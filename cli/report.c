@@ -34,6 +34,15 @@ static bool rows_of(const List *list, Answer answer, Rows *rows)
     return true;
 }
 
+/* The rows of the repaired list, and what drawing it answers, by the places of the given list: the page knows no others. */
+static void number_as_given(Report *report)
+{
+    for (size_t i = 0; i < report->repaired_rows.count; i++)
+        report->repaired_rows.rows[i].place = given_place(&report->repaired, report->repaired_rows.rows[i].place);
+    if (is_refused(report->drawing))
+        report->drawing.place = (uint32_t)given_place(&report->repaired, report->drawing.place);
+}
+
 /* Draws a list and makes the PNG of its picture, if there is one. */
 static bool draw_picture(Report *report, const List *list)
 {
@@ -61,7 +70,9 @@ static bool gather(Report *report)
         return false;
     if (report->repaired.count == 0) /* drawing runs the whole check first */
         return is_refused(report->answer) || draw_picture(report, list);
-    return rows_of(&report->repaired.list, report->repaired.answer, &report->repaired_rows) && draw_picture(report, &report->repaired.list);
+    bool done = rows_of(&report->repaired.list, report->repaired.answer, &report->repaired_rows) && draw_picture(report, &report->repaired.list);
+    number_as_given(report);
+    return done;
 }
 
 static int write_report(Report *report, const char *output)
