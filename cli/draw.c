@@ -25,9 +25,7 @@ static bool write_picture(const char *output, const Image *image, const Memory *
     uint8_t *rgb = image_rgb(image, memory);
     size_t length = 0;
     uint8_t *bytes = NULL;
-    if (rgb == NULL)
-        complain("not enough memory");
-    else
+    if (rgb != NULL)
         bytes = form_of(output) == AS_PNG ? image_png(image, rgb, &length) : image_ppm(image, rgb, &length);
     bool done = bytes != NULL && file_write(output, bytes, length);
     free(bytes);

@@ -13,7 +13,7 @@ static bool set_quiet(Arguments *arguments, const char *value)
 
 static bool set_output(Arguments *arguments, const char *value)
 {
-    arguments->output = value;
+    arguments->output = strcmp(value, "/dev/stdout") == 0 ? "-" : value; /* so that no text is mixed with it */
     return true;
 }
 

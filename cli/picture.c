@@ -67,7 +67,7 @@ static void pixel_rgb(const uint8_t *pixel, uint32_t bits, uint8_t *rgb)
             rgb[i] = pixel[bits == 32 ? i : 0];
 }
 
-/* The picture as red, green and blue bytes; it must be inside memory. NULL where there is no room. */
+/* The picture as red, green and blue bytes; it must be inside memory. NULL where there is no room, which is told. */
 uint8_t *image_rgb(const Image *image, const Memory *memory)
 {
     size_t pixels = (size_t)image->width * image->height;
@@ -75,6 +75,8 @@ uint8_t *image_rgb(const Image *image, const Memory *memory)
     const uint8_t *bytes = memory->bytes + (image->address - memory->start);
     for (size_t i = 0; rgb != NULL && i < pixels; i++)
         pixel_rgb(bytes + i * (image->bits / 8), image->bits, rgb + 3 * i);
+    if (rgb == NULL)
+        complain("not enough memory for the picture");
     return rgb;
 }
 

@@ -38,13 +38,15 @@ static bool repair_whole(const List *list, Repaired *repaired)
         if (is_accepted(repaired->answer)) {
             repaired->list.length = 8 * (size_t)repaired->answer.place;
             done = find_insertions(list, repaired);
+            if (!done)
+                complain("the repaired list cannot be compared with the given one");
         }
     }
+    else
+        complain("not enough memory for the repair");
     free(work);
-    if (!done) {
-        complain("the repair could not be made");
+    if (!done)
         repaired_free(repaired);
-    }
     return done;
 }
 

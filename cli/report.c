@@ -23,8 +23,10 @@ static bool rows_of(const List *list, Answer answer, Rows *rows)
     size_t words = (list->length < LIST_LIMIT ? list->length : LIST_LIMIT) / 8;
     unsigned hazards = 0;
     rows->rows = calloc(words + 1, sizeof *rows->rows);
-    if (rows->rows == NULL)
+    if (rows->rows == NULL) {
+        complain("not enough memory");
         return false;
+    }
     for (size_t place = 0; place < words && command_at(list, place, &command); place += command.words) {
         rows->rows[rows->count++] = (Row){ place, hazards };
         hazards = hazards_after(hazards, &command);
@@ -47,8 +49,10 @@ static void number_as_given(Report *report)
 static bool draw_picture(Report *report, const List *list)
 {
     Memory memory = { calloc(1, MEMORY_BYTES), MEMORY_BYTES, 0 };
-    if (memory.bytes == NULL)
+    if (memory.bytes == NULL) {
+        complain("not enough memory for the picture");
         return false;
+    }
     bool done = true;
     report->drawing = answer_of(lanyardrove_draw(list->bytes, list->length, memory.bytes, memory.length, memory.start));
     if (is_accepted(report->drawing) && image_of_list(list, &report->image) && image_inside(&report->image, &memory)) {
@@ -61,7 +65,7 @@ static bool draw_picture(Report *report, const List *list)
     return done;
 }
 
-/* Everything that the page says. */
+/* Everything that the page says; what fails tells it. */
 static bool gather(Report *report)
 {
     const List *list = &report->list;
@@ -78,12 +82,12 @@ static bool gather(Report *report)
 static int write_report(Report *report, const char *output)
 {
     Text text = { 0 };
-    bool gathered = gather(report);
     int status = STATUS_ERROR;
-    if (gathered)
-        page_add(&text, report);
-    if (!gathered || text.failed)
-        complain("the report could not be made: not enough memory");
+    if (!gather(report))
+        return STATUS_ERROR;
+    page_add(&text, report);
+    if (text.failed)
+        complain("not enough memory for the page");
     else if (file_write(output, text.bytes, text.length))
         status = status_of(report->answer);
     free(text.bytes);

@@ -102,7 +102,7 @@ def output_that_cannot_be_written_is_an_error():
                     ["--version"], ["check", "--help"]):
         with open("/dev/full", "wb") as full:
             done = subprocess.run([TOOL, *command], stdout=full, stderr=subprocess.PIPE)
-        same(done.returncode, 2, command)
+        same((done.returncode, done.stderr.count(b"\n")), (2, 1), done.stderr)
         assert b"standard output" in done.stderr, done.stderr
         done = subprocess.run(["sh", "-c", 'exec "$@" >&-', "sh", TOOL, *command], stderr=subprocess.PIPE)
         same(done.returncode, 2, command)
