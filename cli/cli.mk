@@ -39,12 +39,18 @@ CLI_INSTALL = bin/lanyardrove=$(CLI_TOOL) lib/liblanyardrove.a=$(ARCHIVE) lib/pk
     include/lanyardrove.h=include/lanyardrove.h share/man/man1/lanyardrove.1=cli/lanyardrove.1 \
     share/bash-completion/completions/lanyardrove=cli/lanyardrove.bash
 
+# A prefix is absolute, since pkg-config and DESTDIR go by it. In the pkg-config file a space in it is escaped, and the signs that sed reads are here.
+CLI_PREFIX_CHECK = case "$(PREFIX)" in /*) ;; *) echo 'PREFIX is an absolute path: PREFIX=/usr' >&2; exit 1 ;; esac
+
 install: $(CLI_TOOL)
-	version=$$($(CLI_TOOL) --version | cut -d' ' -f2) && sed -e "s|@PREFIX@|$(PREFIX)|" -e "s|@VERSION@|$$version|" cli/lanyardrove.pc.in > $(CLI_PC)
+	@$(CLI_PREFIX_CHECK)
+	version=$$($(CLI_TOOL) --version | cut -d' ' -f2) && prefix=$$(printf '%s' "$(PREFIX)" | sed -e 's/ /\\ /g' -e 's/[\\&|]/\\&/g') && \
+	    sed -e "s|@PREFIX@|$$prefix|" -e "s|@VERSION@|$$version|" cli/lanyardrove.pc.in > $(CLI_PC)
 	set -e; for pair in $(CLI_INSTALL); do \
 	    case $$pair in bin/*) mode=755 ;; *) mode=644 ;; esac; \
 	    install -D -m $$mode "$${pair#*=}" "$(DESTDIR)$(PREFIX)/$${pair%%=*}"; \
 	done
 
 uninstall:
+	@$(CLI_PREFIX_CHECK)
 	set -e; for pair in $(CLI_INSTALL); do rm -f "$(DESTDIR)$(PREFIX)/$${pair%%=*}"; done

@@ -14,9 +14,9 @@ static const char overview[] =
     "  dump     show a list command by command\n"
     "  draw     draw the fill rectangles of a list into memory\n"
     "  report   write a page about a list, for a browser\n\n"
-    "'lanyardrove COMMAND --help' tells more of a command; 'lanyardrove --version'\n"
-    "prints the version. A FILE of - is standard input. A list from there or from a\n"
-    "pipe is judged as it arrives.\n\n"
+    "'lanyardrove help COMMAND' or 'lanyardrove COMMAND --help' tells more of a\n"
+    "command; 'lanyardrove -V' or '--version' prints the version. A FILE of - is\n"
+    "standard input. A list from there or from a pipe is judged as it arrives.\n\n"
     "Exit status: 0 accepted, 1 refused, 2 wrong arguments, or a file could not be\n"
     "read or written.\n";
 

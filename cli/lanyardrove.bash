@@ -6,13 +6,14 @@ _lanyardrove()
     local options
     COMPREPLY=()
     if [ "$COMP_CWORD" -eq 1 ]; then
-        mapfile -t COMPREPLY < <(compgen -W "check repair dump draw report --help --version" -- "$current")
+        mapfile -t COMPREPLY < <(compgen -W "check repair dump draw report help --help --version" -- "$current")
         return
     fi
     case ${COMP_WORDS[1]} in
     check) options="-q --quiet -h --help" ;;
     repair|report) options="-o --output -h --help" ;;
     dump) options="-h --help" ;;
+    help) mapfile -t COMPREPLY < <(compgen -W "check repair dump draw report" -- "$current"); return ;;
     draw) options="--memory --start --image -o --output -h --help" ;;
     *) return ;;
     esac

@@ -46,25 +46,49 @@ static void print_version(void)
     printf("lanyardrove %u.%u.%u\n", (unsigned)(version >> 16), (unsigned)(version >> 8 & 255), (unsigned)(version & 255));
 }
 
+/* The command of a name; NULL where there is none, which is told. */
+static const Entry *entry_of(const char *name)
+{
+    for (size_t i = 0; i < sizeof entries / sizeof entries[0]; i++)
+        if (strcmp(entries[i].name, name) == 0)
+            return &entries[i];
+    complain("'%s' is no command", name);
+    return NULL;
+}
+
+/* The help of the tool, or of a command that is named. */
+static int help(const char *name)
+{
+    const Entry *entry = name != NULL ? entry_of(name) : NULL;
+    if (name != NULL && entry == NULL)
+        return usage_error("");
+    if (entry != NULL)
+        print_help(stdout, entry);
+    else
+        print_overview(stdout);
+    return STATUS_ACCEPTED;
+}
+
+/* Whether an argument is a word or its letter. */
+static bool is_either(const char *argument, const char *letter, const char *word)
+{
+    return strcmp(argument, letter) == 0 || strcmp(argument, word) == 0;
+}
+
 static int run(int argc, char **argv)
 {
     if (argc < 2) {
         print_overview(stderr);
         return STATUS_ERROR;
     }
-    if (strcmp(argv[1], "--help") == 0 || strcmp(argv[1], "-h") == 0) {
-        print_overview(stdout);
-        return STATUS_ACCEPTED;
-    }
-    if (strcmp(argv[1], "--version") == 0) {
+    if (is_either(argv[1], "-h", "--help") || strcmp(argv[1], "help") == 0)
+        return help(argc > 2 ? argv[2] : NULL);
+    if (is_either(argv[1], "-V", "--version")) {
         print_version();
         return STATUS_ACCEPTED;
     }
-    for (size_t i = 0; i < sizeof entries / sizeof entries[0]; i++)
-        if (strcmp(entries[i].name, argv[1]) == 0)
-            return run_entry(&entries[i], argc - 1, argv + 1);
-    complain("'%s' is no command", argv[1]);
-    return usage_error("");
+    const Entry *entry = entry_of(argv[1]);
+    return entry != NULL ? run_entry(entry, argc - 1, argv + 1) : usage_error("");
 }
 
 /* Output that cannot be written is an error. Nothing to write is none, even where standard output is closed. */

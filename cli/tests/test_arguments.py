@@ -83,15 +83,17 @@ def options_may_stand_anywhere():
 @test
 def help_and_version():
     overview = run("--help")[1]
-    same(run("-h"), (0, overview, ""))
+    same((run("-h"), run("help")), ((0, overview, ""), (0, overview, "")))
+    same(run("help", "chek")[:2], (2, ""))
     for command in COMMANDS:
         status, out, err = run(command, "--help")
         same((status, err), (0, ""), command)
         assert out.startswith(f"Usage: lanyardrove {command}"), out
         assert f"\n  {command} " in overview, command
         assert max(map(len, out.split("\n"))) <= 80, command
-        same(run(command, "-h"), (0, out, ""), command)
+        same((run(command, "-h"), run("help", command)), ((0, out, ""), (0, out, "")), command)
     status, out, err = run("--version")
+    same(run("-V"), (0, out, ""))
     same((status, err), (0, ""))
     assert re.fullmatch(r"lanyardrove \d+\.\d+\.\d+\n", out), out
 

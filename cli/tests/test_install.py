@@ -12,17 +12,17 @@ INSTALLED = ["bin/lanyardrove", "include/lanyardrove.h", "lib/liblanyardrove.a",
              "share/bash-completion/completions/lanyardrove", "share/man/man1/lanyardrove.1"]
 
 
-def make(*arguments):
+def make(*arguments, status=0, errors=b""):
     """What make prints, run as from a shell: without the flags of a make that runs these tests."""
     env = {name: value for name, value in os.environ.items() if name not in ("MAKEFLAGS", "MFLAGS", "MAKELEVEL")}
     done = subprocess.run(["make", *arguments], cwd=TOP, capture_output=True, env=env)
-    same((done.returncode, done.stderr), (0, b""), arguments)
+    same((done.returncode, done.stderr if status == 0 else done.stderr[:len(errors)]), (status, errors), arguments)
     return done.stdout.decode()
 
 
-def make_built(*arguments):
+def make_built(*arguments, status=0, errors=b""):
     """Runs make on the tool's build; the archive is taken as it is."""
-    return make("-s", "-o", "build/liblanyardrove.a", f"CLI_BUILD={os.path.dirname(TOOL)}", *arguments)
+    return make("-s", "-o", "build/liblanyardrove.a", f"CLI_BUILD={os.path.dirname(TOOL)}", *arguments, status=status, errors=errors)
 
 
 def files_below(root):
@@ -48,6 +48,14 @@ def install_and_uninstall():
     same(files_below(root), ["usr/lib/other"])
 
 
+@test
+def a_prefix_is_absolute():
+    for goal in ("install", "uninstall"):
+        for prefix in ("usr", "", "./usr"):
+            make_built(goal, f"DESTDIR={os.path.abspath('root')}", f"PREFIX={prefix}", status=2, errors=b"PREFIX is an absolute path")
+    same(files_below("."), [])
+
+
 def pkg_config(prefix, *arguments):
     env = {**os.environ, "PKG_CONFIG_PATH": f"{prefix}/lib/pkgconfig"}
     return subprocess.run(["pkg-config", *arguments, "lanyardrove"], capture_output=True, env=env, check=True).stdout.decode()
@@ -55,7 +63,7 @@ def pkg_config(prefix, *arguments):
 
 @test
 def a_program_is_linked_with_pkg_config():
-    prefix = os.path.abspath("prefix")
+    prefix = os.path.abspath("a prefix & more")
     make_built("install", f"PREFIX={prefix}")
     same("lanyardrove " + pkg_config(prefix, "--modversion"), run("--version")[1])
     write("program.c", program())
@@ -81,7 +89,8 @@ def completed(*typed):
 def completion_offers_commands_options_and_files():
     write("list one.rdp", b"")
     os.mkdir("lists")
-    same(completed(""), [*COMMANDS, "--help", "--version"])
+    same(completed(""), [*COMMANDS, "help", "--help", "--version"])
+    same(completed("help", "d"), ["dump", "draw"])
     for typed, expected in ((["d"], ["dump", "draw"]), (["draw", "--m"], ["--memory"]), (["check", "-"], ["-q", "--quiet", "-h", "--help"]),
                             (["check", "li"], ["list one.rdp", "lists"]), (["check", "-q", "list "], ["list one.rdp"]),
                             (["repair", "x", "-o", "li"], ["list one.rdp", "lists"]), (["draw", "--start", "l"], []),
@@ -117,7 +126,7 @@ def completion_and_manual_page_have_the_options_of_the_tool():
         same(sorted(completed(command, "-")), sorted(offered), command)
         same(sorted(described[command]), sorted(f"{f'-{letter}, ' if letter else ''}--{name}{f' {value}' if value else ''}"
                                                 for letter, name, value in options), command)
-    page = read(os.path.join(TOP, "cli", "lanyardrove.1")).decode()
+    page = read(os.path.join(TOP, "cli", "lanyardrove.1")).decode().split(".SH DESCRIPTION")[0]
     same(re.findall(r"^\.B lanyardrove (\w+)$", page, re.M), list(COMMANDS))
 
 
