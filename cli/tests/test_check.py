@@ -74,6 +74,15 @@ def check_names_the_cause_in_random_lists():
 
 
 @test
+def check_accepts_what_the_readme_says_that_it_does():
+    one_cycle = [ONE_CYCLE, *S[1:]]
+    for given in ([*S, 0x24 << 56, 0], [*S, 0x08 << 56, 0, 0, 0], [*one_cycle, 0x09 << 56, *[0] * 5], [*one_cycle, R],
+                  [*one_cycle, 0x24 << 56, 0], [0x3400000000FFFFFF], [0x3300000000FFF000], [S[0], 0x3F10000703FFFFFF, S[2], R]):
+        same(run("check", "-q", "-", stdin=words(*given)), (0, f"0 {len(given)}\n", ""), given)
+    same(run("check", "-q", "-", stdin=words(*one_cycle, 0x24 << 56, 0, 0x3500000007000000)), (1, "8 5\n", ""))  # drawn with tile 0, set is tile 7
+
+
+@test
 def check_of_several_files_has_a_line_each_and_a_count():
     accepted, refused = example("i.rdp"), example("g.rdp")
     same(run("check", accepted, refused, "-", stdin=words(N)), (1, "\n".join((
