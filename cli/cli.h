@@ -36,8 +36,9 @@ typedef enum { FOR_CHECK, FOR_REPAIR, FOR_DRAW } Purpose;
 
 /* What an answer means, in one line. */
 typedef struct {
-    char text[160]; /* the longest fits in */
-    size_t cause;   /* where the text names the command that a missing sync has to wait for; its end where it names none */
+    char text[160];    /* the longest fits in */
+    size_t start, end; /* of what it says of the command: after its place, before its cause */
+    size_t cause;      /* where it names the command that a missing sync has to wait for; its end where it names none */
 } Meaning;
 
 Answer answer_of(uint64_t packed);
@@ -58,7 +59,7 @@ typedef struct {
     bool (*is_enough)(Answer verdict); /* at such a verdict no more is read of a pipe */
 } Reading;
 
-extern const Reading to_judge, to_repair, to_show;
+extern const Reading to_judge, to_walk, to_repair, to_show;
 
 bool list_read(const char *path, List *list, const Reading *reading);
 bool goes_on(const List *list);
@@ -144,6 +145,13 @@ void complain(const char *format, ...) __attribute__((format(printf, 1, 2)));
 int usage_error(const char *command);
 void print_shown(FILE *stream, const char *text);
 
+#define VERSION_ROOM 16 /* bytes that the version fits in */
+void version_text(char text[VERSION_ROOM]);
+
+/* -- check.c: the forms in which it tells lists -------------------------- */
+
+const struct Format *format_of(const char *name);
+
 /* -- values.c: the values of options ------------------------------------ */
 
 bool take_bytes(const char *text, uint64_t *number);
@@ -157,7 +165,8 @@ typedef struct {
     char **paths; /* the lists */
     int count;
     const char *output; /* NULL where -o is not given */
-    bool help, quiet, has_memory, has_image;
+    bool help, quiet, failures, all, has_memory, has_image;
+    const struct Format *format; /* of what check tells */
     uint64_t memory, start;
     Image image;
 } Arguments;

@@ -12,23 +12,24 @@ PYTHON ?= python3
 # another folder and other flags make a second build, for example with sanitizers
 CLI_BUILD ?= build
 CLI_CFLAGS ?= -O2 -g
-CLI_FLAGS = -std=c11 -pedantic $(WARNINGS) -Iinclude $(shell $(PKG_CONFIG) --cflags libpng)
+CLI_LIBRARIES = libpng jansson
+CLI_FLAGS = -std=c11 -pedantic $(WARNINGS) -Iinclude $(shell $(PKG_CONFIG) --cflags $(CLI_LIBRARIES))
 CLI_OBJECTS = $(patsubst cli/%.c,$(CLI_BUILD)/cli/%.o,$(sort $(wildcard cli/*.c)))
 CLI_TOOL = $(CLI_BUILD)/lanyardrove
 
-.PHONY: cli cli-png cli-test install uninstall
+.PHONY: cli cli-libraries cli-test install uninstall
 
 cli: $(CLI_TOOL)
 
 $(CLI_TOOL): $(CLI_OBJECTS) $(ARCHIVE)
-	$(CC) $(CLI_CFLAGS) $(LDFLAGS) -o $@ $(CLI_OBJECTS) $(ARCHIVE) $(shell $(PKG_CONFIG) --libs libpng)
+	$(CC) $(CLI_CFLAGS) $(LDFLAGS) -o $@ $(CLI_OBJECTS) $(ARCHIVE) $(shell $(PKG_CONFIG) --libs $(CLI_LIBRARIES))
 
-$(CLI_BUILD)/cli/%.o: cli/%.c cli/cli.h cli/report.h include/lanyardrove.h | cli-png
+$(CLI_BUILD)/cli/%.o: cli/%.c $(wildcard cli/*.h) include/lanyardrove.h | cli-libraries
 	@mkdir -p $(@D)
 	$(CC) $(CLI_CFLAGS) $(CPPFLAGS) $(CLI_FLAGS) -c -o $@ $<
 
-cli-png:
-	@$(PKG_CONFIG) --exists libpng || { echo 'The tool needs libpng: apt-get install libpng-dev pkg-config' >&2; exit 1; }
+cli-libraries:
+	@$(PKG_CONFIG) --exists $(CLI_LIBRARIES) || { echo 'The tool needs libpng and jansson: apt-get install libpng-dev libjansson-dev pkg-config' >&2; exit 1; }
 
 cli-test: $(CLI_TOOL)
 	$(PYTHON) cli/tests/run.py $(CLI_TOOL)

@@ -19,6 +19,7 @@ static bool never(Answer verdict)
 
 /* What comes after a refusal is shown, but of a pipe no more than a list may have: it may never end. */
 const Reading to_judge = { LIST_LIMIT, LIST_LIMIT, is_refused };
+const Reading to_walk = { LIST_LIMIT, LIST_LIMIT, never };
 const Reading to_repair = { REPAIR_LIMIT, REPAIR_LIMIT, is_beyond_repair };
 const Reading to_show = { FILE_LIMIT, LIST_LIMIT, never };
 

@@ -10,7 +10,7 @@ _lanyardrove()
         return
     fi
     case ${COMP_WORDS[1]} in
-    check) options="-q --quiet -h --help" ;;
+    check) options="-q --quiet --failures --all --format -h --help" ;;
     repair|report) options="-o --output -h --help" ;;
     dump) options="-h --help" ;;
     help) mapfile -t COMPREPLY < <(compgen -W "check repair dump draw report" -- "$current"); return ;;
@@ -19,6 +19,7 @@ _lanyardrove()
     esac
     case $previous in
     --memory) mapfile -t COMPREPLY < <(compgen -W "64K 1M 4M 8M" -- "$current"); return ;;
+    --format) mapfile -t COMPREPLY < <(compgen -W "text gcc github json sarif" -- "$current"); return ;;
     --start|--image) return ;;
     esac
     if [[ $current == -* ]]; then

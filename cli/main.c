@@ -39,11 +39,11 @@ static const Entry entries[] = {
       "has to wait for. It is written for a refused list too." }
 };
 
-/* The version is major, minor and patch number, eight bits each. */
 static void print_version(void)
 {
-    uint32_t version = lanyardrove_version();
-    printf("lanyardrove %u.%u.%u\n", (unsigned)(version >> 16), (unsigned)(version >> 8 & 255), (unsigned)(version & 255));
+    char version[VERSION_ROOM];
+    version_text(version);
+    printf("lanyardrove %s\n", version);
 }
 
 /* The command of a name; NULL where there is none, which is told. */

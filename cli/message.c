@@ -35,6 +35,13 @@ void complain(const char *format, ...)
     fputc('\n', stderr);
 }
 
+/* The version is major, minor and patch number, eight bits each. */
+void version_text(char text[VERSION_ROOM])
+{
+    uint32_t version = lanyardrove_version();
+    snprintf(text, VERSION_ROOM, "%u.%u.%u", (unsigned)(version >> 16 & 255), (unsigned)(version >> 8 & 255), (unsigned)(version & 255));
+}
+
 int usage_error(const char *command)
 {
     fprintf(stderr, "Try 'lanyardrove %s%s--help'.\n", command, command[0] != '\0' ? " " : "");

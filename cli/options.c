@@ -11,6 +11,24 @@ static bool set_quiet(Arguments *arguments, const char *value)
     return arguments->quiet = true;
 }
 
+static bool set_failures(Arguments *arguments, const char *value)
+{
+    (void)value;
+    return arguments->failures = true;
+}
+
+static bool set_all(Arguments *arguments, const char *value)
+{
+    (void)value;
+    return arguments->all = true;
+}
+
+static bool set_format(Arguments *arguments, const char *value)
+{
+    arguments->format = format_of(value);
+    return arguments->format != NULL;
+}
+
 static bool set_output(Arguments *arguments, const char *value)
 {
     arguments->output = strcmp(value, "/dev/stdout") == 0 ? "-" : value; /* so that no text is mixed with it */
@@ -34,6 +52,13 @@ static bool set_image(Arguments *arguments, const char *value)
 
 static const Option options[] = {
     { OF_CHECK, "quiet", 'q', NULL, set_quiet, NULL, "print 'number place' alone; of several files, the name\ntoo" },
+    { OF_CHECK, "failures", 0, NULL, set_failures, NULL, "leave out the lists that are accepted" },
+    { OF_CHECK, "all", 0, NULL, set_all, NULL,
+      "tell every sync that a list misses, as if the commands\n"
+      "before ran; the verdict stays the first refusal" },
+    { OF_CHECK, "format", 0, "FORM", set_format, "one of text, gcc, github, json and sarif",
+      "how lists are told: text, gcc (as compilers do), github\n"
+      "(annotations), json or sarif" },
     { OF_DRAW, "memory", 0, "BYTES", set_memory, "a number of bytes up to 256M", "the length of memory; K and M may follow" },
     { OF_DRAW, "start", 0, "ADDRESS", set_start, "an address", "the address of its first byte; 0 if not given" },
     { OF_DRAW, "image", 0, "ADDRESS,WIDTH,HEIGHT,SIZE", set_image,

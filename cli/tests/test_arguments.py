@@ -16,6 +16,7 @@ WRONG = {
     "dump has no option --quiet": [["dump", "-q", "a"], ["dump", "a", "--quiet"]],
     "option '--help' doesn't allow an argument": [["dump", "--help=x"]],
     "takes one list": [["dump", "a", "b"], ["repair", "a", "b"], ["draw", "a", "b"], ["report", "a", "b", "-o", "x.html"]],
+    "not one of text, gcc, github, json and sarif": [["check", "--format", "xml", "a"], ["check", "--format=", "a"]],
     "needs a list; - is standard input": [[command] for command in COMMANDS] + [["check", "-q"], ["check", "--"]],
     "draw needs --memory BYTES": [["draw", "a"], ["draw", "a", "-o", "x.bin"]],
     "draw needs -o OUT": [DRAW],

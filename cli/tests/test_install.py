@@ -91,7 +91,7 @@ def completion_offers_commands_options_and_files():
     os.mkdir("lists")
     same(completed(""), [*COMMANDS, "help", "--help", "--version"])
     same(completed("help", "d"), ["dump", "draw"])
-    for typed, expected in ((["d"], ["dump", "draw"]), (["draw", "--m"], ["--memory"]), (["check", "-"], ["-q", "--quiet", "-h", "--help"]),
+    for typed, expected in ((["d"], ["dump", "draw"]), (["draw", "--m"], ["--memory"]), (["check", "--f"], ["--failures", "--format"]), (["check", "--format", "g"], ["gcc", "github"]),
                             (["check", "li"], ["list one.rdp", "lists"]), (["check", "-q", "list "], ["list one.rdp"]),
                             (["repair", "x", "-o", "li"], ["list one.rdp", "lists"]), (["draw", "--start", "l"], []),
                             (["draw", "--memory", "6"], ["64K"]), (["what", "li"], [])):
@@ -106,7 +106,7 @@ def options_of(command):
 def page_options():
     """For each option that the manual page describes, as its help line has it, the commands that it names; all where it names none."""
     page = read(os.path.join(TOP, "cli", "lanyardrove.1")).decode().replace("\\-", "-")
-    part = page[page.index(".SH OPTIONS"):page.index(".SH HAZARDS")]
+    part = page[page.index(".SH OPTIONS"):page.index(".SH FORMATS")]
     described = {}
     for head, text in re.findall(r"\.TP\n(\.B.*)\n((?:(?!\.TP).*\n)*)", part):
         plain = re.sub(r"^\.B[RI]? |\\f[A-Z]|\"", "", head)
