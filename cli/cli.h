@@ -165,7 +165,7 @@ typedef struct {
     char **paths; /* the lists */
     int count;
     const char *output; /* NULL where -o is not given */
-    bool help, quiet, failures, all, has_memory, has_image;
+    bool help, quiet, failures, all, dry, in_place, has_memory, has_image;
     const struct Format *format; /* of what check tells */
     uint64_t memory, start;
     Image image;

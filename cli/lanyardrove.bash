@@ -11,7 +11,8 @@ _lanyardrove()
     fi
     case ${COMP_WORDS[1]} in
     check) options="-q --quiet --failures --all --format -h --help" ;;
-    repair|report) options="-o --output -h --help" ;;
+    repair) options="--check -i --in-place -o --output -h --help" ;;
+    report) options="-o --output -h --help" ;;
     dump) options="-h --help" ;;
     help) mapfile -t COMPREPLY < <(compgen -W "check repair dump draw report" -- "$current"); return ;;
     draw) options="--memory --start --image -o --output -h --help" ;;

@@ -14,8 +14,8 @@ static const Entry entries[] = {
       "refusal, at a word of the list. Of a missing sync it says also for which command\n"
       "it is missing. Of a pipe no more is read than up to the first refused command.\n"
       "With several files there is a line for each, and a count." },
-    { OF_REPAIR, "repair", run_repair, 1,
-      "repair FILE [-o OUT]\n"
+    { OF_REPAIR, "repair", run_repair, INT_MAX,
+      "repair FILE [-o OUT], or repair --in-place|--check FILE..\n"
       "Writes the list with the syncs inserted that it misses, at the fewest cycles,\n"
       "and says which sync stands before which command. Without -o the list goes to\n"
       "standard output and the text to standard error. Nothing is written where the\n"

@@ -23,6 +23,18 @@ static bool set_all(Arguments *arguments, const char *value)
     return arguments->all = true;
 }
 
+static bool set_dry(Arguments *arguments, const char *value)
+{
+    (void)value;
+    return arguments->dry = true;
+}
+
+static bool set_in_place(Arguments *arguments, const char *value)
+{
+    (void)value;
+    return arguments->in_place = true;
+}
+
 static bool set_format(Arguments *arguments, const char *value)
 {
     arguments->format = format_of(value);
@@ -66,6 +78,8 @@ static const Option options[] = {
       "the picture, with SIZE bits a pixel (8, 16 or 32); if not\n"
       "given, the colour image of the last Fill Rectangle, as\n"
       "high as the scissor" },
+    { OF_REPAIR, "check", 0, NULL, set_dry, NULL, "write nothing; status 1 where a sync would be inserted" },
+    { OF_REPAIR, "in-place", 'i', NULL, set_in_place, NULL, "write each list over itself, where a sync is inserted" },
     { OF_REPAIR, "output", 'o', "OUT", set_output, NULL, "the file to write; it may be FILE itself" },
     { OF_DRAW, "output", 'o', "OUT", set_output, NULL,
       "the file to write: .png or .ppm for the picture, .bin for\n"
