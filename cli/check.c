@@ -36,11 +36,13 @@ static void check_file(const Arguments *arguments, const Format *format, const c
 {
     List list;
     Findings findings = { 0 };
-    bool read = list_read(path, &list, arguments->all ? &to_walk : &to_judge) && findings_of(&list, arguments->all, &findings);
+    bool read = list_read(path, &list, arguments->all ? &to_walk : &to_judge, &arguments->input) && findings_of(&list, arguments->all, &findings);
     Checked checked = { path, read ? &list : NULL, &findings };
     count(tally, checked.list);
     if (!read || is_refused(list.verdict) || !arguments->failures)
         format->tell(arguments, &checked);
+    if (read)
+        hint_swapped(path, &list, &arguments->input);
     free(findings.answers);
     list_free(&list);
 }

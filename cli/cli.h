@@ -7,6 +7,7 @@
 #include <stddef.h>
 #include <stdint.h>
 #include <stdio.h>
+#include <sys/types.h>
 
 /* exit status */
 enum { STATUS_ACCEPTED = 0, STATUS_REFUSED = 1, STATUS_ERROR = 2 };
@@ -51,7 +52,30 @@ Meaning meaning_of(const List *list, Answer answer, Purpose purpose);
 void print_answer(FILE *stream, const List *list, Answer answer, Purpose purpose);
 const char *reason_of(unsigned number);
 
-/* -- file.c: lists are read, outputs are written whole or not at all ---- */
+/* -- source.c: the bytes of a list where they are ----------------------- */
+
+typedef struct {
+    uint64_t offset, length;
+    bool has_length, swap, hex;
+} Input;
+
+/* The file that a list is read from, and how far. */
+typedef struct {
+    int file;
+    const Input *input;
+    uint64_t skipped, taken; /* bytes before the list, and of it */
+    unsigned digits, high;   /* of hexadecimal text: the digits of a byte so far, and the value of the first */
+    bool comment;            /* it is in one, to the end of the line */
+    uint8_t held[8];         /* of little-endian words: the bytes of one that is not complete */
+    size_t holds;
+    const char *fault; /* why the list cannot be read, where the system does not know */
+} Source;
+
+ssize_t source_read(Source *source, uint8_t *to, size_t room);
+const char *source_fault(const Source *source);
+void swap_words(uint8_t *bytes, size_t words);
+
+/* -- list.c: lists are read ---------------------------------------------- */
 
 /* How far a command of the tool reads a list. */
 typedef struct {
@@ -61,15 +85,14 @@ typedef struct {
 
 extern const Reading to_judge, to_walk, to_repair, to_show;
 
-bool list_read(const char *path, List *list, const Reading *reading);
+bool list_read(const char *path, List *list, const Reading *reading, const Input *input);
 bool goes_on(const List *list);
 void list_free(List *list);
+
+/* -- file.c: outputs are written whole or not at all --------------------- */
+
 bool file_write(const char *path, const void *bytes, size_t length);
 bool is_same_file(const char *path, const char *other);
-
-/* -- arrival.c: lists through a pipe, judged as they arrive ------------- */
-
-bool list_arrive(int file, List *list, bool (*is_enough)(Answer verdict));
 
 /* -- command.c: a list command by command ------------------------------- */
 
@@ -87,11 +110,16 @@ uint64_t word_at(const uint8_t *bytes, size_t place);
 
 /* -- names.c: names and values as N64brew has them ---------------------- */
 
+bool is_named(unsigned number);
 const char *command_name(unsigned number);
 const char *name_at(const List *list, size_t place);
 const char *field_name(unsigned number, size_t field);
 void field_value(const Command *command, size_t field, char *text, size_t room);
 const char *suffix_name(const Command *command, size_t word);
+
+/* -- hint.c -------------------------------------------------------------- */
+
+void hint_swapped(const char *path, const List *list, const Input *input);
 
 /* -- hazards.c: the hazards along a list -------------------------------- */
 
@@ -154,6 +182,7 @@ const struct Format *format_of(const char *name);
 
 /* -- values.c: the values of options ------------------------------------ */
 
+unsigned digit_of(char c);
 bool take_bytes(const char *text, uint64_t *number);
 bool take_address(const char *text, uint64_t *number);
 bool take_image(const char *text, Image *image);
@@ -164,6 +193,7 @@ typedef struct {
     const char *command;
     char **paths; /* the lists */
     int count;
+    Input input;
     const char *output; /* NULL where -o is not given */
     bool help, quiet, failures, all, dry, in_place, has_memory, has_image;
     const struct Format *format; /* of what check tells */

@@ -91,7 +91,7 @@ static int draw_file(const Arguments *arguments)
 {
     List list;
     Memory memory = { NULL, (size_t)arguments->memory, arguments->start };
-    if (!list_read(arguments->paths[0], &list, &to_judge))
+    if (!list_read(arguments->paths[0], &list, &to_judge, &arguments->input))
         return STATUS_ERROR;
     memory.bytes = calloc(1, memory.length + 1);
     int status = STATUS_ERROR;

@@ -153,10 +153,11 @@ static bool wants_colour(void)
 int run_dump(const Arguments *arguments)
 {
     List list;
-    if (!list_read(arguments->paths[0], &list, &to_show))
+    if (!list_read(arguments->paths[0], &list, &to_show, &arguments->input))
         return STATUS_ERROR;
     Dump dump = { wants_colour(), &list };
     print_list(&dump);
+    hint_swapped(arguments->paths[0], &list, &arguments->input);
     list_free(&list);
     return status_of(list.verdict);
 }

@@ -1,4 +1,4 @@
-/* Lists are read whole, or judged as they arrive; output files are written beside their place and renamed. */
+/* Output files are written beside their place and renamed. */
 #define _XOPEN_SOURCE 700
 #include "cli.h"
 
@@ -10,68 +10,6 @@
 #include <string.h>
 #include <sys/stat.h>
 #include <unistd.h>
-
-static bool never(Answer verdict)
-{
-    (void)verdict;
-    return false;
-}
-
-/* What comes after a refusal is shown, but of a pipe no more than a list may have: it may never end. */
-const Reading to_judge = { LIST_LIMIT, LIST_LIMIT, is_refused };
-const Reading to_walk = { LIST_LIMIT, LIST_LIMIT, never };
-const Reading to_repair = { REPAIR_LIMIT, REPAIR_LIMIT, is_beyond_repair };
-const Reading to_show = { FILE_LIMIT, LIST_LIMIT, never };
-
-bool goes_on(const List *list)
-{
-    return list->length > list->limit;
-}
-
-static bool read_whole(FILE *stream, List *list)
-{
-    list->length = fread(list->bytes, 1, list->limit + 1, stream);
-    list->verdict = answer_of(lanyardrove_check(list->bytes, list->length));
-    return !ferror(stream);
-}
-
-/* Standard input, a pipe or a device is judged as it arrives; a file may be read whole first. */
-static bool is_pipe(FILE *stream)
-{
-    struct stat kind;
-    return stream == stdin || fstat(fileno(stream), &kind) != 0 || !S_ISREG(kind.st_mode);
-}
-
-static bool read_stream(FILE *stream, List *list, const Reading *reading)
-{
-    bool pipe = is_pipe(stream);
-    list->limit = pipe ? reading->of_pipe : reading->of_file;
-    list->bytes = calloc(1, list->limit + 1 + 8 * LANYARDROVE_MOST_WORDS);
-    return list->bytes != NULL && (pipe ? list_arrive(fileno(stream), list, reading->is_enough) : read_whole(stream, list));
-}
-
-/* Reads a file, or standard input for "-", and its verdict. */
-bool list_read(const char *path, List *list, const Reading *reading)
-{
-    bool standard = strcmp(path, "-") == 0;
-    *list = (List){ 0 };
-    FILE *stream = standard ? stdin : fopen(path, "rb");
-    bool read = stream != NULL && read_stream(stream, list, reading);
-    if (!read) {
-        complain("%s: %s", standard ? "standard input" : path, strerror(errno));
-        list_free(list);
-    }
-    if (stream != NULL && !standard)
-        fclose(stream);
-    return read;
-}
-
-void list_free(List *list)
-{
-    free(list->bytes);
-    list->bytes = NULL;
-    list->length = 0;
-}
 
 bool is_same_file(const char *path, const char *other)
 {

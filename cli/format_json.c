@@ -107,10 +107,10 @@ static json_t *uri_json(const char *path)
 }
 
 /* The word of a list that a place names. */
-static json_t *location_json(const char *path, size_t place, const char *text)
+static json_t *location_json(const Arguments *arguments, const char *path, size_t place, const char *text)
 {
     json_t *location = json_pack("{s:{s:{s:o}, s:{s:I, s:i}}}", "physicalLocation", "artifactLocation", "uri", uri_json(path), "region", "byteOffset",
-                                 (json_int_t)(8 * place), "byteLength", 8);
+                                 (json_int_t)(arguments->input.offset + 8 * place), "byteLength", 8);
     if (location != NULL && text != NULL)
         json_object_set_new(location, "message", json_pack("{s:s}", "text", text));
     return location;
@@ -123,14 +123,14 @@ static json_t *rule_id(unsigned number)
 
 void sarif_tell(const Arguments *arguments, const Checked *checked)
 {
-    (void)arguments;
     for (size_t i = 0; checked->list != NULL && i < checked->findings->count; i++) {
         Answer answer = checked->findings->answers[i];
         Meaning meaning = meaning_of(checked->list, answer, FOR_CHECK);
         json_t *result = json_pack("{s:o, s:s, s:{s:s}, s:[o]}", "ruleId", rule_id(answer.number), "level", "error", "message", "text", meaning.text,
-                                   "locations", location_json(checked->path, answer.place, NULL));
+                                   "locations", location_json(arguments, checked->path, answer.place, NULL));
         if (result != NULL && is_missing_sync(answer))
-            json_object_set_new(result, "relatedLocations", json_pack("[o]", location_json(checked->path, answer.third, meaning.text + meaning.cause)));
+            json_object_set_new(result, "relatedLocations", json_pack("[o]", location_json(arguments, checked->path, answer.third,
+                                                                                          meaning.text + meaning.cause)));
         tell(result);
     }
 }

@@ -106,14 +106,20 @@ static const Named named[] = {
     { 0x3F, "Set Color Image", image }
 };
 
+static const Named no_operation = { 0, "No Operation", none };
+
 /* The entry of a command; every other number is a no operation. */
 static const Named *entry_of(unsigned number)
 {
-    static const Named no_operation = { 0, "No Operation", none };
     for (size_t i = 0; i < sizeof named / sizeof named[0]; i++)
         if (named[i].number == number)
             return &named[i];
     return &no_operation;
+}
+
+bool is_named(unsigned number)
+{
+    return entry_of(number) != &no_operation;
 }
 
 const char *command_name(unsigned number)

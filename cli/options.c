@@ -41,6 +41,28 @@ static bool set_format(Arguments *arguments, const char *value)
     return arguments->format != NULL;
 }
 
+static bool set_offset(Arguments *arguments, const char *value)
+{
+    return take_address(value, &arguments->input.offset);
+}
+
+static bool set_length(Arguments *arguments, const char *value)
+{
+    return arguments->input.has_length = take_address(value, &arguments->input.length);
+}
+
+static bool set_swap(Arguments *arguments, const char *value)
+{
+    (void)value;
+    return arguments->input.swap = true;
+}
+
+static bool set_hex(Arguments *arguments, const char *value)
+{
+    (void)value;
+    return arguments->input.hex = true;
+}
+
 static bool set_output(Arguments *arguments, const char *value)
 {
     arguments->output = strcmp(value, "/dev/stdout") == 0 ? "-" : value; /* so that no text is mixed with it */
@@ -85,6 +107,10 @@ static const Option options[] = {
       "the file to write: .png or .ppm for the picture, .bin for\n"
       "all of memory, or with --image for the picture's bytes" },
     { OF_REPORT, "output", 'o', "OUT", set_output, NULL, "the file to write" },
+    { OF_ALL, "offset", 0, "BYTE", set_offset, "a number", "where the list begins in the file; 0 if not given" },
+    { OF_ALL, "length", 0, "BYTES", set_length, "a number", "the list's length; to the end of the file if not given" },
+    { OF_ALL, "swap", 0, NULL, set_swap, NULL, "the file has its words least significant byte first" },
+    { OF_ALL, "hex", 0, NULL, set_hex, NULL, "the file is text, of hexadecimal digits" },
     { OF_ALL, "help", 'h', NULL, NULL, NULL, "print this" }
 };
 

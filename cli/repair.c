@@ -69,7 +69,7 @@ static int repair_file(const Repair *repair, const char *path)
 {
     List list;
     Repaired repaired;
-    if (!list_read(path, &list, &to_repair))
+    if (!list_read(path, &list, &to_repair, &repair->arguments->input))
         return STATUS_ERROR;
     int status = STATUS_ERROR;
     if (repaired_of(&list, &repaired)) {
@@ -83,10 +83,13 @@ static int repair_file(const Repair *repair, const char *path)
 /* Why the arguments do not go together; NULL where they do. */
 static const char *fault_of(const Arguments *arguments, bool to_output)
 {
+    const Input *input = &arguments->input;
     if (arguments->dry + arguments->in_place + (arguments->output != NULL) > 1)
         return "repair has one of --check, --in-place and -o";
     if (arguments->count > 1 && !arguments->dry && !arguments->in_place)
         return "repair of several lists needs --in-place or --check";
+    if (arguments->in_place && (input->offset > 0 || input->has_length || input->swap || input->hex))
+        return "only whole files are repaired in place";
     for (int i = 0; arguments->in_place && i < arguments->count; i++)
         if (strcmp(arguments->paths[i], "-") == 0)
             return "standard input is not repaired in place";

@@ -102,7 +102,7 @@ int run_report(const Arguments *arguments)
         complain("%s", arguments->output == NULL ? "report needs -o OUT" : "the output is the list itself");
         return usage_error(arguments->command);
     }
-    if (!list_read(path, &report.list, &to_show))
+    if (!list_read(path, &report.list, &to_show, &arguments->input))
         return STATUS_ERROR;
     int status = write_report(&report, arguments->output);
     free(report.png);

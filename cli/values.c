@@ -6,8 +6,8 @@
 #define MEMORY_LIMIT (256u * 1024u * 1024u)
 #define SIDE_LIMIT 4096u
 
-/* The digits' values by their place. */
-static unsigned digit_of(char c)
+/* The value of a hexadecimal digit, by its place; 16 of what is none. */
+unsigned digit_of(char c)
 {
     static const char digits[] = "0123456789abcdef0123456789ABCDEF";
     const char *found = c != '\0' ? strchr(digits, c) : NULL;

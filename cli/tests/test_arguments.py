@@ -17,6 +17,8 @@ WRONG = {
     "option '--help' doesn't allow an argument": [["dump", "--help=x"]],
     "repair of several lists needs --in-place or --check": [["repair", "a", "b"], ["repair", "a", "b", "-o", "c"]],
     "repair has one of --check, --in-place and -o": [["repair", "a", "-i", "--check"], ["repair", "a", "-i", "-o", "b"], ["repair", "a", "--check", "-o", "b"]],
+    "only whole files are repaired in place": [["repair", "-i", "a", *more] for more in (["--offset=8"], ["--length=8"], ["--swap"], ["--hex"])],
+    "not a number": [["check", "a", option, text] for option in ("--offset", "--length") for text in ("", "x", "-1", "8K", "1 ")],
     "standard input is not repaired in place": [["repair", "-i", "-"], ["repair", "--in-place", "a", "-"]],
     "takes one list": [["dump", "a", "b"], ["draw", "a", "b"], ["report", "a", "b", "-o", "x.html"]],
     "not one of text, gcc, github, json and sarif": [["check", "--format", "xml", "a"], ["check", "--format=", "a"]],
