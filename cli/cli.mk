@@ -1,7 +1,7 @@
 # The command line tool and the install: included by the Makefile at the top, which makes the archive.
 #   make cli                       build/lanyardrove
 #   make cli-test                  runs the tool as a user would; the report is opened in Chromium unless CLI_NO_BROWSER=1
-#   make install PREFIX= DESTDIR=  the archive, header, pkg-config file, tool, manual page and completion
+#   make install PREFIX= DESTDIR=  the archive, header, files for pkg-config and CMake, tool, manual page and completion
 #   make uninstall PREFIX= DESTDIR=
 
 PREFIX ?= /usr/local
@@ -36,7 +36,10 @@ cli-test: $(CLI_TOOL)
 
 # Each installed file, under $(DESTDIR)$(PREFIX), and what it is a copy of.
 CLI_PC = $(CLI_BUILD)/lanyardrove.pc
+CLI_CMAKE_VERSION = $(CLI_BUILD)/lanyardrove-config-version.cmake
 CLI_INSTALL = bin/lanyardrove=$(CLI_TOOL) lib/liblanyardrove.a=$(ARCHIVE) lib/pkgconfig/lanyardrove.pc=$(CLI_PC) \
+    lib/cmake/lanyardrove/lanyardrove-config.cmake=cli/lanyardrove-config.cmake \
+    lib/cmake/lanyardrove/lanyardrove-config-version.cmake=$(CLI_CMAKE_VERSION) \
     include/lanyardrove.h=include/lanyardrove.h share/man/man1/lanyardrove.1=cli/lanyardrove.1 \
     share/bash-completion/completions/lanyardrove=cli/lanyardrove.bash
 
@@ -46,7 +49,8 @@ CLI_PREFIX_CHECK = case "$(PREFIX)" in /*) ;; *) echo 'PREFIX is an absolute pat
 install: $(CLI_TOOL)
 	@$(CLI_PREFIX_CHECK)
 	version=$$($(CLI_TOOL) --version | cut -d' ' -f2) && prefix=$$(printf '%s' "$(PREFIX)" | sed -e 's/ /\\ /g' -e 's/[\\&|]/\\&/g') && \
-	    sed -e "s|@PREFIX@|$$prefix|" -e "s|@VERSION@|$$version|" cli/lanyardrove.pc.in > $(CLI_PC)
+	    sed -e "s|@PREFIX@|$$prefix|" -e "s|@VERSION@|$$version|" cli/lanyardrove.pc.in > $(CLI_PC) && \
+	    sed "s|@VERSION@|$$version|" cli/lanyardrove-config-version.cmake.in > $(CLI_CMAKE_VERSION)
 	set -e; for pair in $(CLI_INSTALL); do \
 	    case $$pair in bin/*) mode=755 ;; *) mode=644 ;; esac; \
 	    install -D -m $$mode "$${pair#*=}" "$(DESTDIR)$(PREFIX)/$${pair%%=*}"; \

@@ -1,4 +1,4 @@
-"""What is installed: the six files, linking from C, the manual page, completion."""
+"""What is installed: the files, linking from C, the manual page, completion."""
 import os
 import re
 import shlex
@@ -8,7 +8,8 @@ import subprocess
 from support import COMMANDS, TOOL, TOP, example, read, run, same, test, write
 from test_readme import program
 
-INSTALLED = ["bin/lanyardrove", "include/lanyardrove.h", "lib/liblanyardrove.a", "lib/pkgconfig/lanyardrove.pc",
+INSTALLED = ["bin/lanyardrove", "include/lanyardrove.h", "lib/cmake/lanyardrove/lanyardrove-config-version.cmake",
+             "lib/cmake/lanyardrove/lanyardrove-config.cmake", "lib/liblanyardrove.a", "lib/pkgconfig/lanyardrove.pc",
              "share/bash-completion/completions/lanyardrove", "share/man/man1/lanyardrove.1"]
 
 
@@ -73,6 +74,53 @@ def a_program_is_linked_with_pkg_config():
     for name, answer in (("g.rdp", "9 4\n"), ("i.rdp", "0 5\n")):
         done = subprocess.run(["./program"], input=read(example(name)), capture_output=True)
         same((done.returncode, done.stdout.decode()), (0, answer))
+
+
+def sample(name):
+    """A folder with a sample of examples/build, the README's program, and one list that is accepted."""
+    os.mkdir("game")
+    shutil.copy(os.path.join(TOP, "examples", "build", name), "game")
+    write("game/check.c", program())
+    write("game/a list.rdp" if name != "Makefile" else "game/list.rdp", read(example("i.rdp")))
+
+
+@test
+def lists_are_checked_by_the_sample_for_make():
+    sample("Makefile")
+    env = {**os.environ, "PATH": f"{os.path.dirname(TOOL)}:{os.environ['PATH']}"}
+
+    def made():
+        return subprocess.run(["make", "-C", "game"], capture_output=True, env=env)
+    same((made().returncode, b"lanyardrove check" in made().stdout), (0, False))  # the second time nothing is to be done
+    write("game/list.rdp", read(example("g.rdp")))
+    os.utime("game/list.rdp", (2e9, 2e9))
+    for _ in range(2):  # and it stays red
+        done = made()
+        assert done.returncode == 2 and b"list.rdp:4: error: Set Fill Color requires Sync Pipe [9]\n" in done.stdout, done
+
+
+@test
+def a_program_and_lists_are_built_by_the_sample_for_cmake():
+    assert shutil.which("cmake"), "CMake is not installed: apt-get install cmake"
+    prefix = os.path.abspath("a prefix")
+    make_built("install", f"PREFIX={prefix}")
+    sample("CMakeLists.txt")
+    version = run("--version")[1].split()[1]
+
+    def cmake(*arguments):
+        return subprocess.run(["cmake", *arguments], capture_output=True, env={**os.environ, "CC": "cc"})
+    same(cmake("-S", "game", "-B", "made", f"-DCMAKE_PREFIX_PATH={prefix}").stderr, b"")
+    same((cmake("--build", "made").returncode, os.path.exists("made/a list.rdp.checked")), (0, True))
+    done = subprocess.run(["made/check"], input=read(example("g.rdp")), capture_output=True)
+    same((done.returncode, done.stdout), (0, b"9 4\n"))
+    write("game/a list.rdp", read(example("g.rdp")))
+    os.utime("game/a list.rdp", (2e9, 2e9))
+    done = cmake("--build", "made")
+    assert done.returncode != 0 and b"a list.rdp:4: error: Set Fill Color requires Sync Pipe [9]\n" in done.stdout, done
+    for asked, found in ((version, True), ("99.0", False), (f"{int(version.split('.')[0]) - 1}.0", False)):
+        write("game/CMakeLists.txt", f"cmake_minimum_required(VERSION 3.16)\nproject(lists C)\nfind_package(lanyardrove {asked} REQUIRED)\n".encode())
+        same(cmake("-S", "game", "-B", "other", f"-DCMAKE_PREFIX_PATH={prefix}").returncode == 0, found, asked)
+        shutil.rmtree("other")
 
 
 def completed(*typed):
