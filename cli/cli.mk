@@ -41,7 +41,8 @@ CLI_INSTALL = bin/lanyardrove=$(CLI_TOOL) lib/liblanyardrove.a=$(ARCHIVE) lib/pk
     lib/cmake/lanyardrove/lanyardrove-config.cmake=cli/lanyardrove-config.cmake \
     lib/cmake/lanyardrove/lanyardrove-config-version.cmake=$(CLI_CMAKE_VERSION) \
     include/lanyardrove.h=include/lanyardrove.h share/man/man1/lanyardrove.1=cli/lanyardrove.1 \
-    share/bash-completion/completions/lanyardrove=cli/lanyardrove.bash
+    share/bash-completion/completions/lanyardrove=cli/lanyardrove.bash share/zsh/site-functions/_lanyardrove=cli/lanyardrove.zsh \
+    share/fish/vendor_completions.d/lanyardrove.fish=cli/lanyardrove.fish
 
 # A prefix is absolute, since pkg-config and DESTDIR go by it. In the pkg-config file a space in it is escaped, and the signs that sed reads are here.
 CLI_PREFIX_CHECK = case "$(PREFIX)" in /*) ;; *) echo 'PREFIX is an absolute path: PREFIX=/usr' >&2; exit 1 ;; esac

@@ -10,7 +10,8 @@ from test_readme import program
 
 INSTALLED = ["bin/lanyardrove", "include/lanyardrove.h", "lib/cmake/lanyardrove/lanyardrove-config-version.cmake",
              "lib/cmake/lanyardrove/lanyardrove-config.cmake", "lib/liblanyardrove.a", "lib/pkgconfig/lanyardrove.pc",
-             "share/bash-completion/completions/lanyardrove", "share/man/man1/lanyardrove.1"]
+             "share/bash-completion/completions/lanyardrove", "share/fish/vendor_completions.d/lanyardrove.fish", "share/man/man1/lanyardrove.1",
+             "share/zsh/site-functions/_lanyardrove"]
 
 
 def make(*arguments, status=0, errors=b""):
@@ -123,14 +124,34 @@ def a_program_and_lists_are_built_by_the_sample_for_cmake():
         shutil.rmtree("other")
 
 
+def shell(name, line):
+    """What a line of a shell prints, line by line."""
+    assert shutil.which(name), f"{name} is not installed: apt-get install {name}"
+    flags = {"bash": ["-c"], "zsh": ["-f", "-c"], "fish": ["--no-config", "-c"]}[name]
+    done = subprocess.run([name, *flags, line], capture_output=True, env={**os.environ, "HOME": os.path.abspath(".")})
+    same((done.returncode, done.stderr), (0, b""), line)
+    return done.stdout.decode().split("\n")[:-1]
+
+
+def completed_by_fish(*typed):
+    script = os.path.join(TOP, "cli", "lanyardrove.fish")
+    return [line.split("\t")[0] for line in shell("fish", f"source {shlex.quote(script)}; complete -C {shlex.quote(' '.join(['lanyardrove', *typed]))}")]
+
+
+def completed_by_zsh(*typed):
+    """What the function hands to zsh, without its check of files: zsh itself completes only on a terminal."""
+    script = os.path.join(TOP, "cli", "lanyardrove.zsh")
+    stand_ins = 'compadd() { shift; print -rl -- "$@"; }; _arguments() { for each; do print -r -- "${${each%%:*}%%=}"; done; }'
+    words = " ".join(map(shlex.quote, typed))
+    return [line for line in shell("zsh", f"{stand_ins}; words=(lanyardrove {words}); CURRENT={len(typed) + 1}; source {shlex.quote(script)}") if line != "*"]
+
+
 def completed(*typed):
-    """What completion offers for the last of the typed words."""
+    """What completion by bash offers for the last of the typed words."""
     script = os.path.join(TOP, "cli", "lanyardrove.bash")
     line = (f"source {shlex.quote(script)}; COMP_WORDS=(lanyardrove {' '.join(map(shlex.quote, typed))}); COMP_CWORD={len(typed)}; "
             "_lanyardrove; printf '%s\\n' \"${COMPREPLY[@]}\"")
-    done = subprocess.run(["bash", "-c", line], capture_output=True)
-    same((done.returncode, done.stderr), (0, b""), typed)
-    return done.stdout.decode().split("\n")[:-1] if done.stdout != b"\n" else []
+    return [offered for offered in shell("bash", line) if offered]
 
 
 @test
@@ -139,6 +160,10 @@ def completion_offers_commands_options_and_files():
     os.mkdir("lists")
     same(completed(""), [*COMMANDS, "help", "--help", "--version"])
     same(completed("help", "d"), ["dump", "draw"])
+    same((sorted(completed_by_fish("")), completed_by_zsh("")), (sorted([*COMMANDS, "help"]), [*COMMANDS, "help", "--help", "--version"]))
+    same((sorted(completed_by_fish("help", "")), completed_by_zsh("help", "")), (sorted(COMMANDS), list(COMMANDS)))
+    same(sorted(completed_by_fish("check", "--format", "")), ["gcc", "github", "json", "sarif", "text"])
+    assert "lists/" in completed_by_fish("check", "l") and not completed_by_fish("draw", "--start", "l")
     for typed, expected in ((["d"], ["dump", "draw"]), (["draw", "--m"], ["--memory"]), (["check", "--f"], ["--failures", "--format"]), (["check", "--format", "g"], ["gcc", "github"]),
                             (["check", "li"], ["list one.rdp", "lists"]), (["check", "-q", "list "], ["list one.rdp"]),
                             (["repair", "x", "-o", "li"], ["list one.rdp", "lists"]), (["draw", "--start", "l"], []),
@@ -171,7 +196,8 @@ def completion_and_manual_page_have_the_options_of_the_tool():
         options = options_of(command)
         assert len(options) >= 1, command
         offered = [f"-{letter}" for letter, _, _ in options if letter] + [f"--{name}" for _, name, _ in options]
-        same(sorted(completed(command, "-")), sorted(offered), command)
+        for complete in (completed, completed_by_fish, completed_by_zsh):
+            same(sorted(complete(command, "-")), sorted(offered), (command, complete))
         same(sorted(described[command]), sorted(f"{f'-{letter}, ' if letter else ''}--{name}{f' {value}' if value else ''}"
                                                 for letter, name, value in options), command)
     page = read(os.path.join(TOP, "cli", "lanyardrove.1")).decode().split(".SH DESCRIPTION")[0]
