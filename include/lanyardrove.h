@@ -161,7 +161,7 @@ uint64_t lanyardrove_words(uint64_t first_word);
    A triangle's words after its first four (its suffix) are no fields: they are the list's own bytes from byte 32 on. */
 uint64_t lanyardrove_decode(const uint8_t *list, size_t list_length, uint64_t *fields, size_t count);
 
-/* The other way round: writes the words of the command with this number and these fields to the front of out, with unused
+/* Encodes a command: writes the words of the command with this number and these fields to the front of out, with unused
    bits zero, and for a triangle the suffix after them: its words beyond the first four, 8 bytes each, as given.
    Answers 0 and the words written as the place; 15 at 0 for a number of 64 or more, a count of fields that is not the
    command's, a field that exceeds its bits, triangle flags that contradict the number, or a suffix that is not exactly as

@@ -12,6 +12,9 @@ INSTALLED = ["bin/lanyardrove", "include/lanyardrove.h", "lib/cmake/lanyardrove/
              "lib/cmake/lanyardrove/lanyardrove-config.cmake", "lib/liblanyardrove.a", "lib/pkgconfig/lanyardrove.pc",
              "share/bash-completion/completions/lanyardrove", "share/fish/vendor_completions.d/lanyardrove.fish", "share/man/man1/lanyardrove.1",
              "share/zsh/site-functions/_lanyardrove"]
+HEADER = read(os.path.join(TOP, "include", "lanyardrove.h")).decode()
+FUNCTIONS = re.findall(r"^uint(?:32|64)_t (lanyardrove_\w+)\(", HEADER, re.M)
+INSTALLED = sorted(INSTALLED + [f"share/man/man3/{name}.3" for name in ("lanyardrove", *FUNCTIONS)])
 
 
 def make(*arguments, status=0, errors=b""):
@@ -48,6 +51,48 @@ def install_and_uninstall():
     write(f"{root}/usr/lib/other", b"")
     make_built("uninstall", f"DESTDIR={root}", "PREFIX=/usr")
     same(files_below(root), ["usr/lib/other"])
+
+
+@test
+def a_debian_package_is_installed_and_used():
+    version = run("--version")[1].split()[1]
+    machine = subprocess.run(["dpkg", "--print-architecture"], capture_output=True, check=True).stdout.decode().strip()
+    make_built("deb")
+    package = os.path.join(os.path.dirname(TOOL), f"lanyardrove_{version}_{machine}.deb")
+    root = os.path.abspath("root")
+    os.makedirs("root/var/lib/dpkg/updates")
+    os.makedirs("root/var/lib/dpkg/info")
+    write("root/var/lib/dpkg/status", read("/var/lib/dpkg/status"))  # so that what it depends on is known
+    dpkg = ["dpkg", f"--root={root}", "--force-not-root", "--log=/dev/null"]
+    subprocess.run([*dpkg, "-i", package], check=True, capture_output=True)
+    installed = [name for name in files_below(root) if not name.startswith("var/")]
+    same(installed, ["usr/" + name for name in INSTALLED])
+    done = subprocess.run([f"{root}/usr/bin/lanyardrove", "check", "-q", example("g.rdp")], capture_output=True)
+    same((done.returncode, done.stdout), (1, b"9 4\n"))
+    depends = subprocess.run(["dpkg-deb", "-f", package, "Depends"], capture_output=True, check=True).stdout.decode()
+    assert "libc6" in depends and "libpng" in depends and "libjansson" in depends, depends
+    subprocess.run([*dpkg, "-r", "lanyardrove"], check=True, capture_output=True)
+    same([name for name in files_below(root) if not name.startswith("var/")], [])
+    os.remove(package)
+
+
+@test
+def each_function_has_a_manual_page_of_the_headers_text():
+    root = os.path.abspath("root")
+    make_built("install", f"DESTDIR={root}", "PREFIX=/usr")
+    for name in ("lanyardrove", *FUNCTIONS):
+        page = f"{root}/usr/share/man/man3/{name}.3"
+        done = subprocess.run(["man", "--warnings", "-l", page], capture_output=True, env={**os.environ, "LC_ALL": "C.UTF-8", "MANWIDTH": "200"})
+        same((done.returncode, done.stderr), (0, b""), name)
+        text = " ".join(done.stdout.decode().split())
+        above = HEADER[:HEADER.index("*/") if name == "lanyardrove" else re.search(rf"^uint\d+_t {name}\(", HEADER, re.M).start()]
+        comment = re.sub(r"\*/.*", "", above[above.rindex("/*") + 2:], flags=re.S)
+        said = " ".join(re.sub(r"^ \*", "", comment, flags=re.M).split()).removeprefix("Lanyardrove: ")
+        assert said in text, (name, said, text)
+    declarations = " ".join(HEADER.split())
+    for name in FUNCTIONS:
+        page = " ".join(read(f"{root}/usr/share/man/man3/{name}.3").decode().split())
+        assert re.search(rf"uint\d+_t {name}\([^;]*;", declarations)[0] in page, name
 
 
 @test
