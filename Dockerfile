@@ -3,10 +3,10 @@
 # The archive is built outside, because the Rattle toolchain that proves and compiles it is no Debian package:
 #     make && make install DESTDIR=build/installed PREFIX=/usr
 #     docker build -t studio .
-# The tool is linked with the libpng of the machine that built it; build on the same Debian release as below.
+# The tool is linked with the libpng and the jansson of the machine that built it; build on the same Debian release as below.
 FROM debian:bookworm-slim
 RUN apt-get update \
-    && apt-get install -y --no-install-recommends gcc libc6-dev make pkg-config libpng16-16 \
+    && apt-get install -y --no-install-recommends gcc libc6-dev make pkg-config libpng16-16 libjansson4 \
     && rm -rf /var/lib/apt/lists/*
 COPY build/installed/usr /usr
 

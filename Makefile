@@ -15,7 +15,7 @@ SOURCES = crates.txt $(shell find crates -name '*.rt' -o -name '*.antt')
 ARCHIVE = build/liblanyardrove.a
 TEST = tests/c/test_boundary.c
 
-all: cli-png $(ARCHIVE) cli
+all: cli-libraries $(ARCHIVE) cli
 
 $(ARCHIVE): $(SOURCES)
 	@command -v rt > /dev/null || { echo 'The library is proved and built by the Rattle toolchain, whose command rt is not at hand' >&2; exit 1; }

@@ -53,9 +53,12 @@ static const char *refusal_text(unsigned number)
 }
 
 /* What an answer means, without a cause. */
-static void explain(const List *list, Answer answer, Purpose purpose, char *text, size_t room)
+static void explain(const List *list, Answer answer, Purpose purpose, Meaning *meaning)
 {
+    char *text = meaning->text;
+    size_t room = sizeof meaning->text;
     unsigned place = answer.place;
+    meaning->start = 0;
     switch (answer.number) {
     case LANYARDROVE_ACCEPTED:
         if (place == 0)
@@ -65,7 +68,9 @@ static void explain(const List *list, Answer answer, Purpose purpose, char *text
         break;
     case LANYARDROVE_TOO_LONG: snprintf(text, room, "the list is over %s bytes", purpose == FOR_REPAIR ? "16,384" : "32,768"); break;
     case LANYARDROVE_NOT_WORDS: snprintf(text, room, "the length of %zu bytes is no multiple of 8", list->length); break;
-    default: snprintf(text, room, "word %u: %s %s", place, name_at(list, place), refusal_text(answer.number));
+    default:
+        meaning->start = (size_t)snprintf(text, room, "word %u: ", place);
+        snprintf(text + meaning->start, room - meaning->start, "%s %s", name_at(list, place), refusal_text(answer.number));
     }
 }
 
@@ -74,11 +79,11 @@ Meaning meaning_of(const List *list, Answer answer, Purpose purpose)
 {
     static const char between[] = ", for the ";
     Meaning meaning;
-    explain(list, answer, purpose, meaning.text, sizeof meaning.text);
-    meaning.cause = strlen(meaning.text);
+    explain(list, answer, purpose, &meaning);
+    meaning.end = meaning.cause = strlen(meaning.text);
     if (is_missing_sync(answer)) {
         unsigned place = answer.third;
-        snprintf(meaning.text + meaning.cause, sizeof meaning.text - meaning.cause, "%s%s at word %u", between, name_at(list, place), place);
+        snprintf(meaning.text + meaning.end, sizeof meaning.text - meaning.end, "%s%s at word %u", between, name_at(list, place), place);
         meaning.cause += strlen(between);
     }
     return meaning;

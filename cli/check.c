@@ -1,62 +1,59 @@
 /* lanyardrove check: the verdict on lists. */
-#include "cli.h"
+#include "check.h"
 
-typedef struct {
-    unsigned accepted, empty, refused, unread;
-} Tally;
+#include <stdlib.h>
+#include <string.h>
 
-/* With several lists the verdict is one line, with the list's name. */
-static void print_verdict(const Arguments *arguments, const char *path, const List *list)
+typedef struct Format Format;
+
+static const Format formats[] = {
+    { "text", text_tell, text_end }, { "gcc", gcc_tell, lines_end }, { "github", github_tell, lines_end },
+    { "json", json_tell, json_end }, { "sarif", sarif_tell, sarif_end }
+};
+
+/* NULL where there is none of the name. */
+const Format *format_of(const char *name)
 {
-    Answer answer = list->verdict;
-    if (arguments->quiet)
-        printf("%u %u\n", answer.number, (unsigned)answer.place);
-    else if (arguments->count <= 1)
-        print_answer(stdout, list, answer, FOR_CHECK);
-    else {
-        Meaning meaning = meaning_of(list, answer, FOR_CHECK);
-        printf("%u %u %s: %s\n", answer.number, (unsigned)answer.place, path, meaning.text);
-    }
+    for (size_t i = 0; i < sizeof formats / sizeof formats[0]; i++)
+        if (strcmp(formats[i].name, name) == 0)
+            return &formats[i];
+    return NULL;
 }
 
-static void check_file(const Arguments *arguments, const char *path, Tally *tally)
+static void count(Tally *tally, const List *list)
 {
-    List list;
-    if (!list_read(path, &list, &to_judge)) {
+    if (list == NULL)
         tally->unread++;
-        return;
-    }
-    print_verdict(arguments, path, &list);
-    if (is_refused(list.verdict))
+    else if (is_refused(list->verdict))
         tally->refused++;
     else {
         tally->accepted++;
-        tally->empty += list.length == 0;
+        tally->empty += list->length == 0;
     }
-    list_free(&list);
 }
 
-static void print_tally(int lists, const Tally *tally)
+static void check_file(const Arguments *arguments, const Format *format, const char *path, Tally *tally)
 {
-    printf("%d lists: %u accepted", lists, tally->accepted);
-    if (tally->empty > 0)
-        printf(" (%u empty)", tally->empty);
-    printf(", %u refused", tally->refused);
-    if (tally->unread > 0)
-        printf(", %u not read", tally->unread);
-    putchar('\n');
+    List list;
+    Findings findings = { 0 };
+    bool read = list_read(path, &list, arguments->all ? &to_walk : &to_judge, &arguments->input) && findings_of(&list, arguments->all, &findings);
+    Checked checked = { path, read ? &list : NULL, &findings };
+    count(tally, checked.list);
+    if (!read || is_refused(list.verdict) || !arguments->failures)
+        format->tell(arguments, &checked);
+    if (read)
+        hint_swapped(path, &list, &arguments->input);
+    free(findings.answers);
+    list_free(&list);
 }
 
 int run_check(const Arguments *arguments)
 {
+    const Format *format = arguments->format != NULL ? arguments->format : &formats[0];
     Tally tally = { 0 };
-    if (arguments->count == 0)
-        check_file(arguments, "-", &tally);
     for (int i = 0; i < arguments->count; i++)
-        check_file(arguments, arguments->paths[i], &tally);
-    if (arguments->count > 1 && !arguments->quiet)
-        print_tally(arguments->count, &tally);
-    if (tally.unread > 0)
+        check_file(arguments, format, arguments->paths[i], &tally);
+    if (!format->end(arguments, &tally) || tally.unread > 0)
         return STATUS_ERROR;
     return tally.refused > 0 ? STATUS_REFUSED : STATUS_ACCEPTED;
 }

@@ -7,6 +7,7 @@
 #include <stddef.h>
 #include <stdint.h>
 #include <stdio.h>
+#include <sys/types.h>
 
 /* exit status */
 enum { STATUS_ACCEPTED = 0, STATUS_REFUSED = 1, STATUS_ERROR = 2 };
@@ -36,8 +37,9 @@ typedef enum { FOR_CHECK, FOR_REPAIR, FOR_DRAW } Purpose;
 
 /* What an answer means, in one line. */
 typedef struct {
-    char text[160]; /* the longest fits in */
-    size_t cause;   /* where the text names the command that a missing sync has to wait for; its end where it names none */
+    char text[160];    /* the longest fits in */
+    size_t start, end; /* of what it says of the command: after its place, before its cause */
+    size_t cause;      /* where it names the command that a missing sync has to wait for; its end where it names none */
 } Meaning;
 
 Answer answer_of(uint64_t packed);
@@ -50,7 +52,30 @@ Meaning meaning_of(const List *list, Answer answer, Purpose purpose);
 void print_answer(FILE *stream, const List *list, Answer answer, Purpose purpose);
 const char *reason_of(unsigned number);
 
-/* -- file.c: lists are read, outputs are written whole or not at all ---- */
+/* -- source.c: the bytes of a list where they are ----------------------- */
+
+typedef struct {
+    uint64_t offset, length;
+    bool has_length, swap, hex;
+} Input;
+
+/* The file that a list is read from, and how far. */
+typedef struct {
+    int file;
+    const Input *input;
+    uint64_t skipped, taken; /* bytes before the list, and of it */
+    unsigned digits, high;   /* of hexadecimal text: the digits of a byte so far, and the value of the first */
+    bool comment;            /* it is in one, to the end of the line */
+    uint8_t held[8];         /* of little-endian words: the bytes of one that is not complete */
+    size_t holds;
+    const char *fault; /* why the list cannot be read, where the system does not know */
+} Source;
+
+ssize_t source_read(Source *source, uint8_t *to, size_t room);
+const char *source_fault(const Source *source);
+void swap_words(uint8_t *bytes, size_t words);
+
+/* -- list.c: lists are read ---------------------------------------------- */
 
 /* How far a command of the tool reads a list. */
 typedef struct {
@@ -58,17 +83,16 @@ typedef struct {
     bool (*is_enough)(Answer verdict); /* at such a verdict no more is read of a pipe */
 } Reading;
 
-extern const Reading to_judge, to_repair, to_show;
+extern const Reading to_judge, to_walk, to_repair, to_show;
 
-bool list_read(const char *path, List *list, const Reading *reading);
+bool list_read(const char *path, List *list, const Reading *reading, const Input *input);
 bool goes_on(const List *list);
 void list_free(List *list);
+
+/* -- file.c: outputs are written whole or not at all --------------------- */
+
 bool file_write(const char *path, const void *bytes, size_t length);
 bool is_same_file(const char *path, const char *other);
-
-/* -- arrival.c: lists through a pipe, judged as they arrive ------------- */
-
-bool list_arrive(int file, List *list, bool (*is_enough)(Answer verdict));
 
 /* -- command.c: a list command by command ------------------------------- */
 
@@ -86,11 +110,16 @@ uint64_t word_at(const uint8_t *bytes, size_t place);
 
 /* -- names.c: names and values as N64brew has them ---------------------- */
 
+bool is_named(unsigned number);
 const char *command_name(unsigned number);
 const char *name_at(const List *list, size_t place);
 const char *field_name(unsigned number, size_t field);
 void field_value(const Command *command, size_t field, char *text, size_t room);
 const char *suffix_name(const Command *command, size_t word);
+
+/* -- hint.c -------------------------------------------------------------- */
+
+void hint_swapped(const char *path, const List *list, const Input *input);
 
 /* -- hazards.c: the hazards along a list -------------------------------- */
 
@@ -114,6 +143,7 @@ typedef struct {
 } Repaired;
 
 bool repaired_of(const List *list, Repaired *repaired);
+size_t given_place(const Repaired *repaired, size_t place);
 void repaired_free(Repaired *repaired);
 
 /* -- picture.c: the picture in memory ----------------------------------- */
@@ -137,33 +167,70 @@ uint8_t *image_rgb(const Image *image, const Memory *memory);
 uint8_t *image_png(const Image *image, const uint8_t *rgb, size_t *length);
 uint8_t *image_ppm(const Image *image, const uint8_t *rgb, size_t *length);
 
-/* -- options.c: arguments and messages ---------------------------------- */
+/* -- message.c: messages, and names that are shown ---------------------- */
+
+void complain(const char *format, ...) __attribute__((format(printf, 1, 2)));
+int usage_error(const char *command);
+void print_shown(FILE *stream, const char *text);
+
+#define VERSION_ROOM 16 /* bytes that the version fits in */
+void version_text(char text[VERSION_ROOM]);
+
+/* -- check.c: the forms in which it tells lists -------------------------- */
+
+const struct Format *format_of(const char *name);
+
+/* -- values.c: the values of options ------------------------------------ */
+
+unsigned digit_of(char c);
+bool take_bytes(const char *text, uint64_t *number);
+bool take_address(const char *text, uint64_t *number);
+bool take_image(const char *text, Image *image);
+
+/* -- options.c: arguments ----------------------------------------------- */
 
 typedef struct {
     const char *command;
     char **paths; /* the lists */
     int count;
+    Input input;
     const char *output; /* NULL where -o is not given */
-    bool quiet, has_memory, has_image;
+    bool help, quiet, failures, all, dry, in_place, has_memory, has_image;
+    const struct Format *format; /* of what check tells */
     uint64_t memory, start;
     Image image;
 } Arguments;
 
+/* The commands of the tool, a bit each. */
+enum { OF_CHECK = 1, OF_REPAIR = 2, OF_DUMP = 4, OF_DRAW = 8, OF_REPORT = 16, OF_ALL = 31 };
+
 /* A command of the tool. */
 typedef struct {
+    unsigned command; /* its bit */
     const char *name;
     int (*run)(const Arguments *arguments);
-    const char *letters; /* the first letters of its options, but for --help, which all have */
-    int least, most;     /* lists that it takes */
+    int most; /* lists that it takes; it needs one */
+    const char *help;
 } Entry;
 
-void complain(const char *format, ...) __attribute__((format(printf, 1, 2)));
-int usage_error(const char *command);
+/* An option of commands of the tool. */
+typedef struct {
+    unsigned commands; /* the bits of those that have it */
+    const char *name;
+    char letter;       /* 0 where it has none */
+    const char *value; /* what the help calls its value; NULL where it takes none */
+    bool (*set)(Arguments *arguments, const char *value); /* false where the value is wrong; NULL for the help */
+    const char *expected; /* what a value that is wrong is not */
+    const char *text;     /* what the help says, in lines */
+} Option;
+
 int run_entry(const Entry *entry, int argc, char **argv);
+const Option *option_at(unsigned command, size_t index);
 
 /* -- help.c ------------------------------------------------------------- */
 
-void print_help(FILE *stream, const char *command);
+void print_overview(FILE *stream);
+void print_help(FILE *stream, const Entry *entry);
 
 /* -- the commands ------------------------------------------------------- */
 

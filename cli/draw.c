@@ -25,9 +25,7 @@ static bool write_picture(const char *output, const Image *image, const Memory *
     uint8_t *rgb = image_rgb(image, memory);
     size_t length = 0;
     uint8_t *bytes = NULL;
-    if (rgb == NULL)
-        complain("not enough memory");
-    else
+    if (rgb != NULL)
         bytes = form_of(output) == AS_PNG ? image_png(image, rgb, &length) : image_ppm(image, rgb, &length);
     bool done = bytes != NULL && file_write(output, bytes, length);
     free(bytes);
@@ -84,7 +82,8 @@ static int draw_list(const Arguments *arguments, const List *list, const Memory 
     if (!write_drawn(arguments->output, memory_alone ? NULL : &image, memory, written, sizeof written))
         return STATUS_ERROR;
     print_answer(stdout, list, answer, FOR_DRAW);
-    printf("%s: %s\n", arguments->output, written);
+    print_shown(stdout, arguments->output);
+    printf(": %s\n", written);
     return STATUS_ACCEPTED;
 }
 
@@ -92,7 +91,7 @@ static int draw_file(const Arguments *arguments)
 {
     List list;
     Memory memory = { NULL, (size_t)arguments->memory, arguments->start };
-    if (!list_read(arguments->paths[0], &list, &to_judge))
+    if (!list_read(arguments->paths[0], &list, &to_judge, &arguments->input))
         return STATUS_ERROR;
     memory.bytes = calloc(1, memory.length + 1);
     int status = STATUS_ERROR;

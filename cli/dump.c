@@ -143,19 +143,21 @@ static void print_list(const Dump *dump)
     print_rest(dump);
 }
 
-/* Colour where the output is a terminal and NO_COLOR is unset. */
+/* Colour where the output is a terminal that has it, and NO_COLOR is unset or empty, as no-color.org has it. */
 static bool wants_colour(void)
 {
-    return isatty(STDOUT_FILENO) && getenv("NO_COLOR") == NULL;
+    const char *terminal = getenv("TERM"), *none = getenv("NO_COLOR");
+    return isatty(STDOUT_FILENO) && terminal != NULL && strcmp(terminal, "dumb") != 0 && (none == NULL || none[0] == '\0');
 }
 
 int run_dump(const Arguments *arguments)
 {
     List list;
-    if (!list_read(arguments->count > 0 ? arguments->paths[0] : "-", &list, &to_show))
+    if (!list_read(arguments->paths[0], &list, &to_show, &arguments->input))
         return STATUS_ERROR;
     Dump dump = { wants_colour(), &list };
     print_list(&dump);
+    hint_swapped(arguments->paths[0], &list, &arguments->input);
     list_free(&list);
     return status_of(list.verdict);
 }

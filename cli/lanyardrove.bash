@@ -3,22 +3,25 @@
 _lanyardrove()
 {
     local current=${COMP_WORDS[COMP_CWORD]} previous=${COMP_WORDS[COMP_CWORD-1]}
-    local options
+    local options input="--offset --length --swap --hex -h --help"
     COMPREPLY=()
     if [ "$COMP_CWORD" -eq 1 ]; then
-        mapfile -t COMPREPLY < <(compgen -W "check repair dump draw report --help --version" -- "$current")
+        mapfile -t COMPREPLY < <(compgen -W "check repair dump draw report help --help --version" -- "$current")
         return
     fi
     case ${COMP_WORDS[1]} in
-    check) options="-q --quiet --help" ;;
-    repair|report) options="-o --output --help" ;;
-    dump) options="--help" ;;
-    draw) options="--memory --start --image -o --output --help" ;;
+    check) options="-q --quiet --failures --all --format $input" ;;
+    repair) options="--check -i --in-place -o --output $input" ;;
+    report) options="-o --output $input" ;;
+    dump) options="$input" ;;
+    help) mapfile -t COMPREPLY < <(compgen -W "check repair dump draw report" -- "$current"); return ;;
+    draw) options="--memory --start --image -o --output $input" ;;
     *) return ;;
     esac
     case $previous in
     --memory) mapfile -t COMPREPLY < <(compgen -W "64K 1M 4M 8M" -- "$current"); return ;;
-    --start|--image) return ;;
+    --format) mapfile -t COMPREPLY < <(compgen -W "text gcc github json sarif" -- "$current"); return ;;
+    --start|--image|--offset|--length) return ;;
     esac
     if [[ $current == -* ]]; then
         mapfile -t COMPREPLY < <(compgen -W "$options" -- "$current")

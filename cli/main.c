@@ -5,37 +5,90 @@
 #include <limits.h>
 #include <string.h>
 
+/* The help is for terminals of 80 columns. */
 static const Entry entries[] = {
-    { "check", run_check, "q", 0, INT_MAX }, { "repair", run_repair, "o", 1, 1 }, { "dump", run_dump, "", 0, 1 },
-    { "draw", run_draw, "omsi", 1, 1 }, { "report", run_report, "o", 1, 1 }
+    { OF_CHECK, "check", run_check, INT_MAX,
+      "check [OPTION].. FILE..\n"
+      "Prints 'number place' for a list, then what it means. Number 0 accepts the\n"
+      "list, and the place is the number of its words; any other number is the first\n"
+      "refusal, at a word of the list. Of a missing sync it says also for which command\n"
+      "it is missing. Of a pipe no more is read than up to the first refused command.\n"
+      "With several files there is a line for each, and a count." },
+    { OF_REPAIR, "repair", run_repair, INT_MAX,
+      "repair FILE [-o OUT], or repair --in-place|--check FILE..\n"
+      "Writes the list with the syncs inserted that it misses, at the fewest cycles,\n"
+      "and says which sync stands before which command. Without -o the list goes to\n"
+      "standard output and the text to standard error. Nothing is written where the\n"
+      "list is refused for another reason than a missing sync." },
+    { OF_DUMP, "dump", run_dump, 1,
+      "dump FILE\n"
+      "Shows the verdict, then the list command by command: place, words, name, the\n"
+      "hazards before it (pipe, tile, draw, load) and every field. At the refused\n"
+      "command stands why, and the command that it has to wait for is marked. After it\n"
+      "the hazards go on as if it had run." },
+    { OF_DRAW, "draw", run_draw, 1,
+      "draw FILE --memory BYTES -o OUT [OPTION]..\n"
+      "Draws the fill rectangles of a list into memory of zeros, and writes the\n"
+      "picture in it. Nothing is written where the list is refused. Numbers are\n"
+      "decimal, or hexadecimal after 0x." },
+    { OF_REPORT, "report", run_report, 1,
+      "report FILE -o OUT\n"
+      "Writes a page in HTML, which needs no other file: the verdict, the hazards\n"
+      "along the list, the syncs that a repair would insert, the picture if it can be\n"
+      "drawn, and the commands, with links to the refused one and to the one that it\n"
+      "has to wait for. It is written for a refused list too." }
 };
 
-/* The version is major, minor and patch number, eight bits each. */
 static void print_version(void)
 {
-    uint32_t version = lanyardrove_version();
-    printf("lanyardrove %u.%u.%u\n", (unsigned)(version >> 16), (unsigned)(version >> 8 & 255), (unsigned)(version & 255));
+    char version[VERSION_ROOM];
+    version_text(version);
+    printf("lanyardrove %s\n", version);
+}
+
+/* The command of a name; NULL where there is none, which is told. */
+static const Entry *entry_of(const char *name)
+{
+    for (size_t i = 0; i < sizeof entries / sizeof entries[0]; i++)
+        if (strcmp(entries[i].name, name) == 0)
+            return &entries[i];
+    complain("'%s' is no command", name);
+    return NULL;
+}
+
+/* The help of the tool, or of a command that is named. */
+static int help(const char *name)
+{
+    const Entry *entry = name != NULL ? entry_of(name) : NULL;
+    if (name != NULL && entry == NULL)
+        return usage_error("");
+    if (entry != NULL)
+        print_help(stdout, entry);
+    else
+        print_overview(stdout);
+    return STATUS_ACCEPTED;
+}
+
+/* Whether an argument is a word or its letter. */
+static bool is_either(const char *argument, const char *letter, const char *word)
+{
+    return strcmp(argument, letter) == 0 || strcmp(argument, word) == 0;
 }
 
 static int run(int argc, char **argv)
 {
     if (argc < 2) {
-        print_help(stderr, "");
+        print_overview(stderr);
         return STATUS_ERROR;
     }
-    if (strcmp(argv[1], "--help") == 0 || strcmp(argv[1], "-h") == 0) {
-        print_help(stdout, "");
-        return STATUS_ACCEPTED;
-    }
-    if (strcmp(argv[1], "--version") == 0) {
+    if (is_either(argv[1], "-h", "--help") || strcmp(argv[1], "help") == 0)
+        return help(argc > 2 ? argv[2] : NULL);
+    if (is_either(argv[1], "-V", "--version")) {
         print_version();
         return STATUS_ACCEPTED;
     }
-    for (size_t i = 0; i < sizeof entries / sizeof entries[0]; i++)
-        if (strcmp(entries[i].name, argv[1]) == 0)
-            return run_entry(&entries[i], argc - 1, argv + 1);
-    complain("'%s' is no command", argv[1]);
-    return usage_error("");
+    const Entry *entry = entry_of(argv[1]);
+    return entry != NULL ? run_entry(entry, argc - 1, argv + 1) : usage_error("");
 }
 
 /* Output that cannot be written is an error. Nothing to write is none, even where standard output is closed. */

@@ -20,69 +20,112 @@ typedef struct {
     Style style;
 } Field;
 
-#define END { NULL, PLAIN }
+/* A field at its index in the header; the count of fields has no name. */
+#define AT(index, name, style) [LANYARDROVE_##index] = { name, style }
 
-static const Field none[] = { END };
+static const Field none[] = { { NULL, PLAIN } };
 static const Field triangle[] = {
-    { "shade", PLAIN }, { "texture", PLAIN }, { "zbuffer", PLAIN }, { "lmajor", PLAIN }, { "level", PLAIN }, { "tile", PLAIN },
-    { "yl", SIGNED_QUARTER }, { "ym", SIGNED_QUARTER }, { "yh", SIGNED_QUARTER },
-    { "xl.i", SIGNED }, { "xl.f", PLAIN }, { "dxldy.i", SIGNED }, { "dxldy.f", PLAIN },
-    { "xh.i", SIGNED }, { "xh.f", PLAIN }, { "dxhdy.i", SIGNED }, { "dxhdy.f", PLAIN },
-    { "xm.i", SIGNED }, { "xm.f", PLAIN }, { "dxmdy.i", SIGNED }, { "dxmdy.f", PLAIN }, END
+    AT(TRIANGLE_SHADE, "shade", PLAIN), AT(TRIANGLE_TEXTURE, "texture", PLAIN), AT(TRIANGLE_ZBUFFER, "zbuffer", PLAIN),
+    AT(TRIANGLE_LMAJOR, "lmajor", PLAIN), AT(TRIANGLE_LEVEL, "level", PLAIN), AT(TRIANGLE_TILE, "tile", PLAIN),
+    AT(TRIANGLE_YL, "yl", SIGNED_QUARTER), AT(TRIANGLE_YM, "ym", SIGNED_QUARTER), AT(TRIANGLE_YH, "yh", SIGNED_QUARTER),
+    AT(TRIANGLE_XL_I, "xl.i", SIGNED), AT(TRIANGLE_XL_F, "xl.f", PLAIN), AT(TRIANGLE_DXLDY_I, "dxldy.i", SIGNED),
+    AT(TRIANGLE_DXLDY_F, "dxldy.f", PLAIN), AT(TRIANGLE_XH_I, "xh.i", SIGNED), AT(TRIANGLE_XH_F, "xh.f", PLAIN),
+    AT(TRIANGLE_DXHDY_I, "dxhdy.i", SIGNED), AT(TRIANGLE_DXHDY_F, "dxhdy.f", PLAIN), AT(TRIANGLE_XM_I, "xm.i", SIGNED),
+    AT(TRIANGLE_XM_F, "xm.f", PLAIN), AT(TRIANGLE_DXMDY_I, "dxmdy.i", SIGNED), AT(TRIANGLE_DXMDY_F, "dxmdy.f", PLAIN),
+    AT(TRIANGLE_FIELDS, NULL, PLAIN)
 };
 static const Field texture_rectangle[] = {
-    { "lrx", QUARTER }, { "lry", QUARTER }, { "tile", PLAIN }, { "ulx", QUARTER }, { "uly", QUARTER },
-    { "s", SIGNED }, { "t", SIGNED }, { "dsdx", SIGNED }, { "dtdy", SIGNED }, END
+    AT(TEXRECT_LRX, "lrx", QUARTER), AT(TEXRECT_LRY, "lry", QUARTER), AT(TEXRECT_TILE, "tile", PLAIN), AT(TEXRECT_ULX, "ulx", QUARTER),
+    AT(TEXRECT_ULY, "uly", QUARTER), AT(TEXRECT_S, "s", SIGNED), AT(TEXRECT_T, "t", SIGNED), AT(TEXRECT_DSDX, "dsdx", SIGNED),
+    AT(TEXRECT_DTDY, "dtdy", SIGNED), AT(TEXRECT_FIELDS, NULL, PLAIN)
 };
 static const Field key_gb[] = {
-    { "width_G", PLAIN }, { "width_B", PLAIN }, { "center_G", PLAIN }, { "scale_G", PLAIN }, { "center_B", PLAIN }, { "scale_B", PLAIN }, END
+    AT(KEY_GB_WIDTH_G, "width_G", PLAIN), AT(KEY_GB_WIDTH_B, "width_B", PLAIN), AT(KEY_GB_CENTER_G, "center_G", PLAIN),
+    AT(KEY_GB_SCALE_G, "scale_G", PLAIN), AT(KEY_GB_CENTER_B, "center_B", PLAIN), AT(KEY_GB_SCALE_B, "scale_B", PLAIN),
+    AT(KEY_GB_FIELDS, NULL, PLAIN)
 };
-static const Field key_r[] = { { "width_R", PLAIN }, { "center_R", PLAIN }, { "scale_R", PLAIN }, END };
+static const Field key_r[] = {
+    AT(KEY_R_WIDTH_R, "width_R", PLAIN), AT(KEY_R_CENTER_R, "center_R", PLAIN), AT(KEY_R_SCALE_R, "scale_R", PLAIN),
+    AT(KEY_R_FIELDS, NULL, PLAIN)
+};
 static const Field convert[] = {
-    { "K0", PLAIN }, { "K1", PLAIN }, { "K2", PLAIN }, { "K3", PLAIN }, { "K4", PLAIN }, { "K5", PLAIN }, END
+    AT(CONVERT_K0, "K0", PLAIN), AT(CONVERT_K1, "K1", PLAIN), AT(CONVERT_K2, "K2", PLAIN), AT(CONVERT_K3, "K3", PLAIN),
+    AT(CONVERT_K4, "K4", PLAIN), AT(CONVERT_K5, "K5", PLAIN), AT(CONVERT_FIELDS, NULL, PLAIN)
 };
 static const Field scissor[] = {
-    { "upper_left.x", QUARTER }, { "upper_left.y", QUARTER }, { "field", PLAIN }, { "odd", PLAIN },
-    { "lower_right.x", QUARTER }, { "lower_right.y", QUARTER }, END
+    AT(SCISSOR_UPPER_LEFT_X, "upper_left.x", QUARTER), AT(SCISSOR_UPPER_LEFT_Y, "upper_left.y", QUARTER), AT(SCISSOR_FIELD, "field", PLAIN),
+    AT(SCISSOR_ODD, "odd", PLAIN), AT(SCISSOR_LOWER_RIGHT_X, "lower_right.x", QUARTER), AT(SCISSOR_LOWER_RIGHT_Y, "lower_right.y", QUARTER),
+    AT(SCISSOR_FIELDS, NULL, PLAIN)
 };
-static const Field primitive_depth[] = { { "z", PLAIN }, { "dz", PLAIN }, END };
+static const Field primitive_depth[] = {
+    AT(PRIMITIVE_DEPTH_Z, "z", PLAIN), AT(PRIMITIVE_DEPTH_DZ, "dz", PLAIN), AT(PRIMITIVE_DEPTH_FIELDS, NULL, PLAIN)
+};
 static const Field other_modes[] = {
-    { "atomic_prim", PLAIN }, { "cycle_type", CYCLE },
-    { "persp_tex_en", PLAIN }, { "detail_tex_en", PLAIN }, { "sharpen_tex_en", PLAIN }, { "tex_lod_en", PLAIN },
-    { "tlut_en", PLAIN }, { "tlut_type", PLAIN }, { "sample_type", PLAIN }, { "mid_texel", PLAIN },
-    { "bi_lerp_0", PLAIN }, { "bi_lerp_1", PLAIN }, { "convert_one", PLAIN }, { "key_en", PLAIN },
-    { "rgb_dither_sel", PLAIN }, { "alpha_dither_sel", PLAIN },
-    { "bl_m1a_0", PLAIN }, { "bl_m1a_1", PLAIN }, { "bl_m1b_0", PLAIN }, { "bl_m1b_1", PLAIN },
-    { "bl_m2a_0", PLAIN }, { "bl_m2a_1", PLAIN }, { "bl_m2b_0", PLAIN }, { "bl_m2b_1", PLAIN },
-    { "force_blend", PLAIN }, { "alpha_cvg_select", PLAIN }, { "cvg_x_alpha", PLAIN }, { "z_mode", PLAIN }, { "cvg_dest", PLAIN },
-    { "color_on_cvg", PLAIN }, { "image_read_en", PLAIN }, { "z_update_en", PLAIN }, { "z_compare_en", PLAIN },
-    { "antialias_en", PLAIN }, { "z_source_sel", PLAIN }, { "dither_alpha_en", PLAIN }, { "alpha_compare_en", PLAIN }, END
+    AT(OTHER_MODES_ATOMIC_PRIM, "atomic_prim", PLAIN), AT(OTHER_MODES_CYCLE_TYPE, "cycle_type", CYCLE),
+    AT(OTHER_MODES_PERSP_TEX_EN, "persp_tex_en", PLAIN), AT(OTHER_MODES_DETAIL_TEX_EN, "detail_tex_en", PLAIN),
+    AT(OTHER_MODES_SHARPEN_TEX_EN, "sharpen_tex_en", PLAIN), AT(OTHER_MODES_TEX_LOD_EN, "tex_lod_en", PLAIN),
+    AT(OTHER_MODES_TLUT_EN, "tlut_en", PLAIN), AT(OTHER_MODES_TLUT_TYPE, "tlut_type", PLAIN),
+    AT(OTHER_MODES_SAMPLE_TYPE, "sample_type", PLAIN), AT(OTHER_MODES_MID_TEXEL, "mid_texel", PLAIN),
+    AT(OTHER_MODES_BI_LERP_0, "bi_lerp_0", PLAIN), AT(OTHER_MODES_BI_LERP_1, "bi_lerp_1", PLAIN),
+    AT(OTHER_MODES_CONVERT_ONE, "convert_one", PLAIN), AT(OTHER_MODES_KEY_EN, "key_en", PLAIN),
+    AT(OTHER_MODES_RGB_DITHER_SEL, "rgb_dither_sel", PLAIN), AT(OTHER_MODES_ALPHA_DITHER_SEL, "alpha_dither_sel", PLAIN),
+    AT(OTHER_MODES_BL_M1A_0, "bl_m1a_0", PLAIN), AT(OTHER_MODES_BL_M1A_1, "bl_m1a_1", PLAIN), AT(OTHER_MODES_BL_M1B_0, "bl_m1b_0", PLAIN),
+    AT(OTHER_MODES_BL_M1B_1, "bl_m1b_1", PLAIN), AT(OTHER_MODES_BL_M2A_0, "bl_m2a_0", PLAIN), AT(OTHER_MODES_BL_M2A_1, "bl_m2a_1", PLAIN),
+    AT(OTHER_MODES_BL_M2B_0, "bl_m2b_0", PLAIN), AT(OTHER_MODES_BL_M2B_1, "bl_m2b_1", PLAIN),
+    AT(OTHER_MODES_FORCE_BLEND, "force_blend", PLAIN), AT(OTHER_MODES_ALPHA_CVG_SELECT, "alpha_cvg_select", PLAIN),
+    AT(OTHER_MODES_CVG_X_ALPHA, "cvg_x_alpha", PLAIN), AT(OTHER_MODES_Z_MODE, "z_mode", PLAIN), AT(OTHER_MODES_CVG_DEST, "cvg_dest", PLAIN),
+    AT(OTHER_MODES_COLOR_ON_CVG, "color_on_cvg", PLAIN), AT(OTHER_MODES_IMAGE_READ_EN, "image_read_en", PLAIN),
+    AT(OTHER_MODES_Z_UPDATE_EN, "z_update_en", PLAIN), AT(OTHER_MODES_Z_COMPARE_EN, "z_compare_en", PLAIN),
+    AT(OTHER_MODES_ANTIALIAS_EN, "antialias_en", PLAIN), AT(OTHER_MODES_Z_SOURCE_SEL, "z_source_sel", PLAIN),
+    AT(OTHER_MODES_DITHER_ALPHA_EN, "dither_alpha_en", PLAIN), AT(OTHER_MODES_ALPHA_COMPARE_EN, "alpha_compare_en", PLAIN),
+    AT(OTHER_MODES_FIELDS, NULL, PLAIN)
 };
 static const Field load_area[] = {
-    { "upper_left.s", QUARTER }, { "upper_left.t", QUARTER }, { "tile", PLAIN }, { "lower_right.s", QUARTER }, { "lower_right.t", QUARTER }, END
+    AT(AREA_UPPER_LEFT_S, "upper_left.s", QUARTER), AT(AREA_UPPER_LEFT_T, "upper_left.t", QUARTER), AT(AREA_TILE, "tile", PLAIN),
+    AT(AREA_LOWER_RIGHT_S, "lower_right.s", QUARTER), AT(AREA_LOWER_RIGHT_T, "lower_right.t", QUARTER), AT(AREA_FIELDS, NULL, PLAIN)
 };
 static const Field tile_size[] = {
-    { "upper_left.s", QUARTER }, { "upper_left.t", QUARTER }, { "index", PLAIN }, { "lower_right.s", QUARTER }, { "lower_right.t", QUARTER }, END
+    AT(AREA_UPPER_LEFT_S, "upper_left.s", QUARTER), AT(AREA_UPPER_LEFT_T, "upper_left.t", QUARTER), AT(AREA_TILE, "index", PLAIN),
+    AT(AREA_LOWER_RIGHT_S, "lower_right.s", QUARTER), AT(AREA_LOWER_RIGHT_T, "lower_right.t", QUARTER), AT(AREA_FIELDS, NULL, PLAIN)
 };
 static const Field load_block[] = {
-    { "upper_left.s", QUARTER }, { "upper_left.t", QUARTER }, { "tile", PLAIN }, { "lower_right.s", QUARTER }, { "dxt", PLAIN }, END
+    AT(BLOCK_UPPER_LEFT_S, "upper_left.s", QUARTER), AT(BLOCK_UPPER_LEFT_T, "upper_left.t", QUARTER), AT(BLOCK_TILE, "tile", PLAIN),
+    AT(BLOCK_LOWER_RIGHT_S, "lower_right.s", QUARTER), AT(BLOCK_DXT, "dxt", PLAIN), AT(BLOCK_FIELDS, NULL, PLAIN)
 };
 static const Field tile[] = {
-    { "format", FORMAT }, { "size", SIZE }, { "line", PLAIN }, { "address", HEX }, { "index", PLAIN }, { "palette", PLAIN },
-    { "clamp_T", PLAIN }, { "mirror_T", PLAIN }, { "mask_T", PLAIN }, { "shift_T", PLAIN },
-    { "clamp_S", PLAIN }, { "mirror_S", PLAIN }, { "mask_S", PLAIN }, { "shift_S", PLAIN }, END
+    AT(TILE_FORMAT, "format", FORMAT), AT(TILE_SIZE, "size", SIZE), AT(TILE_LINE, "line", PLAIN), AT(TILE_ADDRESS, "address", HEX),
+    AT(TILE_INDEX, "index", PLAIN), AT(TILE_PALETTE, "palette", PLAIN), AT(TILE_CLAMP_T, "clamp_T", PLAIN),
+    AT(TILE_MIRROR_T, "mirror_T", PLAIN), AT(TILE_MASK_T, "mask_T", PLAIN), AT(TILE_SHIFT_T, "shift_T", PLAIN),
+    AT(TILE_CLAMP_S, "clamp_S", PLAIN), AT(TILE_MIRROR_S, "mirror_S", PLAIN), AT(TILE_MASK_S, "mask_S", PLAIN),
+    AT(TILE_SHIFT_S, "shift_S", PLAIN), AT(TILE_FIELDS, NULL, PLAIN)
 };
 static const Field fill_rectangle[] = {
-    { "lower_right.x", QUARTER }, { "lower_right.y", QUARTER }, { "upper_left.x", QUARTER }, { "upper_left.y", QUARTER }, END
+    AT(RECTANGLE_LOWER_RIGHT_X, "lower_right.x", QUARTER), AT(RECTANGLE_LOWER_RIGHT_Y, "lower_right.y", QUARTER),
+    AT(RECTANGLE_UPPER_LEFT_X, "upper_left.x", QUARTER), AT(RECTANGLE_UPPER_LEFT_Y, "upper_left.y", QUARTER),
+    AT(RECTANGLE_FIELDS, NULL, PLAIN)
 };
-static const Field fill_color[] = { { "color", HEX }, END };
-static const Field color[] = { { "red", PLAIN }, { "green", PLAIN }, { "blue", PLAIN }, { "alpha", PLAIN }, END };
+static const Field fill_color[] = {
+    AT(FILL_COLOR_COLOR, "color", HEX), AT(FILL_COLOR_FIELDS, NULL, PLAIN)
+};
+static const Field color[] = {
+    AT(COLOR_RED, "red", PLAIN), AT(COLOR_GREEN, "green", PLAIN), AT(COLOR_BLUE, "blue", PLAIN), AT(COLOR_ALPHA, "alpha", PLAIN),
+    AT(COLOR_FIELDS, NULL, PLAIN)
+};
 static const Field primitive_color[] = {
-    { "min_level", PLAIN }, { "prim_lod_frac", PLAIN }, { "red", PLAIN }, { "green", PLAIN }, { "blue", PLAIN }, { "alpha", PLAIN }, END
+    AT(PRIMITIVE_COLOR_MIN_LEVEL, "min_level", PLAIN), AT(PRIMITIVE_COLOR_PRIM_LOD_FRAC, "prim_lod_frac", PLAIN),
+    AT(PRIMITIVE_COLOR_RED, "red", PLAIN), AT(PRIMITIVE_COLOR_GREEN, "green", PLAIN), AT(PRIMITIVE_COLOR_BLUE, "blue", PLAIN),
+    AT(PRIMITIVE_COLOR_ALPHA, "alpha", PLAIN), AT(PRIMITIVE_COLOR_FIELDS, NULL, PLAIN)
 };
-static const Field combine[] = { { "mode", HEX }, END }; /* one number by document 01, named as in the header */
-static const Field image[] = { { "format", FORMAT }, { "size", SIZE }, { "width", LESS_ONE }, { "dramAddress", HEX }, END };
-static const Field depth_image[] = { { "dramAddress", HEX }, END };
+static const Field combine[] = {
+    AT(COMBINE_MODE, "mode", HEX), AT(COMBINE_FIELDS, NULL, PLAIN)
+}; /* one number by document 01, named as in the header */
+static const Field image[] = {
+    AT(IMAGE_FORMAT, "format", FORMAT), AT(IMAGE_SIZE, "size", SIZE), AT(IMAGE_WIDTH, "width", LESS_ONE),
+    AT(IMAGE_ADDRESS, "dramAddress", HEX), AT(IMAGE_FIELDS, NULL, PLAIN)
+};
+static const Field depth_image[] = {
+    AT(DEPTH_IMAGE_ADDRESS, "dramAddress", HEX), AT(DEPTH_IMAGE_FIELDS, NULL, PLAIN)
+};
 
 typedef struct {
     unsigned number;
@@ -91,29 +134,41 @@ typedef struct {
 } Named;
 
 static const Named named[] = {
-    { 0x08, "Fill Triangle", triangle }, { 0x09, "Fill Triangle (Z)", triangle }, { 0x0A, "Fill Triangle (T)", triangle },
-    { 0x0B, "Fill Triangle (TZ)", triangle }, { 0x0C, "Fill Triangle (S)", triangle }, { 0x0D, "Fill Triangle (SZ)", triangle },
-    { 0x0E, "Fill Triangle (ST)", triangle }, { 0x0F, "Fill Triangle (STZ)", triangle },
-    { 0x24, "Texture Rectangle", texture_rectangle }, { 0x25, "Texture Rectangle Flip", texture_rectangle },
-    { 0x26, "Sync Load", none }, { 0x27, "Sync Pipe", none }, { 0x28, "Sync Tile", none }, { 0x29, "Sync Full", none },
-    { 0x2A, "Set Key GB", key_gb }, { 0x2B, "Set Key R", key_r }, { 0x2C, "Set Convert", convert },
-    { 0x2D, "Set Scissor", scissor }, { 0x2E, "Set Primitive Depth", primitive_depth }, { 0x2F, "Set Other Modes", other_modes },
-    { 0x30, "Load TLUT", load_area }, { 0x32, "Set Tile Size", tile_size }, { 0x33, "Load Block", load_block },
-    { 0x34, "Load Tile", load_area }, { 0x35, "Set Tile", tile }, { 0x36, "Fill Rectangle", fill_rectangle },
-    { 0x37, "Set Fill Color", fill_color }, { 0x38, "Set Fog Color", color }, { 0x39, "Set Blend Color", color },
-    { 0x3A, "Set Primitive Color", primitive_color }, { 0x3B, "Set Environment Color", color },
-    { 0x3C, "Set Combine Mode", combine }, { 0x3D, "Set Texture Image", image }, { 0x3E, "Set Depth Image", depth_image },
-    { 0x3F, "Set Color Image", image }
+    { LANYARDROVE_FILL_TRIANGLE, "Fill Triangle", triangle }, { LANYARDROVE_FILL_TRIANGLE_Z, "Fill Triangle (Z)", triangle },
+    { LANYARDROVE_FILL_TRIANGLE_T, "Fill Triangle (T)", triangle }, { LANYARDROVE_FILL_TRIANGLE_TZ, "Fill Triangle (TZ)", triangle },
+    { LANYARDROVE_FILL_TRIANGLE_S, "Fill Triangle (S)", triangle }, { LANYARDROVE_FILL_TRIANGLE_SZ, "Fill Triangle (SZ)", triangle },
+    { LANYARDROVE_FILL_TRIANGLE_ST, "Fill Triangle (ST)", triangle }, { LANYARDROVE_FILL_TRIANGLE_STZ, "Fill Triangle (STZ)", triangle },
+    { LANYARDROVE_TEXTURE_RECTANGLE, "Texture Rectangle", texture_rectangle },
+    { LANYARDROVE_TEXTURE_RECTANGLE_FLIP, "Texture Rectangle Flip", texture_rectangle }, { LANYARDROVE_SYNC_LOAD, "Sync Load", none },
+    { LANYARDROVE_SYNC_PIPE, "Sync Pipe", none }, { LANYARDROVE_SYNC_TILE, "Sync Tile", none },
+    { LANYARDROVE_SYNC_FULL, "Sync Full", none }, { LANYARDROVE_SET_KEY_GB, "Set Key GB", key_gb },
+    { LANYARDROVE_SET_KEY_R, "Set Key R", key_r }, { LANYARDROVE_SET_CONVERT, "Set Convert", convert },
+    { LANYARDROVE_SET_SCISSOR, "Set Scissor", scissor }, { LANYARDROVE_SET_PRIMITIVE_DEPTH, "Set Primitive Depth", primitive_depth },
+    { LANYARDROVE_SET_OTHER_MODES, "Set Other Modes", other_modes }, { LANYARDROVE_LOAD_TLUT, "Load TLUT", load_area },
+    { LANYARDROVE_SET_TILE_SIZE, "Set Tile Size", tile_size }, { LANYARDROVE_LOAD_BLOCK, "Load Block", load_block },
+    { LANYARDROVE_LOAD_TILE, "Load Tile", load_area }, { LANYARDROVE_SET_TILE, "Set Tile", tile },
+    { LANYARDROVE_FILL_RECTANGLE, "Fill Rectangle", fill_rectangle }, { LANYARDROVE_SET_FILL_COLOR, "Set Fill Color", fill_color },
+    { LANYARDROVE_SET_FOG_COLOR, "Set Fog Color", color }, { LANYARDROVE_SET_BLEND_COLOR, "Set Blend Color", color },
+    { LANYARDROVE_SET_PRIMITIVE_COLOR, "Set Primitive Color", primitive_color },
+    { LANYARDROVE_SET_ENVIRONMENT_COLOR, "Set Environment Color", color }, { LANYARDROVE_SET_COMBINE_MODE, "Set Combine Mode", combine },
+    { LANYARDROVE_SET_TEXTURE_IMAGE, "Set Texture Image", image }, { LANYARDROVE_SET_DEPTH_IMAGE, "Set Depth Image", depth_image },
+    { LANYARDROVE_SET_COLOR_IMAGE, "Set Color Image", image }
 };
+
+static const Named no_operation = { LANYARDROVE_NO_OPERATION, "No Operation", none };
 
 /* The entry of a command; every other number is a no operation. */
 static const Named *entry_of(unsigned number)
 {
-    static const Named no_operation = { 0, "No Operation", none };
     for (size_t i = 0; i < sizeof named / sizeof named[0]; i++)
         if (named[i].number == number)
             return &named[i];
     return &no_operation;
+}
+
+bool is_named(unsigned number)
+{
+    return entry_of(number) != &no_operation;
 }
 
 const char *command_name(unsigned number)
@@ -174,8 +229,8 @@ void field_value(const Command *command, size_t field, char *text, size_t room)
 /* Which coefficients a word after a triangle's base holds: shade, texture, then z-buffer. */
 const char *suffix_name(const Command *command, size_t word)
 {
-    size_t shade = command->fields[0] != 0 ? 8 : 0;
-    size_t texture = command->fields[1] != 0 ? 8 : 0;
+    size_t shade = command->fields[LANYARDROVE_TRIANGLE_SHADE] != 0 ? 8 : 0;
+    size_t texture = command->fields[LANYARDROVE_TRIANGLE_TEXTURE] != 0 ? 8 : 0;
     if (word < shade)
         return "shade";
     return word < shade + texture ? "texture" : "zbuffer";

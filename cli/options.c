@@ -1,120 +1,185 @@
-/* Arguments and messages. */
+/* The options, each declared once for a command: what is read, and what the help says of it. */
 #define _GNU_SOURCE
 #include "cli.h"
 
 #include <getopt.h>
-#include <stdarg.h>
 #include <string.h>
 
-#define MEMORY_LIMIT (256u * 1024u * 1024u)
-#define SIDE_LIMIT 4096u
-
-void complain(const char *format, ...)
+static bool set_quiet(Arguments *arguments, const char *value)
 {
-    va_list values;
-    va_start(values, format);
-    fflush(stdout); /* so that the two stand in order where they go to one place */
-    fputs("lanyardrove: ", stderr);
-    vfprintf(stderr, format, values);
-    fputc('\n', stderr);
-    va_end(values);
+    (void)value;
+    return arguments->quiet = true;
 }
 
-int usage_error(const char *command)
+static bool set_failures(Arguments *arguments, const char *value)
 {
-    fprintf(stderr, "Try 'lanyardrove %s%s--help'.\n", command, command[0] != '\0' ? " " : "");
-    return STATUS_ERROR;
+    (void)value;
+    return arguments->failures = true;
 }
 
-/* The digits' values by their place. */
-static unsigned digit_of(char c)
+static bool set_all(Arguments *arguments, const char *value)
 {
-    static const char digits[] = "0123456789abcdef0123456789ABCDEF";
-    const char *found = c != '\0' ? strchr(digits, c) : NULL;
-    return found != NULL ? (unsigned)(found - digits) % 16 : 16;
+    (void)value;
+    return arguments->all = true;
 }
 
-/* A number in decimal, or in hexadecimal after 0x, up to a limit. What follows it is handed back; NULL where there is no number. */
-static const char *take_number(const char *text, uint64_t limit, uint64_t *number)
+static bool set_dry(Arguments *arguments, const char *value)
 {
-    bool hex = text[0] == '0' && (text[1] == 'x' || text[1] == 'X');
-    unsigned base = hex ? 16 : 10;
-    const char *digits = hex ? text + 2 : text;
-    const char *rest = digits;
-    for (*number = 0; digit_of(*rest) < base; rest++) {
-        unsigned digit = digit_of(*rest);
-        if (digit > limit || *number > (limit - digit) / base)
-            return NULL;
-        *number = *number * base + digit;
-    }
-    return rest > digits ? rest : NULL;
+    (void)value;
+    return arguments->dry = true;
 }
 
-/* A number of bytes, with K or M for 1,024 or 1,048,576 of them. */
-static bool take_bytes(const char *text, uint64_t *number)
+static bool set_in_place(Arguments *arguments, const char *value)
 {
-    const char *rest = take_number(text, MEMORY_LIMIT, number);
-    if (rest == NULL)
-        return false;
-    uint64_t unit = *rest == 'K' ? 1024 : *rest == 'M' ? 1024 * 1024 : 1;
-    *number *= unit;
-    return rest[unit > 1] == '\0' && *number <= MEMORY_LIMIT;
+    (void)value;
+    return arguments->in_place = true;
 }
 
-static bool take_address(const char *text, uint64_t *number)
+static bool set_format(Arguments *arguments, const char *value)
 {
-    const char *rest = take_number(text, UINT64_MAX, number);
-    return rest != NULL && *rest == '\0';
+    arguments->format = format_of(value);
+    return arguments->format != NULL;
 }
 
-/* ADDRESS,WIDTH,HEIGHT,SIZE */
-static bool take_image(const char *text, Image *image)
+static bool set_offset(Arguments *arguments, const char *value)
 {
-    static const uint64_t limits[4] = { UINT64_MAX, SIDE_LIMIT, SIDE_LIMIT, 32 };
-    uint64_t parts[4];
-    for (int i = 0; i < 4; i++) {
-        text = take_number(text, limits[i], &parts[i]);
-        if (text == NULL || *text++ != (i < 3 ? ',' : '\0'))
-            return false;
-    }
-    *image = (Image){ parts[0], (uint32_t)parts[1], (uint32_t)parts[2], (uint32_t)parts[3] };
-    return parts[1] > 0 && parts[2] > 0 && (parts[3] == 8 || parts[3] == 16 || parts[3] == 32);
+    return take_address(value, &arguments->input.offset);
 }
 
-static bool refuse_value(const char *option, const char *expected)
+static bool set_length(Arguments *arguments, const char *value)
 {
-    complain("%s %s: not %s", option, optarg, expected);
-    return false;
+    return arguments->input.has_length = take_address(value, &arguments->input.length);
 }
 
-static bool take_option(Arguments *arguments, int option)
+static bool set_swap(Arguments *arguments, const char *value)
 {
-    switch (option) {
-    case 'q': arguments->quiet = true; return true;
-    case 'o': arguments->output = optarg; return true;
-    case 'm':
-        arguments->has_memory = take_bytes(optarg, &arguments->memory);
-        return arguments->has_memory || refuse_value("--memory", "a number of bytes up to 256M");
-    case 's': return take_address(optarg, &arguments->start) || refuse_value("--start", "an address");
-    case 'i':
-        arguments->has_image = take_image(optarg, &arguments->image);
-        return arguments->has_image || refuse_value("--image", "ADDRESS,WIDTH,HEIGHT,SIZE with sides of 1 to 4096 and SIZE 8, 16 or 32");
-    default: return false;
-    }
+    (void)value;
+    return arguments->input.swap = true;
 }
 
-/* The options of all commands. */
-static const struct option options[] = {
-    { "help", no_argument, NULL, 'h' }, { "quiet", no_argument, NULL, 'q' }, { "output", required_argument, NULL, 'o' },
-    { "memory", required_argument, NULL, 'm' }, { "start", required_argument, NULL, 's' }, { "image", required_argument, NULL, 'i' }, { 0 }
+static bool set_hex(Arguments *arguments, const char *value)
+{
+    (void)value;
+    return arguments->input.hex = true;
+}
+
+static bool set_output(Arguments *arguments, const char *value)
+{
+    arguments->output = strcmp(value, "/dev/stdout") == 0 ? "-" : value; /* so that no text is mixed with it */
+    return true;
+}
+
+static bool set_memory(Arguments *arguments, const char *value)
+{
+    return arguments->has_memory = take_bytes(value, &arguments->memory);
+}
+
+static bool set_start(Arguments *arguments, const char *value)
+{
+    return take_address(value, &arguments->start);
+}
+
+static bool set_image(Arguments *arguments, const char *value)
+{
+    return arguments->has_image = take_image(value, &arguments->image);
+}
+
+static const Option options[] = {
+    { OF_CHECK, "quiet", 'q', NULL, set_quiet, NULL, "print 'number place' alone; of several files, the name\ntoo" },
+    { OF_CHECK, "failures", 0, NULL, set_failures, NULL, "leave out the lists that are accepted" },
+    { OF_CHECK, "all", 0, NULL, set_all, NULL,
+      "tell every sync that a list misses, as if the commands\n"
+      "before ran; the verdict stays the first refusal" },
+    { OF_CHECK, "format", 0, "FORM", set_format, "one of text, gcc, github, json and sarif",
+      "how lists are told: text, gcc (as compilers do), github\n"
+      "(annotations), json or sarif" },
+    { OF_DRAW, "memory", 0, "BYTES", set_memory, "a number of bytes up to 256M", "the length of memory; K and M may follow" },
+    { OF_DRAW, "start", 0, "ADDRESS", set_start, "an address", "the address of its first byte; 0 if not given" },
+    { OF_DRAW, "image", 0, "ADDRESS,WIDTH,HEIGHT,SIZE", set_image,
+      "ADDRESS,WIDTH,HEIGHT,SIZE with sides of 1 to 4096 and SIZE 8, 16 or 32",
+      "the picture, with SIZE bits a pixel (8, 16 or 32); if not\n"
+      "given, the colour image of the last Fill Rectangle, as\n"
+      "high as the scissor" },
+    { OF_REPAIR, "check", 0, NULL, set_dry, NULL, "write nothing; status 1 where a sync would be inserted" },
+    { OF_REPAIR, "in-place", 'i', NULL, set_in_place, NULL, "write each list over itself, where a sync is inserted" },
+    { OF_REPAIR, "output", 'o', "OUT", set_output, NULL, "the file to write; it may be FILE itself" },
+    { OF_DRAW, "output", 'o', "OUT", set_output, NULL,
+      "the file to write: .png or .ppm for the picture, .bin for\n"
+      "all of memory, or with --image for the picture's bytes" },
+    { OF_REPORT, "output", 'o', "OUT", set_output, NULL, "the file to write" },
+    { OF_ALL, "offset", 0, "BYTE", set_offset, "a number", "where the list begins in the file; 0 if not given" },
+    { OF_ALL, "length", 0, "BYTES", set_length, "a number", "the list's length; to the end of the file if not given" },
+    { OF_ALL, "swap", 0, NULL, set_swap, NULL, "the file has its words least significant byte first" },
+    { OF_ALL, "hex", 0, NULL, set_hex, NULL, "the file is text, of hexadecimal digits" },
+    { OF_ALL, "help", 'h', NULL, NULL, NULL, "print this" }
 };
 
-/* An option that another command has; getopt complains of the others. */
-static void refuse_option(const char *command, int option)
+#define OPTIONS (sizeof options / sizeof options[0])
+
+/* The option of a command by its name; NULL where the command has none. */
+static const Option *option_of(unsigned command, const char *name)
 {
-    for (const struct option *each = options; each->name != NULL; each++)
-        if (each->val == option)
-            complain("%s has no option --%s", command, each->name);
+    for (size_t i = 0; i < OPTIONS; i++)
+        if ((options[i].commands & command) != 0 && strcmp(options[i].name, name) == 0)
+            return &options[i];
+    return NULL;
+}
+
+/* The options of a command in their order; NULL after the last. */
+const Option *option_at(unsigned command, size_t index)
+{
+    for (size_t i = 0; i < OPTIONS; i++)
+        if ((options[i].commands & command) != 0 && index-- == 0)
+            return &options[i];
+    return NULL;
+}
+
+/* What getopt reads: the options of all commands, so that one of another command is told as such. */
+typedef struct {
+    char letters[3 * OPTIONS + 1];
+    struct option names[OPTIONS + 1];
+} Known;
+
+static void know_options(Known *known)
+{
+    size_t count = 0;
+    char *letters = known->letters;
+    for (size_t i = 0; i < OPTIONS; i++) {
+        const Option *option = &options[i];
+        if (option_of(OF_ALL, option->name) != option)
+            continue;
+        known->names[count++] = (struct option){ option->name, option->value != NULL, NULL, (int)(256 + i) };
+        if (option->letter != 0)
+            letters += sprintf(letters, "%c%s", option->letter, option->value != NULL ? ":" : "");
+    }
+    known->names[count] = (struct option){ 0 };
+}
+
+/* The option that getopt found, by its letter or by its index. */
+static const Option *found_option(int found)
+{
+    for (size_t i = 0; i < OPTIONS; i++)
+        if (found == (int)(256 + i) || (found != 0 && found == options[i].letter))
+            return &options[i];
+    return NULL;
+}
+
+/* Takes one option; false where it is wrong, which is told. getopt tells of an option that no command has. */
+static bool take_option(const Entry *entry, int found, Arguments *arguments)
+{
+    const Option *any = found_option(found);
+    const Option *option = any != NULL ? option_of(entry->command, any->name) : NULL;
+    if (option == NULL) {
+        if (any != NULL)
+            complain("%s has no option --%s", entry->name, any->name);
+        return false;
+    }
+    if (option->set == NULL)
+        return arguments->help = true;
+    bool taken = option->set(arguments, optarg);
+    if (!taken)
+        complain("--%s %s: not %s", option->name, optarg, option->expected);
+    return taken;
 }
 
 /* Reads the arguments of a command and runs it; argv[0] is its name. */
@@ -122,23 +187,21 @@ int run_entry(const Entry *entry, int argc, char **argv)
 {
     static char program[] = "lanyardrove";
     Arguments arguments = { .command = entry->name };
-    int option;
+    Known known;
+    int found;
+    know_options(&known);
     argv[0] = program; /* the name in getopt's messages */
-    while ((option = getopt_long(argc, argv, "hqo:", options, NULL)) != -1) {
-        if (option == 'h') {
-            print_help(stdout, entry->name);
-            return STATUS_ACCEPTED;
-        }
-        bool known = strchr(entry->letters, option) != NULL;
-        if (!known)
-            refuse_option(entry->name, option);
-        if (!known || !take_option(&arguments, option))
+    while ((found = getopt_long(argc, argv, known.letters, known.names, NULL)) != -1)
+        if (!take_option(entry, found, &arguments))
             return usage_error(entry->name);
+    if (arguments.help) {
+        print_help(stdout, entry);
+        return STATUS_ACCEPTED;
     }
     arguments.paths = argv + optind;
     arguments.count = argc - optind;
-    if (arguments.count < entry->least || arguments.count > entry->most) {
-        complain("%s takes one list", entry->name);
+    if (arguments.count == 0 || arguments.count > entry->most) {
+        complain(arguments.count == 0 ? "%s needs a list; - is standard input" : "%s takes one list", entry->name);
         return usage_error(entry->name);
     }
     return entry->run(&arguments);

@@ -6,13 +6,6 @@
 #include <stdlib.h>
 #include <string.h>
 
-#define SET_SCISSOR 0x2D
-#define SET_COLOR_IMAGE 0x3F
-#define FILL_RECTANGLE 0x36
-
-/* The places of fields in the order of the bit lines. */
-enum { IMAGE_SIZE = 1, IMAGE_WIDTH = 2, IMAGE_ADDRESS = 3, SCISSOR_LOWER_Y = 5 };
-
 /* The colour image of the last Fill Rectangle of a list, as high as the scissor there. */
 bool image_of_list(const List *list, Image *image)
 {
@@ -20,13 +13,13 @@ bool image_of_list(const List *list, Image *image)
     Image set = { 0 };
     bool drawn = false;
     for (size_t place = 0; command_at(list, place, &command) && command.whole; place += command.words) {
-        if (command.number == SET_COLOR_IMAGE) {
-            set.address = command.fields[IMAGE_ADDRESS];
-            set.width = (uint32_t)command.fields[IMAGE_WIDTH] + 1;
-            set.bits = 4u << command.fields[IMAGE_SIZE];
-        } else if (command.number == SET_SCISSOR)
-            set.height = ((uint32_t)command.fields[SCISSOR_LOWER_Y] + 3) / 4;
-        else if (command.number == FILL_RECTANGLE) {
+        if (command.number == LANYARDROVE_SET_COLOR_IMAGE) {
+            set.address = command.fields[LANYARDROVE_IMAGE_ADDRESS];
+            set.width = (uint32_t)command.fields[LANYARDROVE_IMAGE_WIDTH] + 1;
+            set.bits = 4u << command.fields[LANYARDROVE_IMAGE_SIZE];
+        } else if (command.number == LANYARDROVE_SET_SCISSOR)
+            set.height = ((uint32_t)command.fields[LANYARDROVE_SCISSOR_LOWER_RIGHT_Y] + 3) / 4;
+        else if (command.number == LANYARDROVE_FILL_RECTANGLE) {
             *image = set;
             drawn = true;
         }
@@ -67,7 +60,7 @@ static void pixel_rgb(const uint8_t *pixel, uint32_t bits, uint8_t *rgb)
             rgb[i] = pixel[bits == 32 ? i : 0];
 }
 
-/* The picture as red, green and blue bytes; it must be inside memory. NULL where there is no room. */
+/* The picture as red, green and blue bytes; it must be inside memory. NULL where there is no room, which is told. */
 uint8_t *image_rgb(const Image *image, const Memory *memory)
 {
     size_t pixels = (size_t)image->width * image->height;
@@ -75,6 +68,8 @@ uint8_t *image_rgb(const Image *image, const Memory *memory)
     const uint8_t *bytes = memory->bytes + (image->address - memory->start);
     for (size_t i = 0; rgb != NULL && i < pixels; i++)
         pixel_rgb(bytes + i * (image->bits / 8), image->bits, rgb + 3 * i);
+    if (rgb == NULL)
+        complain("not enough memory for the picture");
     return rgb;
 }
 

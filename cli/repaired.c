@@ -38,13 +38,15 @@ static bool repair_whole(const List *list, Repaired *repaired)
         if (is_accepted(repaired->answer)) {
             repaired->list.length = 8 * (size_t)repaired->answer.place;
             done = find_insertions(list, repaired);
+            if (!done)
+                complain("the repaired list cannot be compared with the given one");
         }
     }
+    else
+        complain("not enough memory for the repair");
     free(work);
-    if (!done) {
-        complain("the repair could not be made");
+    if (!done)
         repaired_free(repaired);
-    }
     return done;
 }
 
@@ -53,6 +55,15 @@ bool repaired_of(const List *list, Repaired *repaired)
 {
     *repaired = (Repaired){ .answer = list->verdict };
     return (list->arrived && is_beyond_repair(list->verdict)) || repair_whole(list, repaired);
+}
+
+/* The place in the given list of what stands at a place of the repaired one; of an inserted sync, that of the command after it. */
+size_t given_place(const Repaired *repaired, size_t place)
+{
+    size_t before = 0;
+    while (before < repaired->count && repaired->inserted[before].place + before < place)
+        before++;
+    return place - before;
 }
 
 void repaired_free(Repaired *repaired)

@@ -23,8 +23,10 @@ static bool rows_of(const List *list, Answer answer, Rows *rows)
     size_t words = (list->length < LIST_LIMIT ? list->length : LIST_LIMIT) / 8;
     unsigned hazards = 0;
     rows->rows = calloc(words + 1, sizeof *rows->rows);
-    if (rows->rows == NULL)
+    if (rows->rows == NULL) {
+        complain("not enough memory");
         return false;
+    }
     for (size_t place = 0; place < words && command_at(list, place, &command); place += command.words) {
         rows->rows[rows->count++] = (Row){ place, hazards };
         hazards = hazards_after(hazards, &command);
@@ -34,12 +36,23 @@ static bool rows_of(const List *list, Answer answer, Rows *rows)
     return true;
 }
 
+/* The rows of the repaired list, and what drawing it answers, by the places of the given list: the page knows no others. */
+static void number_as_given(Report *report)
+{
+    for (size_t i = 0; i < report->repaired_rows.count; i++)
+        report->repaired_rows.rows[i].place = given_place(&report->repaired, report->repaired_rows.rows[i].place);
+    if (is_refused(report->drawing))
+        report->drawing.place = (uint32_t)given_place(&report->repaired, report->drawing.place);
+}
+
 /* Draws a list and makes the PNG of its picture, if there is one. */
 static bool draw_picture(Report *report, const List *list)
 {
     Memory memory = { calloc(1, MEMORY_BYTES), MEMORY_BYTES, 0 };
-    if (memory.bytes == NULL)
+    if (memory.bytes == NULL) {
+        complain("not enough memory for the picture");
         return false;
+    }
     bool done = true;
     report->drawing = answer_of(lanyardrove_draw(list->bytes, list->length, memory.bytes, memory.length, memory.start));
     if (is_accepted(report->drawing) && image_of_list(list, &report->image) && image_inside(&report->image, &memory)) {
@@ -52,7 +65,7 @@ static bool draw_picture(Report *report, const List *list)
     return done;
 }
 
-/* Everything that the page says. */
+/* Everything that the page says; what fails tells it. */
 static bool gather(Report *report)
 {
     const List *list = &report->list;
@@ -61,18 +74,20 @@ static bool gather(Report *report)
         return false;
     if (report->repaired.count == 0) /* drawing runs the whole check first */
         return is_refused(report->answer) || draw_picture(report, list);
-    return rows_of(&report->repaired.list, report->repaired.answer, &report->repaired_rows) && draw_picture(report, &report->repaired.list);
+    bool done = rows_of(&report->repaired.list, report->repaired.answer, &report->repaired_rows) && draw_picture(report, &report->repaired.list);
+    number_as_given(report);
+    return done;
 }
 
 static int write_report(Report *report, const char *output)
 {
     Text text = { 0 };
-    bool gathered = gather(report);
     int status = STATUS_ERROR;
-    if (gathered)
-        page_add(&text, report);
-    if (!gathered || text.failed)
-        complain("the report could not be made: not enough memory");
+    if (!gather(report))
+        return STATUS_ERROR;
+    page_add(&text, report);
+    if (text.failed)
+        complain("not enough memory for the page");
     else if (file_write(output, text.bytes, text.length))
         status = status_of(report->answer);
     free(text.bytes);
@@ -87,7 +102,7 @@ int run_report(const Arguments *arguments)
         complain("%s", arguments->output == NULL ? "report needs -o OUT" : "the output is the list itself");
         return usage_error(arguments->command);
     }
-    if (!list_read(path, &report.list, &to_show))
+    if (!list_read(path, &report.list, &to_show, &arguments->input))
         return STATUS_ERROR;
     int status = write_report(&report, arguments->output);
     free(report.png);

@@ -79,7 +79,7 @@ static void add_hazards(Text *text, const Report *report)
     text_add(text, "</p>\n");
     strip_add(text, &report->rows);
     if (report->repaired_rows.count > 0) {
-        text_add(text, "<p class=\"note\">The same of the repaired list:</p>\n");
+        text_add(text, "<p class=\"note\">The same of the repaired list, by the places of the given one:</p>\n");
         strip_add(text, &report->repaired_rows);
     }
     add_legend(text);
@@ -133,7 +133,7 @@ static void add_picture(Text *text, const Report *report)
         text_add(text, "<p>The list draws no picture.</p>\n");
     else {
         text_add(text, "<p>The %slist cannot be drawn: ", repaired ? "repaired " : "");
-        add_answer(text, repaired ? &report->repaired.list : &report->list, report->drawing, FOR_DRAW);
+        add_answer(text, &report->list, report->drawing, FOR_DRAW);
         text_add(text, ".</p>\n");
     }
     text_add(text, "</section>\n");

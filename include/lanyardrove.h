@@ -154,14 +154,14 @@ uint64_t lanyardrove_draw(const uint8_t *list, size_t list_length,
    and bits 55:0 do not count. Decoding takes exactly so many words. */
 uint64_t lanyardrove_words(uint64_t first_word);
 
-/* The first command of a list: writes its fields to the front of fields, one number each, in the order of the table below.
+/* The first command of a list: writes its fields to the front of fields, one number each, in the order of the names below.
    Answers 0, the fields written as the place, and the command's number (0 to 63) as lanyardrove_command; 3 at 0 where its
    words are not all there, or there are none; 14 at the fields needed where count is too small.
    Bytes of the list after the first command are not read, and fields beyond those written are not touched.
    A triangle's words after its first four (its suffix) are no fields: they are the list's own bytes from byte 32 on. */
 uint64_t lanyardrove_decode(const uint8_t *list, size_t list_length, uint64_t *fields, size_t count);
 
-/* The other way round: writes the words of the command with this number and these fields to the front of out, with unused
+/* Encodes a command: writes the words of the command with this number and these fields to the front of out, with unused
    bits zero, and for a triangle the suffix after them: its words beyond the first four, 8 bytes each, as given.
    Answers 0 and the words written as the place; 15 at 0 for a number of 64 or more, a count of fields that is not the
    command's, a field that exceeds its bits, triangle flags that contradict the number, or a suffix that is not exactly as
@@ -172,46 +172,131 @@ uint64_t lanyardrove_encode(uint32_t number,
                             const uint8_t *suffix, size_t suffix_length,
                             uint8_t *out, size_t out_length);
 
+/* The numbers of commands; every other from 0 to 63 is a no operation. Of a triangle's number bit 2 says that it has shade,
+   bit 1 texture, bit 0 depth. */
+enum lanyardrove_command_number {
+    LANYARDROVE_NO_OPERATION = 0x00, LANYARDROVE_FILL_TRIANGLE = 0x08, LANYARDROVE_FILL_TRIANGLE_Z = 0x09,
+    LANYARDROVE_FILL_TRIANGLE_T = 0x0A, LANYARDROVE_FILL_TRIANGLE_TZ = 0x0B, LANYARDROVE_FILL_TRIANGLE_S = 0x0C,
+    LANYARDROVE_FILL_TRIANGLE_SZ = 0x0D, LANYARDROVE_FILL_TRIANGLE_ST = 0x0E, LANYARDROVE_FILL_TRIANGLE_STZ = 0x0F,
+    LANYARDROVE_TEXTURE_RECTANGLE = 0x24, LANYARDROVE_TEXTURE_RECTANGLE_FLIP = 0x25, LANYARDROVE_SYNC_LOAD = 0x26,
+    LANYARDROVE_SYNC_PIPE = 0x27, LANYARDROVE_SYNC_TILE = 0x28, LANYARDROVE_SYNC_FULL = 0x29, LANYARDROVE_SET_KEY_GB = 0x2A,
+    LANYARDROVE_SET_KEY_R = 0x2B, LANYARDROVE_SET_CONVERT = 0x2C, LANYARDROVE_SET_SCISSOR = 0x2D,
+    LANYARDROVE_SET_PRIMITIVE_DEPTH = 0x2E, LANYARDROVE_SET_OTHER_MODES = 0x2F, LANYARDROVE_LOAD_TLUT = 0x30,
+    LANYARDROVE_SET_TILE_SIZE = 0x32, LANYARDROVE_LOAD_BLOCK = 0x33, LANYARDROVE_LOAD_TILE = 0x34,
+    LANYARDROVE_SET_TILE = 0x35, LANYARDROVE_FILL_RECTANGLE = 0x36, LANYARDROVE_SET_FILL_COLOR = 0x37,
+    LANYARDROVE_SET_FOG_COLOR = 0x38, LANYARDROVE_SET_BLEND_COLOR = 0x39, LANYARDROVE_SET_PRIMITIVE_COLOR = 0x3A,
+    LANYARDROVE_SET_ENVIRONMENT_COLOR = 0x3B, LANYARDROVE_SET_COMBINE_MODE = 0x3C, LANYARDROVE_SET_TEXTURE_IMAGE = 0x3D,
+    LANYARDROVE_SET_DEPTH_IMAGE = 0x3E, LANYARDROVE_SET_COLOR_IMAGE = 0x3F
+};
+
 /*
- * The fields of each command, in the order of fields[], with their bits. A field marked s is signed: its number is the value
- * in two's complement of 64 bits, so (int64_t)fields[i] is the value. All others are unsigned, flags 0 or 1.
- *
- * 0x00-0x07, 0x10-0x23, 0x31  no operation          none
- * 0x08-0x0F  triangle            shade 1, texture 1, zbuffer 1 (bits 2, 1 and 0 of the number), lmajor 1, level 3, tile 3,
- *                                yl s14, ym s14, yh s14; then for each of the edges l, h and m: x integer part s12 and
- *                                fraction 16, slope dx/dy integer part s14 and fraction 16   (21 fields)
- *                                words: 4, + 8 with shade, + 8 with texture, + 2 with zbuffer
- * 0x24, 0x25  Texture Rectangle, and Flip           lower right x 12, y 12, tile 3, upper left x 12, y 12,
- *                                s s16, t s16, ds/dx s16, dt/dy s16   (9 fields; 2 words)
- * 0x26, 0x27, 0x28, 0x29  Sync Load, Sync Pipe, Sync Tile, Sync Full   none
- * 0x2A  Set Key GB               width_g 12, width_b 12, center_g 8, scale_g 8, center_b 8, scale_b 8
- * 0x2B  Set Key R                width_r 12, center_r 8, scale_r 8
- * 0x2C  Set Convert              k0 9, k1 9, k2 9, k3 9, k4 9, k5 9
- * 0x2D  Set Scissor              upper left x 12, y 12, field 1, odd 1, lower right x 12, y 12
- * 0x2E  Set Primitive Depth      z 16, dz 16
- * 0x2F  Set Other Modes          atomic_prim 1, cycle_type 2, persp_tex_en 1, detail_tex_en 1, sharpen_tex_en 1, tex_lod_en 1,
- *                                tlut_en 1, tlut_type 1, sample_type 1, mid_texel 1, bi_lerp_0 1, bi_lerp_1 1,
- *                                convert_one 1, key_en 1, rgb_dither_sel 2, alpha_dither_sel 2, bl_m1a_0 2, bl_m1a_1 2,
- *                                bl_m1b_0 2, bl_m1b_1 2, bl_m2a_0 2, bl_m2a_1 2, bl_m2b_0 2, bl_m2b_1 2, force_blend 1,
- *                                alpha_cvg_select 1, cvg_x_alpha 1, z_mode 2, cvg_dest 2, color_on_cvg 1, image_read_en 1,
- *                                z_update_en 1, z_compare_en 1, antialias_en 1, z_source_sel 1, dither_alpha_en 1,
- *                                alpha_compare_en 1   (37 fields)
- * 0x30, 0x32, 0x34  Load TLUT, Set Tile Size, Load Tile   upper left s 12, t 12, tile 3, lower right s 12, t 12
- * 0x33  Load Block               upper left s 12, t 12, tile 3, lower right s 12, dxt 12
- * 0x35  Set Tile                 format 3, size 2, line 9, address 9, index 3, palette 4, clamp_t 1, mirror_t 1, mask_t 4,
- *                                shift_t 4, clamp_s 1, mirror_s 1, mask_s 4, shift_s 4
- * 0x36  Fill Rectangle           lower right x 12, y 12, upper left x 12, y 12
- * 0x37  Set Fill Color           colour 32
- * 0x38, 0x39, 0x3B  Set Fog Color, Set Blend Color, Set Environment Color   red 8, green 8, blue 8, alpha 8
- * 0x3A  Set Primitive Color      min_level 8, prim_lod_frac 8, red 8, green 8, blue 8, alpha 8
- * 0x3C  Set Combine Mode         mode 56
- * 0x3D  Set Texture Image        format 3, size 2, width minus one 10, address 24
- * 0x3E  Set Depth Image          address 24
- * 0x3F  Set Color Image          format 3, size 2, width minus one 10, address 26
- *
- * A command has one word where nothing else is said. The x and y of rectangles and of the scissor, and a triangle's yl, ym
- * and yh, are in quarter pixels. A triangle's x is in pixels: its integer part and its fraction, in parts of 65,536.
+ * The fields of each command: for each the index in fields[], and its bits. A field marked s is signed: its number is the
+ * value in two's complement of 64 bits, so (int64_t)fields[i] is the value. All others are unsigned, flags 0 or 1. The last
+ * name of each kind is the count of its fields. A no operation and the four syncs have none. A command has one word where
+ * nothing else is said.
+ * The x and y of rectangles and of the scissor, and a triangle's yl, ym and yh, are in quarter pixels. A triangle's x is in
+ * pixels: its integer part (I) and its fraction (F), in parts of 65,536; so are its slopes, dx/dy.
  */
+enum lanyardrove_triangle_field { /* A triangle: 4 words, + 8 with shade, + 8 with texture, + 2 with zbuffer. */
+    LANYARDROVE_TRIANGLE_SHADE, /* 1 */ LANYARDROVE_TRIANGLE_TEXTURE, /* 1 */ LANYARDROVE_TRIANGLE_ZBUFFER, /* 1 */
+    LANYARDROVE_TRIANGLE_LMAJOR, /* 1 */ LANYARDROVE_TRIANGLE_LEVEL, /* 3 */ LANYARDROVE_TRIANGLE_TILE, /* 3 */
+    LANYARDROVE_TRIANGLE_YL, /* s14 */ LANYARDROVE_TRIANGLE_YM, /* s14 */ LANYARDROVE_TRIANGLE_YH, /* s14 */
+    LANYARDROVE_TRIANGLE_XL_I, /* s12 */ LANYARDROVE_TRIANGLE_XL_F, /* 16 */ LANYARDROVE_TRIANGLE_DXLDY_I, /* s14 */
+    LANYARDROVE_TRIANGLE_DXLDY_F, /* 16 */ LANYARDROVE_TRIANGLE_XH_I, /* s12 */ LANYARDROVE_TRIANGLE_XH_F, /* 16 */
+    LANYARDROVE_TRIANGLE_DXHDY_I, /* s14 */ LANYARDROVE_TRIANGLE_DXHDY_F, /* 16 */ LANYARDROVE_TRIANGLE_XM_I, /* s12 */
+    LANYARDROVE_TRIANGLE_XM_F, /* 16 */ LANYARDROVE_TRIANGLE_DXMDY_I, /* s14 */ LANYARDROVE_TRIANGLE_DXMDY_F, /* 16 */
+    LANYARDROVE_TRIANGLE_FIELDS
+};
+enum lanyardrove_texrect_field { /* Texture Rectangle and Texture Rectangle Flip: 2 words. */
+    LANYARDROVE_TEXRECT_LRX, /* 12 */ LANYARDROVE_TEXRECT_LRY, /* 12 */ LANYARDROVE_TEXRECT_TILE, /* 3 */
+    LANYARDROVE_TEXRECT_ULX, /* 12 */ LANYARDROVE_TEXRECT_ULY, /* 12 */ LANYARDROVE_TEXRECT_S, /* s16 */
+    LANYARDROVE_TEXRECT_T, /* s16 */ LANYARDROVE_TEXRECT_DSDX, /* s16 */ LANYARDROVE_TEXRECT_DTDY, /* s16 */
+    LANYARDROVE_TEXRECT_FIELDS
+};
+enum lanyardrove_key_gb_field { /* Set Key GB. */
+    LANYARDROVE_KEY_GB_WIDTH_G, /* 12 */ LANYARDROVE_KEY_GB_WIDTH_B, /* 12 */ LANYARDROVE_KEY_GB_CENTER_G, /* 8 */
+    LANYARDROVE_KEY_GB_SCALE_G, /* 8 */ LANYARDROVE_KEY_GB_CENTER_B, /* 8 */ LANYARDROVE_KEY_GB_SCALE_B, /* 8 */
+    LANYARDROVE_KEY_GB_FIELDS
+};
+enum lanyardrove_key_r_field { /* Set Key R. */
+    LANYARDROVE_KEY_R_WIDTH_R, /* 12 */ LANYARDROVE_KEY_R_CENTER_R, /* 8 */ LANYARDROVE_KEY_R_SCALE_R, /* 8 */
+    LANYARDROVE_KEY_R_FIELDS
+};
+enum lanyardrove_convert_field { /* Set Convert. */
+    LANYARDROVE_CONVERT_K0, /* 9 */ LANYARDROVE_CONVERT_K1, /* 9 */ LANYARDROVE_CONVERT_K2, /* 9 */
+    LANYARDROVE_CONVERT_K3, /* 9 */ LANYARDROVE_CONVERT_K4, /* 9 */ LANYARDROVE_CONVERT_K5, /* 9 */
+    LANYARDROVE_CONVERT_FIELDS
+};
+enum lanyardrove_scissor_field { /* Set Scissor. */
+    LANYARDROVE_SCISSOR_UPPER_LEFT_X, /* 12 */ LANYARDROVE_SCISSOR_UPPER_LEFT_Y, /* 12 */ LANYARDROVE_SCISSOR_FIELD, /* 1 */
+    LANYARDROVE_SCISSOR_ODD, /* 1 */ LANYARDROVE_SCISSOR_LOWER_RIGHT_X, /* 12 */ LANYARDROVE_SCISSOR_LOWER_RIGHT_Y, /* 12 */
+    LANYARDROVE_SCISSOR_FIELDS
+};
+enum lanyardrove_primitive_depth_field { /* Set Primitive Depth. */
+    LANYARDROVE_PRIMITIVE_DEPTH_Z, /* 16 */ LANYARDROVE_PRIMITIVE_DEPTH_DZ, /* 16 */ LANYARDROVE_PRIMITIVE_DEPTH_FIELDS
+};
+enum lanyardrove_other_modes_field { /* Set Other Modes. */
+    LANYARDROVE_OTHER_MODES_ATOMIC_PRIM, /* 1 */ LANYARDROVE_OTHER_MODES_CYCLE_TYPE, /* 2 */
+    LANYARDROVE_OTHER_MODES_PERSP_TEX_EN, /* 1 */ LANYARDROVE_OTHER_MODES_DETAIL_TEX_EN, /* 1 */
+    LANYARDROVE_OTHER_MODES_SHARPEN_TEX_EN, /* 1 */ LANYARDROVE_OTHER_MODES_TEX_LOD_EN, /* 1 */
+    LANYARDROVE_OTHER_MODES_TLUT_EN, /* 1 */ LANYARDROVE_OTHER_MODES_TLUT_TYPE, /* 1 */
+    LANYARDROVE_OTHER_MODES_SAMPLE_TYPE, /* 1 */ LANYARDROVE_OTHER_MODES_MID_TEXEL, /* 1 */
+    LANYARDROVE_OTHER_MODES_BI_LERP_0, /* 1 */ LANYARDROVE_OTHER_MODES_BI_LERP_1, /* 1 */
+    LANYARDROVE_OTHER_MODES_CONVERT_ONE, /* 1 */ LANYARDROVE_OTHER_MODES_KEY_EN, /* 1 */
+    LANYARDROVE_OTHER_MODES_RGB_DITHER_SEL, /* 2 */ LANYARDROVE_OTHER_MODES_ALPHA_DITHER_SEL, /* 2 */
+    LANYARDROVE_OTHER_MODES_BL_M1A_0, /* 2 */ LANYARDROVE_OTHER_MODES_BL_M1A_1, /* 2 */
+    LANYARDROVE_OTHER_MODES_BL_M1B_0, /* 2 */ LANYARDROVE_OTHER_MODES_BL_M1B_1, /* 2 */
+    LANYARDROVE_OTHER_MODES_BL_M2A_0, /* 2 */ LANYARDROVE_OTHER_MODES_BL_M2A_1, /* 2 */
+    LANYARDROVE_OTHER_MODES_BL_M2B_0, /* 2 */ LANYARDROVE_OTHER_MODES_BL_M2B_1, /* 2 */
+    LANYARDROVE_OTHER_MODES_FORCE_BLEND, /* 1 */ LANYARDROVE_OTHER_MODES_ALPHA_CVG_SELECT, /* 1 */
+    LANYARDROVE_OTHER_MODES_CVG_X_ALPHA, /* 1 */ LANYARDROVE_OTHER_MODES_Z_MODE, /* 2 */
+    LANYARDROVE_OTHER_MODES_CVG_DEST, /* 2 */ LANYARDROVE_OTHER_MODES_COLOR_ON_CVG, /* 1 */
+    LANYARDROVE_OTHER_MODES_IMAGE_READ_EN, /* 1 */ LANYARDROVE_OTHER_MODES_Z_UPDATE_EN, /* 1 */
+    LANYARDROVE_OTHER_MODES_Z_COMPARE_EN, /* 1 */ LANYARDROVE_OTHER_MODES_ANTIALIAS_EN, /* 1 */
+    LANYARDROVE_OTHER_MODES_Z_SOURCE_SEL, /* 1 */ LANYARDROVE_OTHER_MODES_DITHER_ALPHA_EN, /* 1 */
+    LANYARDROVE_OTHER_MODES_ALPHA_COMPARE_EN, /* 1 */ LANYARDROVE_OTHER_MODES_FIELDS
+};
+enum lanyardrove_area_field { /* Load TLUT, Set Tile Size and Load Tile. */
+    LANYARDROVE_AREA_UPPER_LEFT_S, /* 12 */ LANYARDROVE_AREA_UPPER_LEFT_T, /* 12 */ LANYARDROVE_AREA_TILE, /* 3 */
+    LANYARDROVE_AREA_LOWER_RIGHT_S, /* 12 */ LANYARDROVE_AREA_LOWER_RIGHT_T, /* 12 */ LANYARDROVE_AREA_FIELDS
+};
+enum lanyardrove_block_field { /* Load Block. */
+    LANYARDROVE_BLOCK_UPPER_LEFT_S, /* 12 */ LANYARDROVE_BLOCK_UPPER_LEFT_T, /* 12 */ LANYARDROVE_BLOCK_TILE, /* 3 */
+    LANYARDROVE_BLOCK_LOWER_RIGHT_S, /* 12 */ LANYARDROVE_BLOCK_DXT, /* 12 */ LANYARDROVE_BLOCK_FIELDS
+};
+enum lanyardrove_tile_field { /* Set Tile. */
+    LANYARDROVE_TILE_FORMAT, /* 3 */ LANYARDROVE_TILE_SIZE, /* 2 */ LANYARDROVE_TILE_LINE, /* 9 */
+    LANYARDROVE_TILE_ADDRESS, /* 9 */ LANYARDROVE_TILE_INDEX, /* 3 */ LANYARDROVE_TILE_PALETTE, /* 4 */
+    LANYARDROVE_TILE_CLAMP_T, /* 1 */ LANYARDROVE_TILE_MIRROR_T, /* 1 */ LANYARDROVE_TILE_MASK_T, /* 4 */
+    LANYARDROVE_TILE_SHIFT_T, /* 4 */ LANYARDROVE_TILE_CLAMP_S, /* 1 */ LANYARDROVE_TILE_MIRROR_S, /* 1 */
+    LANYARDROVE_TILE_MASK_S, /* 4 */ LANYARDROVE_TILE_SHIFT_S, /* 4 */ LANYARDROVE_TILE_FIELDS
+};
+enum lanyardrove_rectangle_field { /* Fill Rectangle. */
+    LANYARDROVE_RECTANGLE_LOWER_RIGHT_X, /* 12 */ LANYARDROVE_RECTANGLE_LOWER_RIGHT_Y, /* 12 */
+    LANYARDROVE_RECTANGLE_UPPER_LEFT_X, /* 12 */ LANYARDROVE_RECTANGLE_UPPER_LEFT_Y, /* 12 */ LANYARDROVE_RECTANGLE_FIELDS
+};
+enum lanyardrove_fill_color_field { /* Set Fill Color. */
+    LANYARDROVE_FILL_COLOR_COLOR, /* 32 */ LANYARDROVE_FILL_COLOR_FIELDS
+};
+enum lanyardrove_color_field { /* Set Fog Color, Set Blend Color and Set Environment Color. */
+    LANYARDROVE_COLOR_RED, /* 8 */ LANYARDROVE_COLOR_GREEN, /* 8 */ LANYARDROVE_COLOR_BLUE, /* 8 */
+    LANYARDROVE_COLOR_ALPHA, /* 8 */ LANYARDROVE_COLOR_FIELDS
+};
+enum lanyardrove_primitive_color_field { /* Set Primitive Color. */
+    LANYARDROVE_PRIMITIVE_COLOR_MIN_LEVEL, /* 8 */ LANYARDROVE_PRIMITIVE_COLOR_PRIM_LOD_FRAC, /* 8 */
+    LANYARDROVE_PRIMITIVE_COLOR_RED, /* 8 */ LANYARDROVE_PRIMITIVE_COLOR_GREEN, /* 8 */
+    LANYARDROVE_PRIMITIVE_COLOR_BLUE, /* 8 */ LANYARDROVE_PRIMITIVE_COLOR_ALPHA, /* 8 */ LANYARDROVE_PRIMITIVE_COLOR_FIELDS
+};
+enum lanyardrove_combine_field { /* Set Combine Mode: its 56 low bits as one number. */
+    LANYARDROVE_COMBINE_MODE, /* 56 */ LANYARDROVE_COMBINE_FIELDS
+};
+enum lanyardrove_image_field { /* Set Texture Image, whose address has 24 bits, and Set Color Image. */
+    LANYARDROVE_IMAGE_FORMAT, /* 3 */ LANYARDROVE_IMAGE_SIZE, /* 2 */ LANYARDROVE_IMAGE_WIDTH, /* 10 less one */
+    LANYARDROVE_IMAGE_ADDRESS, /* 26 */ LANYARDROVE_IMAGE_FIELDS
+};
+enum lanyardrove_depth_image_field { /* Set Depth Image. */
+    LANYARDROVE_DEPTH_IMAGE_ADDRESS, /* 24 */ LANYARDROVE_DEPTH_IMAGE_FIELDS
+};
 
 #ifdef __cplusplus
 }

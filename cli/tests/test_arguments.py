@@ -15,8 +15,14 @@ WRONG = {
     "check has no option --memory": [["check", "--memory", "5"], ["check", "--mem=5"]],
     "dump has no option --quiet": [["dump", "-q", "a"], ["dump", "a", "--quiet"]],
     "option '--help' doesn't allow an argument": [["dump", "--help=x"]],
-    "takes one list": [["dump", "a", "b"], ["repair"], ["repair", "a", "b"], ["draw"], ["draw", "a", "b"], ["report"],
-                       ["report", "a", "b", "-o", "x.html"]],
+    "repair of several lists needs --in-place or --check": [["repair", "a", "b"], ["repair", "a", "b", "-o", "c"]],
+    "repair has one of --check, --in-place and -o": [["repair", "a", "-i", "--check"], ["repair", "a", "-i", "-o", "b"], ["repair", "a", "--check", "-o", "b"]],
+    "only whole files are repaired in place": [["repair", "-i", "a", *more] for more in (["--offset=8"], ["--length=8"], ["--swap"], ["--hex"])],
+    "not a number": [["check", "a", option, text] for option in ("--offset", "--length") for text in ("", "x", "-1", "8K", "1 ")],
+    "standard input is not repaired in place": [["repair", "-i", "-"], ["repair", "--in-place", "a", "-"]],
+    "takes one list": [["dump", "a", "b"], ["draw", "a", "b"], ["report", "a", "b", "-o", "x.html"]],
+    "not one of text, gcc, github, json and sarif": [["check", "--format", "xml", "a"], ["check", "--format=", "a"]],
+    "needs a list; - is standard input": [[command] for command in COMMANDS] + [["check", "-q"], ["check", "--"]],
     "draw needs --memory BYTES": [["draw", "a"], ["draw", "a", "-o", "x.bin"]],
     "draw needs -o OUT": [DRAW],
     "report needs -o OUT": [["report", "a"]],
@@ -42,6 +48,25 @@ def wrong_arguments_are_told():
 
 
 @test
+def a_build_that_names_no_list_is_not_green():
+    for line in ('"$0" check $LISTS', '"$0" check $LISTS < /dev/null', '"$0" dump $LISTS < /dev/null'):
+        done = subprocess.run(["sh", "-c", line, TOOL], input=b"", capture_output=True)
+        same((done.returncode, done.stdout), (2, b""), line)
+    same(run("check", "-"), (0, "0 0\naccepted: 0 words, the list is empty\n", ""))  # named, and empty
+
+
+@test
+def control_characters_in_names_do_not_reach_the_terminal():
+    odd, shown = "a\033[31m\n\t\u009bZ\x7f\u00e9.bin", "a\\x1B[31m\\x0A\\x09\\xC2\\x9BZ\\x7F\u00e9.bin"
+    for arguments in (["check", odd], ["check", odd, odd], ["check", "-q", odd, odd], ["repair", odd, "-o", "-"], ["dump", odd],
+                      ["draw", example("i.rdp"), "--memory", "64", "-o", odd], [odd]):
+        done = subprocess.run([TOOL, *arguments], input=b"", capture_output=True)
+        text = (done.stdout + done.stderr).decode()
+        assert shown in text and not [c for c in text.replace("\n", "") if ord(c) < 32 or 127 <= ord(c) < 160], (arguments, text)
+    same(run("check", odd, odd)[1].count("\n"), 3)  # and a name is in one line
+
+
+@test
 def numbers_are_decimal_or_hexadecimal():
     for memory, length in (("0", 0), ("0x40", 64), ("0X4f", 79), ("1K", 1024), ("0x1K", 1024), ("007", 7)):
         same(run("draw", example("a.rdp"), "--memory", memory, "--start", "0xFFFFFFFFFFFFFFFF", "-o", "x.bin")[0], 0, memory)
@@ -64,15 +89,17 @@ def options_may_stand_anywhere():
 @test
 def help_and_version():
     overview = run("--help")[1]
-    same(run("-h"), (0, overview, ""))
+    same((run("-h"), run("help")), ((0, overview, ""), (0, overview, "")))
+    same(run("help", "chek")[:2], (2, ""))
     for command in COMMANDS:
         status, out, err = run(command, "--help")
         same((status, err), (0, ""), command)
         assert out.startswith(f"Usage: lanyardrove {command}"), out
         assert f"\n  {command} " in overview, command
         assert max(map(len, out.split("\n"))) <= 80, command
-        same(run(command, "-h"), (0, out, ""), command)
+        same((run(command, "-h"), run("help", command)), ((0, out, ""), (0, out, "")), command)
     status, out, err = run("--version")
+    same(run("-V"), (0, out, ""))
     same((status, err), (0, ""))
     assert re.fullmatch(r"lanyardrove \d+\.\d+\.\d+\n", out), out
 
@@ -83,7 +110,7 @@ def output_that_cannot_be_written_is_an_error():
                     ["--version"], ["check", "--help"]):
         with open("/dev/full", "wb") as full:
             done = subprocess.run([TOOL, *command], stdout=full, stderr=subprocess.PIPE)
-        same(done.returncode, 2, command)
+        same((done.returncode, done.stderr.count(b"\n")), (2, 1), done.stderr)
         assert b"standard output" in done.stderr, done.stderr
         done = subprocess.run(["sh", "-c", 'exec "$@" >&-', "sh", TOOL, *command], stderr=subprocess.PIPE)
         same(done.returncode, 2, command)

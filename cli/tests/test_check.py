@@ -23,7 +23,7 @@ def check_answers_for_each_example():
         lines = out.split("\n")
         same((status, lines[0], err, len(lines)), (0 if number == "0" else 1, f"{number} {place}", "", 3), name)
         same(run("check", "-q", example(name)), (status, f"{number} {place}\n", ""), name)
-        same(run("check", "-q", stdin=read(example(name))), (status, f"{number} {place}\n", ""), name)
+        same(run("check", "-q", "-", stdin=read(example(name))), (status, f"{number} {place}\n", ""), name)
 
 
 @test
@@ -40,7 +40,7 @@ def check_says_what_an_answer_means():
             (words(*S, L, R), "7 4\nword 4: Fill Rectangle requires Sync Load, for the Load Tile at word 3"),
             (words(ONE_CYCLE, *S[1:], 0x24 << 56, 0, 0x35 << 56), "8 5\nword 5: Set Tile requires Sync Tile, for the Texture Rectangle at word 3"),
             (words(*S, R, C), "9 4\nword 4: Set Fill Color requires Sync Pipe, for the Fill Rectangle at word 3")):
-        same(run("check", stdin=data), (0 if text[0] == "0" else 1, text + "\n", ""))
+        same(run("check", "-", stdin=data), (0 if text[0] == "0" else 1, text + "\n", ""))
 
 
 @test
@@ -55,7 +55,7 @@ def check_names_the_latest_command_that_the_sync_has_to_wait_for():
             ([*textured, R, 0x08 << 56, 0, 0, 0, 0x35 << 56], "word 10: Set Tile requires Sync Tile, for the Texture Rectangle at word 3"),
             ([*textured, R, C], "word 6: Set Fill Color requires Sync Pipe, for the Fill Rectangle at word 5"),
             ([*S, R, PIPE, R, TILE, LOAD, C], "word 8: Set Fill Color requires Sync Pipe, for the Fill Rectangle at word 5")):
-        status, out, err = run("check", stdin=words(*given))
+        status, out, err = run("check", "-", stdin=words(*given))
         same((status, out.split("\n")[1], err), (1, text, ""))
 
 
@@ -66,11 +66,20 @@ def check_names_the_cause_in_random_lists():
         given = accepted_list(rng, [ONE_CYCLE, *S[1:]], rng.randrange(4, 60))
         hazards = hazards_along([*given, N])[-1]
         for number in [n for n in range(64) if misses_sync(hazards, n)][:3]:
-            out = run("check", stdin=words(*given, number << 56, *[0] * (words_of(number) - 1)))[1]
+            out = run("check", "-", stdin=words(*given, number << 56, *[0] * (words_of(number) - 1)))[1]
             cause = cause_of(given, number)
             assert out.endswith(f", for the {NAMES[given[cause] >> 56]} at word {cause}\n"), out
             tried += 1
     assert tried > 100, tried
+
+
+@test
+def check_accepts_what_the_readme_says_that_it_does():
+    one_cycle = [ONE_CYCLE, *S[1:]]
+    for given in ([*S, 0x24 << 56, 0], [*S, 0x08 << 56, 0, 0, 0], [*one_cycle, 0x09 << 56, *[0] * 5], [*one_cycle, R],
+                  [*one_cycle, 0x24 << 56, 0], [0x3400000000FFFFFF], [0x3300000000FFF000], [S[0], 0x3F10000703FFFFFF, S[2], R]):
+        same(run("check", "-q", "-", stdin=words(*given)), (0, f"0 {len(given)}\n", ""), given)
+    same(run("check", "-q", "-", stdin=words(*one_cycle, 0x24 << 56, 0, 0x3500000007000000)), (1, "8 5\n", ""))  # drawn with tile 0, set is tile 7
 
 
 @test
@@ -80,7 +89,9 @@ def check_of_several_files_has_a_line_each_and_a_count():
         f"0 5 {accepted}: accepted: 5 words", f"9 4 {refused}: word 4: Set Fill Color requires Sync Pipe, for the Fill Rectangle at word 3",
         "0 1 -: accepted: 1 word",
         "3 lists: 2 accepted, 1 refused", "")), ""))
-    same(run("check", "-q", accepted, refused), (1, "0 5\n9 4\n", ""))
+    same(run("check", "-q", accepted, refused), (1, f"0 5 {accepted}\n9 4 {refused}\n", ""))
+    status, out, _ = run("check", "-q", accepted, "no-such-file", refused, ".", "-", stdin=words(N))
+    same((status, out), (2, f"0 5 {accepted}\n- - no-such-file\n9 4 {refused}\n- - .\n0 1 -\n"))  # a line for each argument
     status, out, _ = run("check", accepted, example("a.rdp"))
     same((status, out.split("\n")[2]), (0, "2 lists: 2 accepted (1 empty), 0 refused"))
 
@@ -91,9 +102,9 @@ def check_of_a_file_that_cannot_be_read():
     same(run("check", "."), (2, "", "lanyardrove: .: Is a directory\n"))
     same(run("check", ""), (2, "", "lanyardrove: : No such file or directory\n"))
     status, out, err = run("check", example("g.rdp"), "no-such-file", example("i.rdp"))
-    same((status, out.split("\n")[2]), (2, "3 lists: 1 accepted, 1 refused, 1 not read"))
+    same((status, out.split("\n")[1], out.split("\n")[3]), (2, "- - no-such-file: not read", "3 lists: 1 accepted, 1 refused, 1 not read"))
     same(err, "lanyardrove: no-such-file: No such file or directory\n")
-    done = subprocess.run(["sh", "-c", 'exec "$@" <&-', "sh", TOOL, "check"], capture_output=True)
+    done = subprocess.run(["sh", "-c", 'exec "$@" <&-', "sh", TOOL, "check", "-"], capture_output=True)
     same((done.returncode, done.stdout, done.stderr), (2, b"", b"lanyardrove: standard input: Bad file descriptor\n"))
 
 
@@ -112,19 +123,19 @@ def check_of_a_file_without_permission():
 def check_of_a_pipe_answers_as_of_a_file():
     for name, *_ in example_table():
         of_file, data = run("check", example(name)), read(example(name))
-        same(run("check", stdin=data), of_file, name)
+        same(run("check", "-", stdin=data), of_file, name)
         with open(example(name)) as standard:
             same(subprocess.run([TOOL, "check", "-"], stdin=standard, capture_output=True).stdout.decode(), of_file[1], name)
         same(run("check", "/dev/stdin", stdin=data), of_file, name)
     # the refusal of a command comes first in a pipe, the length in a file
     for data, of_pipe, of_file in ((words(R) + b"x", "5 0\n", "2 1\n"), (words(R) + bytes(32768), "5 0\n", "1 4096\n")):
-        same(run("check", "-q", stdin=data)[1], of_pipe)
+        same(run("check", "-q", "-", stdin=data)[1], of_pipe)
         same(run("check", "-q", write("list.rdp", data))[1], of_file)
 
 
 @test
 def check_at_the_limit_of_length():
-    same(run("check", "-q", stdin=bytes(32768)), (0, "0 4096\n", ""))
-    same(run("check", "-q", stdin=bytes(32769)), (1, "1 4096\n", ""))
+    same(run("check", "-q", "-", stdin=bytes(32768)), (0, "0 4096\n", ""))
+    same(run("check", "-q", "-", stdin=bytes(32769)), (1, "1 4096\n", ""))
     same(run("check", "-q", "/dev/zero"), (1, "1 4096\n", ""))
     same(run("check", "-q", "/dev/stdin", stdin=words(*S, R, C)), (1, "9 4\n", ""))

@@ -12,7 +12,7 @@ FOUR_BITS = [S[0], 0x3F00000000000000, S[2]]  # no draw may follow
 
 
 def dumped(data, status=None):
-    found, out, err = run("dump", stdin=data)
+    found, out, err = run("dump", "-", stdin=data)
     same(err, "")
     if status is not None:
         same(found, status)
@@ -210,10 +210,12 @@ def on_a_terminal(env):
 
 @test
 def dump_has_colour_on_a_terminal_only():
-    env = {name: value for name, value in os.environ.items() if name != "NO_COLOR"}
+    env = {**{name: value for name, value in os.environ.items() if name != "NO_COLOR"}, "TERM": "xterm"}
     plain = run("dump", example("g.rdp"), env=env)[1]
     coloured = on_a_terminal(env)
     assert "\033" not in plain and "\033[1;31m" in coloured, coloured
     same(re.sub(r"\033\[[0-9;]*m", "", coloured), plain)
-    for value in ("1", ""):
-        same(on_a_terminal({**env, "NO_COLOR": value}), plain, value)
+    same(on_a_terminal({**env, "NO_COLOR": ""}), coloured)  # by its convention, empty is unset
+    same(on_a_terminal({**env, "NO_COLOR": "1"}), plain)
+    same(on_a_terminal({**env, "TERM": "dumb"}), plain)
+    same(on_a_terminal({name: value for name, value in env.items() if name != "TERM"}), plain)

@@ -14,13 +14,40 @@ REPAIRED_J = words(*S, R, PIPE, L, C)
 def what_is_no_file_is_not_written():
     os.mkdir("folder")
     os.mkfifo("pipe")
-    for output, reason in (("folder", "not a regular file"), ("/dev/null", "not a regular file"), ("/dev/full", "not a regular file"),
-                           ("pipe", "not a regular file"), ("missing/out.rdp", "No such file"), ("new/", "Not a directory"), ("", "No such file"),
+    os.symlink("nowhere/out.rdp", "dangling")
+    os.symlink("dangling", "second")
+    for output, reason in (("folder", "Is a directory"), ("/dev/full", "No space left"), ("dangling", "No such file"), ("second", "No such file"),
+                           ("missing/out.rdp", "No such file"), ("new/", "Not a directory"), ("", "No such file"),
                            (example("g.rdp") + "/out.rdp", "Not a directory"), (256 * "x", "File name too long")):
         status, out, err = run("repair", example("j.rdp"), "-o", output)
-        same((status, out), (2, ""), output)
+        same((status, out, err.count("\n")), (2, "", 1), output)
         assert reason in err, (output, err)
-    same((files(), os.listdir("folder")), (["folder", "pipe"], []))
+    same((files(), os.listdir("folder"), os.path.islink("dangling")), (["dangling", "folder", "pipe", "second"], [], True))
+
+
+@test
+def a_device_or_a_pipe_is_written_where_it_stands():
+    os.mkfifo("pipe")
+    text = "Sync Pipe before word 4, Load Tile\n1 sync inserted, 50 cycles, 7 words in all\n"
+    same(run("repair", example("j.rdp"), "-o", "/dev/null"), (0, text, ""))
+    with subprocess.Popen([TOOL, "repair", example("j.rdp"), "-o", "pipe"], stdout=subprocess.PIPE) as tool:
+        same((read("pipe"), tool.stdout.read().decode(), tool.wait()), (REPAIRED_J, text, 0))
+    for command in ([TOOL, "repair", example("j.rdp"), "-o", "/dev/stdout"], [TOOL, "repair", example("j.rdp"), "-o", "-"]):
+        done = subprocess.run(command, capture_output=True)
+        same((done.returncode, done.stdout, done.stderr.decode()), (0, REPAIRED_J, text))
+        with open("out.rdp", "wb") as out:
+            subprocess.run(command, stdout=out, stderr=subprocess.DEVNULL, check=True)
+        same(read("out.rdp"), REPAIRED_J)
+    assert os.path.exists("/dev/null") and not os.path.isfile("/dev/null")
+
+
+@test
+def memory_that_is_short_is_told_once():
+    for kilobytes, arguments in ((60000, ["report", example("i.rdp"), "-o", "x.html"]), (60000, ["draw", example("i.rdp"), "--memory", "100M", "-o", "x.bin"])):
+        done = subprocess.run(["sh", "-c", f'ulimit -v {kilobytes}; exec "$0" "$@"', TOOL, *arguments], capture_output=True)
+        same((done.returncode, done.stdout, done.stderr.count(b"\n")), (2, b"", 1), arguments)
+        assert b"not enough memory" in done.stderr, done.stderr
+    same(files(), [])
 
 
 @test

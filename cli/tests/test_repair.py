@@ -93,3 +93,35 @@ def repair_of_the_list_with_most_syncs():
     status, out, err = run("repair", "in.rdp", "-o", "out.rdp")
     same((status, out.split("\n")[-2]), (0, f"2044 syncs inserted, {2044 * 25} cycles, {2048 + 2044} words in all"))
     same(run("check", "-q", "out.rdp")[1], f"0 {2048 + 2044}\n")
+
+
+@test
+def repair_of_many_lists_in_place():
+    given = {"j.rdp": words(*S, R, L, C), "i.rdp": words(*S, C, R), "k.rdp": words(*S, R, L, R)}
+    for name, data in given.items():
+        write(name, data)
+    before = os.stat("i.rdp").st_ino
+    text = ("j.rdp: Sync Pipe before word 4, Load Tile\nj.rdp: 1 sync inserted, 50 cycles, 7 words in all\n"
+            "i.rdp: 0 syncs inserted, 0 cycles, 5 words in all\n"
+            "k.rdp: Sync Load before word 4, Load Tile\nk.rdp: Sync Load before word 5, Fill Rectangle\n"
+            "k.rdp: 2 syncs inserted, 50 cycles, 8 words in all\n")
+    same(run("repair", "--check", *given), (1, text.replace(" inserted", " would be inserted"), ""))
+    same({name: read(name) for name in given}, given)  # nothing is written
+    same(run("repair", "--in-place", *given), (0, text, ""))
+    same((read("j.rdp"), read("k.rdp")), (words(*S, R, PIPE, L, C), words(*S, R, LOAD, L, LOAD, R)))
+    same((os.stat("i.rdp").st_ino, files()), (before, sorted(given)))  # a list that misses nothing is not written anew
+    same(run("repair", "--check", *given)[0], 0)
+    same(run("repair", "-i", "j.rdp"), (0, "0 syncs inserted, 0 cycles, 7 words in all\n", ""))
+
+
+@test
+def repair_of_many_lists_goes_on_after_a_refusal():
+    write("f.rdp", words(0x29 << 56, N))
+    write("j.rdp", words(*S, R, L, C))
+    status, out, err = run("repair", "-i", "f.rdp", "gone.rdp", "j.rdp")
+    same((status, err), (2, "lanyardrove: gone.rdp: No such file or directory\n"))
+    same(out.split("\n")[0], "f.rdp: 4 1, word 1: No Operation stands after Sync Full")
+    same((read("f.rdp"), read("j.rdp")), (words(0x29 << 56, N), words(*S, R, PIPE, L, C)))
+    same((run("repair", "-i", "f.rdp", "j.rdp")[0], run("repair", "--check", "f.rdp")[:2]), (1, (1, "4 1\nword 1: No Operation stands after Sync Full\n")))
+    same(run("repair", "--check", "-", stdin=words(*S, R, C)), (1, "Sync Pipe before word 4, Set Fill Color\n1 sync would be inserted, 50 cycles, 6 words in all\n", ""))
+    same(run("repair", "--check", example("i.rdp"))[0], 0)

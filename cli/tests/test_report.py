@@ -124,6 +124,15 @@ def report_of_lists_that_cannot_be_drawn_or_repaired():
 
 
 @test
+def report_knows_the_places_of_the_given_list_only():
+    page = reported(words(*S, R, L, R, C, ONE_CYCLE, R), 1)  # repaired: S R Load L Load R Pipe C ONE_CYCLE R
+    same(re.findall(r"Sync \w+ before word \d+", page.text), ["Sync Load before word 4", "Sync Load before word 5", "Sync Pipe before word 6"])
+    assert "The repaired list cannot be drawn: 10 8, word 8: Fill Rectangle is not drawn" in page.text, page.text
+    assert max(map(int, re.findall(r"[Ww]ords? (\d+)", page.text))) == 8, page.text
+    same(page.text.count("pipe: before the commands at words 4 to 6"), 1)  # up to the inserted Sync Pipe
+
+
+@test
 def report_gives_a_reason_for_each_refusal():
     lists = [bytes(32776), bytes(7), words(0x24 << 56), words(0x29 << 56, N), words(R), words(S[0], 0x3F00000700000000, S[2], R),
              words(*S, R, L), words(ONE_CYCLE, *S[1:], 0x24 << 56, 0, 0x35 << 56), words(*S, R, C)]

@@ -169,8 +169,8 @@ static void null_pointers(void) {
 
     /* fields of a Set Fill Color, with nothing else */
     field = 0xF801003F;
-    ANSWERS(lanyardrove_encode(0x37, &field, 1, NULL, 0, NULL, 0), 14, 0, 1);
-    ANSWERS(lanyardrove_encode(0x37, NULL, 0, NULL, 0, NULL, 0), 15, 0, 0);
+    ANSWERS(lanyardrove_encode(LANYARDROVE_SET_FILL_COLOR, &field, 1, NULL, 0, NULL, 0), 14, 0, 1);
+    ANSWERS(lanyardrove_encode(LANYARDROVE_SET_FILL_COLOR, NULL, 0, NULL, 0, NULL, 0), 15, 0, 0);
     ANSWERS(lanyardrove_encode(0, NULL, 0, an_out.bytes, 8, NULL, 0), 15, 0, 0);
 }
 
@@ -521,30 +521,30 @@ static size_t lines_of(unsigned number, const Line **lines) {
 #define LINES(table) (*lines = (table), sizeof(table) / sizeof(Line))
     if (number / 8 == 1) return LINES(TRIANGLE);
     switch (number) {
-    case 0x24: case 0x25: return LINES(TEXTURE_RECTANGLE);
-    case 0x2A: return LINES(KEY_GB);
-    case 0x2B: return LINES(KEY_R);
-    case 0x2C: return LINES(CONVERT);
-    case 0x2D: return LINES(SCISSOR);
-    case 0x2E: return LINES(DEPTH);
-    case 0x2F: return LINES(OTHER_MODES);
-    case 0x30: case 0x32: case 0x33: case 0x34: return LINES(AREA);
-    case 0x35: return LINES(DESCRIPTOR);
-    case 0x36: return LINES(RECTANGLE);
-    case 0x37: return LINES(FILL_COLOR);
-    case 0x38: case 0x39: case 0x3B: return LINES(COLOR);
-    case 0x3A: return LINES(PRIMITIVE_COLOR);
-    case 0x3C: return LINES(COMBINE);
-    case 0x3D: return LINES(TEXTURE_IMAGE);
-    case 0x3E: return LINES(DEPTH_IMAGE);
-    case 0x3F: return LINES(COLOR_IMAGE);
+    case LANYARDROVE_TEXTURE_RECTANGLE: case LANYARDROVE_TEXTURE_RECTANGLE_FLIP: return LINES(TEXTURE_RECTANGLE);
+    case LANYARDROVE_SET_KEY_GB: return LINES(KEY_GB);
+    case LANYARDROVE_SET_KEY_R: return LINES(KEY_R);
+    case LANYARDROVE_SET_CONVERT: return LINES(CONVERT);
+    case LANYARDROVE_SET_SCISSOR: return LINES(SCISSOR);
+    case LANYARDROVE_SET_PRIMITIVE_DEPTH: return LINES(DEPTH);
+    case LANYARDROVE_SET_OTHER_MODES: return LINES(OTHER_MODES);
+    case LANYARDROVE_LOAD_TLUT: case LANYARDROVE_SET_TILE_SIZE: case LANYARDROVE_LOAD_BLOCK: case LANYARDROVE_LOAD_TILE: return LINES(AREA);
+    case LANYARDROVE_SET_TILE: return LINES(DESCRIPTOR);
+    case LANYARDROVE_FILL_RECTANGLE: return LINES(RECTANGLE);
+    case LANYARDROVE_SET_FILL_COLOR: return LINES(FILL_COLOR);
+    case LANYARDROVE_SET_FOG_COLOR: case LANYARDROVE_SET_BLEND_COLOR: case LANYARDROVE_SET_ENVIRONMENT_COLOR: return LINES(COLOR);
+    case LANYARDROVE_SET_PRIMITIVE_COLOR: return LINES(PRIMITIVE_COLOR);
+    case LANYARDROVE_SET_COMBINE_MODE: return LINES(COMBINE);
+    case LANYARDROVE_SET_TEXTURE_IMAGE: return LINES(TEXTURE_IMAGE);
+    case LANYARDROVE_SET_DEPTH_IMAGE: return LINES(DEPTH_IMAGE);
+    case LANYARDROVE_SET_COLOR_IMAGE: return LINES(COLOR_IMAGE);
     default: *lines = NULL; return 0;
     }
 }
 
 static unsigned words_of(unsigned number) {
     if (number / 8 == 1) return 4 + (number & 4 ? 8 : 0) + (number & 2 ? 8 : 0) + (number & 1 ? 2 : 0);
-    return number == 0x24 || number == 0x25 ? 2 : 1;
+    return number == LANYARDROVE_TEXTURE_RECTANGLE || number == LANYARDROVE_TEXTURE_RECTANGLE_FLIP ? 2 : 1;
 }
 
 static uint64_t mask_of(const Line *l) { return ~(uint64_t)0 >> (63 - (l->high - l->low)); }
@@ -683,7 +683,7 @@ static void lengths(void) {
     uint64_t number, high;
     unsigned round;
     for (number = 0; number < 64; number++) {
-        const uint64_t due = number / 8 == 1 ? triangles[number % 8] : number == 0x24 || number == 0x25 ? 2 : 1;
+        const uint64_t due = number / 8 == 1 ? triangles[number % 8] : number == LANYARDROVE_TEXTURE_RECTANGLE || number == LANYARDROVE_TEXTURE_RECTANGLE_FLIP ? 2 : 1;
         for (high = 0; high < 4; high++)
             for (round = 0; round < 20; round++) {
                 const uint64_t low = round == 0 ? 0 : round == 1 ? ~(uint64_t)0 : random_word();

@@ -1,0 +1,114 @@
+/* What check tells in lines: as text, as compilers do, and as notes for GitHub. */
+#include "check.h"
+
+#include <string.h>
+
+/* -- text: `number place`, and what it means ---------------------------- */
+
+/* With several lists each answer has one line, with the list's name. */
+static void print_answer_line(const Arguments *arguments, const Checked *checked, Answer answer)
+{
+    Meaning meaning = meaning_of(checked->list, answer, FOR_CHECK);
+    printf("%u %u", answer.number, (unsigned)answer.place);
+    if (arguments->count > 1) {
+        putchar(' ');
+        print_shown(stdout, checked->path);
+    }
+    if (!arguments->quiet)
+        printf("%s%s", arguments->count > 1 ? ": " : "\n", meaning.text);
+    putchar('\n');
+}
+
+/* A list that is not read has a line too, so that lines and arguments match. */
+static void print_unread(const Arguments *arguments, const char *path)
+{
+    if (arguments->count > 1) {
+        printf("- - ");
+        print_shown(stdout, path);
+        printf("%s\n", arguments->quiet ? "" : ": not read");
+    }
+}
+
+void text_tell(const Arguments *arguments, const Checked *checked)
+{
+    if (checked->list == NULL)
+        print_unread(arguments, checked->path);
+    else if (is_accepted(checked->list->verdict))
+        print_answer_line(arguments, checked, checked->list->verdict);
+    else
+        for (size_t i = 0; i < checked->findings->count; i++)
+            print_answer_line(arguments, checked, checked->findings->answers[i]);
+}
+
+bool text_end(const Arguments *arguments, const Tally *tally)
+{
+    if (arguments->count > 1 && !arguments->quiet) {
+        printf("%d lists: %u accepted", arguments->count, tally->accepted);
+        if (tally->empty > 0)
+            printf(" (%u empty)", tally->empty);
+        printf(", %u refused", tally->refused);
+        if (tally->unread > 0)
+            printf(", %u not read", tally->unread);
+        putchar('\n');
+    }
+    return true;
+}
+
+bool lines_end(const Arguments *arguments, const Tally *tally)
+{
+    (void)arguments;
+    (void)tally;
+    return true;
+}
+
+/* -- as compilers do: FILE:PLACE: error: .. ------------------------------ */
+
+void gcc_tell(const Arguments *arguments, const Checked *checked)
+{
+    (void)arguments;
+    for (size_t i = 0; checked->list != NULL && i < checked->findings->count; i++) {
+        Answer answer = checked->findings->answers[i];
+        Meaning meaning = meaning_of(checked->list, answer, FOR_CHECK);
+        meaning.text[meaning.end] = '\0';
+        print_shown(stdout, checked->path);
+        printf(":%u: error: %s [%u]\n", (unsigned)answer.place, meaning.text + meaning.start, answer.number);
+        if (is_missing_sync(answer)) {
+            print_shown(stdout, checked->path);
+            printf(":%u: note: the %s that it has to wait for\n", (unsigned)answer.third, name_at(checked->list, answer.third));
+        }
+    }
+}
+
+/* -- notes for GitHub: ::error file=FILE::.. ----------------------------- */
+
+/* In a note some signs have a meaning; GitHub reads these as %HH. */
+static void print_github(const char *text, const char *signs)
+{
+    for (; *text != '\0'; text++)
+        if (strchr(signs, *text) != NULL)
+            printf("%%%02X", (unsigned)(unsigned char)*text);
+        else
+            putchar((unsigned char)*text < 32 ? '?' : *text);
+}
+
+/* No line is named: a list has none, and the text has the word. */
+static void print_note(const char *path, const char *text)
+{
+    printf("::error file=");
+    print_github(path, "%\r\n:,");
+    printf("::");
+    print_github(text, "%\r\n");
+    putchar('\n');
+}
+
+void github_tell(const Arguments *arguments, const Checked *checked)
+{
+    (void)arguments;
+    if (checked->list == NULL)
+        print_note(checked->path, "the list could not be read");
+    for (size_t i = 0; checked->list != NULL && i < checked->findings->count; i++) {
+        Answer answer = checked->findings->answers[i];
+        Meaning meaning = meaning_of(checked->list, answer, FOR_CHECK);
+        print_note(checked->path, meaning.text);
+    }
+}

@@ -1,0 +1,39 @@
+/* A hint where a refused list looks like one of little-endian words. */
+#include "cli.h"
+
+#include <stdlib.h>
+#include <string.h>
+
+#define LEAST 4 /* commands with a name; fewer may look well by chance */
+
+/* A list looks well where the check finds nothing but missing syncs, and every word that is not zero begins a command with a name or belongs
+   to one: other bytes make many no operations. */
+static bool looks_well(const List *list)
+{
+    Command command;
+    size_t named = 0;
+    Answer answer = answer_of(lanyardrove_check(list->bytes, list->length));
+    if (is_refused(answer) && !is_missing_sync(answer))
+        return false;
+    for (size_t place = 0; command_at(list, place, &command); place += command.words) {
+        if (!is_named(command.number) && word_at(list->bytes, place) != 0)
+            return false;
+        named += is_named(command.number);
+    }
+    return named >= LEAST;
+}
+
+void hint_swapped(const char *path, const List *list, const Input *input)
+{
+    size_t words = (list->length < LIST_LIMIT ? list->length : LIST_LIMIT) / 8;
+    if (input->swap || !is_beyond_repair(list->verdict))
+        return;
+    List swapped = { .bytes = calloc(words + LANYARDROVE_MOST_WORDS, 8), .length = 8 * words };
+    if (swapped.bytes == NULL)
+        return;
+    memcpy(swapped.bytes, list->bytes, swapped.length);
+    swap_words(swapped.bytes, words);
+    if (looks_well(&swapped))
+        complain("%s: its words look little-endian: try --swap", path);
+    list_free(&swapped);
+}

@@ -1,0 +1,29 @@
+# fish completion for lanyardrove
+
+set -l commands check repair dump draw report
+
+complete -c lanyardrove -n "not __fish_seen_subcommand_from $commands help" -f
+complete -c lanyardrove -n "not __fish_seen_subcommand_from $commands help" -a "$commands help"
+complete -c lanyardrove -n "not __fish_seen_subcommand_from $commands help" -s h -l help
+complete -c lanyardrove -n "not __fish_seen_subcommand_from $commands help" -s V -l version
+complete -c lanyardrove -n "__fish_seen_subcommand_from help" -f -a "$commands"
+
+complete -c lanyardrove -n "__fish_seen_subcommand_from check" -s q -l quiet -d "number and place alone"
+complete -c lanyardrove -n "__fish_seen_subcommand_from check" -l failures -d "leave out accepted lists"
+complete -c lanyardrove -n "__fish_seen_subcommand_from check" -l all -d "every missing sync"
+complete -c lanyardrove -n "__fish_seen_subcommand_from check" -l format -x -a "text gcc github json sarif"
+
+complete -c lanyardrove -n "__fish_seen_subcommand_from repair" -l check -d "write nothing"
+complete -c lanyardrove -n "__fish_seen_subcommand_from repair" -s i -l in-place -d "write each list over itself"
+
+complete -c lanyardrove -n "__fish_seen_subcommand_from draw" -l memory -x -a "64K 1M 4M 8M"
+complete -c lanyardrove -n "__fish_seen_subcommand_from draw" -l start -x
+complete -c lanyardrove -n "__fish_seen_subcommand_from draw" -l image -x
+
+complete -c lanyardrove -n "__fish_seen_subcommand_from repair draw report" -s o -l output -r -F
+
+complete -c lanyardrove -n "__fish_seen_subcommand_from $commands" -l offset -x
+complete -c lanyardrove -n "__fish_seen_subcommand_from $commands" -l length -x
+complete -c lanyardrove -n "__fish_seen_subcommand_from $commands" -l swap -d "little-endian words"
+complete -c lanyardrove -n "__fish_seen_subcommand_from $commands" -l hex -d "hexadecimal text"
+complete -c lanyardrove -n "__fish_seen_subcommand_from $commands" -s h -l help

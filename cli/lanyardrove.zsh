@@ -1,0 +1,27 @@
+#compdef lanyardrove
+# zsh completion for lanyardrove, installed as _lanyardrove
+
+_lanyardrove()
+{
+    local -a commands input options
+    commands=(check repair dump draw report)
+    input=('--offset=:byte:' '--length=:bytes:' --swap --hex -h --help '*:list:_files')
+    if (( CURRENT == 2 )); then
+        compadd -- $commands help --help --version
+        return
+    fi
+    case $words[2] in
+    check) options=(-q --quiet --failures --all '--format=:form:(text gcc github json sarif)') ;;
+    repair) options=(--check -i --in-place '-o:output:_files' '--output=:output:_files') ;;
+    dump) options=() ;;
+    draw) options=('--memory=:bytes:(64K 1M 4M 8M)' '--start=:address:' '--image=:image:' '-o:output:_files' '--output=:output:_files') ;;
+    report) options=('-o:output:_files' '--output=:output:_files') ;;
+    help) compadd -- $commands; return ;;
+    *) return ;;
+    esac
+    shift words
+    (( CURRENT-- ))
+    _arguments $options $input
+}
+
+_lanyardrove "$@"
