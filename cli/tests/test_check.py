@@ -6,7 +6,7 @@ import shutil
 import subprocess
 
 from rules import NAMES, accepted_list, cause_of, hazards_along, misses_sync, words_of
-from support import C, L, LOAD, N, ONE_CYCLE, PIPE, R, S, TILE, TOOL, example, read, run, same, test, words, write
+from support import BLOCK, C, L, LOAD, N, ONE_CYCLE, PIPE, R, S, SET_TILE, TILE, TOOL, example, read, run, same, test, words, write
 
 
 def example_table():
@@ -38,7 +38,7 @@ def check_says_what_an_answer_means():
             (words(S[0], 0x3F00000700000000, S[2], R), "6 3\nword 3: Fill Rectangle draws in FILL mode on a 4-bit colour image"),
             (words(*S, R, L), "7 4\nword 4: Load Tile requires Sync Load, for the Fill Rectangle at word 3"),
             (words(*S, L, R), "7 4\nword 4: Fill Rectangle requires Sync Load, for the Load Tile at word 3"),
-            (words(ONE_CYCLE, *S[1:], 0x24 << 56, 0, 0x35 << 56), "8 5\nword 5: Set Tile requires Sync Tile, for the Texture Rectangle at word 3"),
+            (words(ONE_CYCLE, *S[1:], 0x24 << 56, 0, SET_TILE), "8 5\nword 5: Set Tile requires Sync Tile, for the Texture Rectangle at word 3"),
             (words(*S, R, C), "9 4\nword 4: Set Fill Color requires Sync Pipe, for the Fill Rectangle at word 3")):
         same(run("check", "-", stdin=data), (0 if text[0] == "0" else 1, text + "\n", ""))
 
@@ -52,11 +52,19 @@ def check_names_the_latest_command_that_the_sync_has_to_wait_for():
             ([*S, R, *[N] * 4091, C], "word 4095: Set Fill Color requires Sync Pipe, for the Fill Rectangle at word 3"),
             ([*S, *triangle, C], "word 25: Set Fill Color requires Sync Pipe, for the Fill Triangle (STZ) at word 3"),
             ([*S, L, 0x30 << 56, R, R], "word 5: Fill Rectangle requires Sync Load, for the Load TLUT at word 4"),
-            ([*textured, R, 0x08 << 56, 0, 0, 0, 0x35 << 56], "word 10: Set Tile requires Sync Tile, for the Texture Rectangle at word 3"),
+            ([*textured, R, 0x08 << 56, 0, 0, 0, SET_TILE], "word 10: Set Tile requires Sync Tile, for the Texture Rectangle at word 3"),
             ([*textured, R, C], "word 6: Set Fill Color requires Sync Pipe, for the Fill Rectangle at word 5"),
             ([*S, R, PIPE, R, TILE, LOAD, C], "word 8: Set Fill Color requires Sync Pipe, for the Fill Rectangle at word 5")):
         status, out, err = run("check", "-", stdin=words(*given))
         same((status, out.split("\n")[1], err), (1, text, ""))
+
+
+@test
+def check_asks_for_a_sync_between_a_load_and_set_tile():
+    meaning = "Set Tile requires Sync Tile, for the Load Block at word 0"
+    for between, text in (([], f"8 1\nword 1: {meaning}"), ([LOAD], f"8 2\nword 2: {meaning}"), ([TILE], "0 3\naccepted: 3 words"),
+                          ([PIPE], "0 3\naccepted: 3 words")):
+        same(run("check", "-", stdin=words(BLOCK, *between, SET_TILE)), (int(text[0] != "0"), text + "\n", ""))
 
 
 @test

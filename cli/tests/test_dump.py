@@ -6,7 +6,7 @@ import re
 import subprocess
 
 from rules import NAMES, accepted_list, commands_of, fields_of, hazards_along, random_command, words_of
-from support import C, FULL, L, N, ONE_CYCLE, PIPE, R, S, TILE, TOOL, example, read, run, same, test, words, write
+from support import C, FULL, L, N, ONE_CYCLE, PIPE, R, S, SET_TILE, TILE, TOOL, example, read, run, same, test, words, write
 
 FOUR_BITS = [S[0], 0x3F00000000000000, S[2]]  # no draw may follow
 
@@ -59,7 +59,7 @@ def dump_shows_the_refusal_at_its_line_and_what_follows():
     assert text.startswith(f"9 4\n{meaning}\n"), text
     assert "        >> refused, 9 4: word 4: Set Fill Color requires Sync Pipe, for the Fill\n           Rectangle at word 3\n        color=" in text, text
     same(notes(text), [(3, "causes the refusal at word 4"), (4, f"refused, 9 4: {meaning}")])
-    same([c[2:4] for c in dumped_commands(text)][5:], [["Load Tile", "pipe draw"], ["Sync Full", "pipe draw load"]])
+    same([c[2:4] for c in dumped_commands(text)][5:], [["Load Tile", "pipe draw"], ["Sync Full", "pipe tile draw load"]])
     assert ">>" not in dumped(read(example("i.rdp")), 0)
 
 
@@ -67,7 +67,7 @@ def dump_shows_the_refusal_at_its_line_and_what_follows():
 def dump_marks_the_command_that_the_sync_has_to_wait_for():
     triangle = [0x0F << 56, *[R] * 21]
     for given, cause, place in (([*S, *triangle, C], 3, 25), ([*S, R, *[N] * 4091, C], 3, 4095), ([*S, R, *[N] * 796, R, *[N] * 11, C], 800, 812),
-                                ([*S, L, L, R], 4, 5), ([ONE_CYCLE, *S[1:], 0x25 << 56, 0, R, 0x35 << 56], 3, 6)):
+                                ([*S, L, L, R], 4, 5), ([ONE_CYCLE, *S[1:], 0x25 << 56, 0, R, SET_TILE], 3, 6)):
         found = notes(dumped(words(*given), 1))
         same((found[0], [n[0] for n in found]), ((cause, f"causes the refusal at word {place}"), [cause, place]))
     same(notes(dumped(read(example("e.rdp")), 1)), [(0, "refused, 5 0: word 0: Fill Triangle (STZ) draws with other modes, colour image or scissor "
@@ -92,8 +92,8 @@ def dump_shows_what_is_no_whole_command():
 def dump_of_a_list_that_is_too_long():
     given = [*S, *[N] * 4091, R, L, L, 0x24 << 56, 0, TILE, N]
     found = dumped_commands(run("dump", write("list.rdp", words(*given)))[1])
-    same([(c[0], c[3]) for c in found[4093:]], [(4093, "none"), (4094, "none"), (4095, "pipe draw"), (4096, "pipe draw load"), (4097, "pipe draw load"),
-                                                (4099, "pipe tile draw load"), (4100, "pipe")])
+    same([(c[0], c[3]) for c in found[4093:]], [(4093, "none"), (4094, "none"), (4095, "pipe draw"), (4096, "pipe tile draw load"),
+                                                (4097, "pipe tile draw load"), (4099, "pipe tile draw load"), (4100, "pipe")])
     status, out, _ = run("dump", write("list.rdp", words(R, *[N] * 131072)))
     found = dumped_commands(out)
     same((status, len(found), {c[3] for c in found[1:]}), (1, 131072, {"pipe draw"}))
@@ -167,9 +167,9 @@ def dump_shows_the_hazards_of_document_01():
         given = accepted_list(rng, setup, commands)
         same(dumped_hazards(given, 0), hazards_along(given))
     found = [c[3] for c in dumped_commands(dumped(words(*FOUR_BITS, L, N), 0))]
-    same(found, ["none"] * 4 + ["load"])
+    same(found, ["none"] * 4 + ["tile load"])
     found = [c[3] for c in dumped_commands(dumped(words(*modes, 0x24 << 56, 0, TILE, L, PIPE, *FOUR_BITS[:2], L, N, FULL), 0))]
-    same(found, ["none"] * 4 + ["pipe tile draw", "pipe", "pipe load", "none", "none", "none", "load", "load"])
+    same(found, ["none"] * 4 + ["pipe tile draw", "pipe", "pipe tile load", "none", "none", "none", "tile load", "tile load"])
 
 
 @test
@@ -185,11 +185,11 @@ def dump_shows_the_hazards_after_a_refusal():
 @test
 def dump_of_the_longest_list():
     found = dumped_commands(dumped(words(L, *[N] * 4095), 0))
-    same((len(found), {c[3] for c in found[1:]}), (4096, {"load"}))
+    same((len(found), {c[3] for c in found[1:]}), (4096, {"tile load"}))
     found = dumped_commands(dumped(words(*FOUR_BITS, *[N] * 4090, L, N, N), 0))
-    same([c[3] for c in found[4093:]], ["none", "load", "load"])
+    same([c[3] for c in found[4093:]], ["none", "tile load", "tile load"])
     found = dumped_commands(dumped(words(*S, *[N] * 4090, R, L, C), 1))  # each of the last two misses a sync
-    same([c[3] for c in found[4093:]], ["none", "pipe draw", "pipe draw load"])
+    same([c[3] for c in found[4093:]], ["none", "pipe draw", "pipe tile draw load"])
 
 
 def on_a_terminal(env):

@@ -6,7 +6,7 @@ import re
 import subprocess
 
 from rules import NAMES, words_of
-from support import C, L, LOAD, N, ONE_CYCLE, PIPE, R, S, TILE, TOOL, example, files, read, run, same, test, words, write
+from support import BLOCK, C, L, LOAD, N, ONE_CYCLE, PIPE, R, S, SET_TILE, TILE, TOOL, example, files, read, run, same, test, words, write
 
 
 @test
@@ -23,6 +23,16 @@ def repair_inserts_the_least_syncs():
         same(run("check", "-q", "out.rdp")[0], 0, name)
         same(files(), ["out.rdp"])
         os.remove("out.rdp")
+
+
+@test
+def repair_inserts_a_sync_between_a_load_and_set_tile():
+    for between in ([], [LOAD]):
+        given = [BLOCK, *between, SET_TILE]
+        same(run("repair", "-", "-o", "out.rdp", stdin=words(*given)),
+             (0, f"Sync Tile before word {len(given) - 1}, Set Tile\n1 sync inserted, 33 cycles, {len(given) + 1} words in all\n", ""))
+        same(read("out.rdp"), words(*given[:-1], TILE, SET_TILE))
+    same(run("repair", "--check", "-", stdin=words(BLOCK, TILE, SET_TILE))[0], 0)
 
 
 @test

@@ -6,7 +6,7 @@ import re
 import struct
 
 from rules import commands_of, hazards_along
-from support import C, L, N, ONE_CYCLE, R, S, example, memory_of_i, png_pixels, read, rgb_of, run, same, test, words, write
+from support import C, L, N, ONE_CYCLE, R, S, SET_TILE, example, memory_of_i, png_pixels, read, rgb_of, run, same, test, words, write
 
 
 class Page(html.parser.HTMLParser):
@@ -135,7 +135,7 @@ def report_knows_the_places_of_the_given_list_only():
 @test
 def report_gives_a_reason_for_each_refusal():
     lists = [bytes(32776), bytes(7), words(0x24 << 56), words(0x29 << 56, N), words(R), words(S[0], 0x3F00000700000000, S[2], R),
-             words(*S, R, L), words(ONE_CYCLE, *S[1:], 0x24 << 56, 0, 0x35 << 56), words(*S, R, C)]
+             words(*S, R, L), words(ONE_CYCLE, *S[1:], 0x24 << 56, 0, SET_TILE), words(*S, R, C)]
     reasons = [re.search('<p class="why">(.+)</p>', reported(data, 1).source)[1] for data in lists]
     same(len(set(reasons)), 9)
 
@@ -159,11 +159,11 @@ def report_shows_hazards_along_the_list():
     strips = re.findall(r'<svg viewBox="0 0 (\d+) 72".*?>(.*?)</svg>', page.source, re.S)
     bars = [re.findall(r'<rect class="h-(\w+)" x="(\d+)" y="(\d+)" width="(\d+)" height="(\d+)"', strip) for _, strip in strips]
     same([columns for columns, _ in strips], ["7", "8"])
-    # from word 4 on pipe and draw, after the refused command at word 5 too, and then load; it is refused for the draw at word 3
-    same(bars[0], [("pipe", "4", "2", "3", "14"), ("draw", "4", "38", "3", "14"), ("load", "6", "56", "1", "14"), ("cause", "3", "0", "1", "72"),
-                   ("refused", "5", "0", "1", "72")])
+    # from word 4 on pipe and draw, after the refused command at word 5 too, and then tile and load; it is refused for the draw at word 3
+    same(bars[0], [("pipe", "4", "2", "3", "14"), ("tile", "6", "20", "1", "14"), ("draw", "4", "38", "3", "14"), ("load", "6", "56", "1", "14"),
+                   ("cause", "3", "0", "1", "72"), ("refused", "5", "0", "1", "72")])
     # repaired: S R N Pipe L C
-    same(bars[1], [("pipe", "4", "2", "2", "14"), ("draw", "4", "38", "2", "14"), ("load", "7", "56", "1", "14")])
+    same(bars[1], [("pipe", "4", "2", "2", "14"), ("tile", "7", "20", "1", "14"), ("draw", "4", "38", "2", "14"), ("load", "7", "56", "1", "14")])
     assert "pipe: before the commands at words 4 to 6" in page.text
     assert "After it the hazards go on as if it had run." in page.text and "unknown" not in page.source
 
