@@ -128,6 +128,10 @@ unsigned hazards_after(unsigned hazards, const Command *command);
 const char *hazard_name(unsigned bit);
 void hazards_text(unsigned hazards, char *text, size_t room);
 
+/* -- cycles.c: the cycles that the syncs of a list wait ----------------- */
+
+uint32_t cycles_waited(const List *list);
+
 /* -- repaired.c: the repair, and the syncs that it inserted ------------- */
 
 typedef struct {
@@ -140,10 +144,12 @@ typedef struct {
     List list;
     Insertion *inserted;
     size_t count;
+    uint32_t before, after; /* the cycles that the given list waits, and the repaired one */
 } Repaired;
 
 bool repaired_of(const List *list, Repaired *repaired);
 size_t given_place(const Repaired *repaired, size_t place);
+void inserted_text(const Repaired *repaired, bool done, char *text, size_t room);
 void repaired_free(Repaired *repaired);
 
 /* -- picture.c: the picture in memory ----------------------------------- */
@@ -195,7 +201,7 @@ typedef struct {
     int count;
     Input input;
     const char *output; /* NULL where -o is not given */
-    bool help, quiet, failures, all, dry, in_place, has_memory, has_image;
+    bool help, quiet, verbose, failures, all, dry, in_place, has_memory, has_image;
     const struct Format *format; /* of what check tells */
     uint64_t memory, start;
     Image image;

@@ -10,7 +10,7 @@ _lanyardrove()
         return
     fi
     case ${COMP_WORDS[1]} in
-    check) options="-q --quiet --failures --all --format $input" ;;
+    check) options="-q --quiet -v --verbose --failures --all --format $input" ;;
     repair) options="--check -i --in-place -o --output $input" ;;
     report) options="-o --output $input" ;;
     dump) options="$input" ;;

@@ -9,6 +9,7 @@ complete -c lanyardrove -n "not __fish_seen_subcommand_from $commands help" -s V
 complete -c lanyardrove -n "__fish_seen_subcommand_from help" -f -a "$commands"
 
 complete -c lanyardrove -n "__fish_seen_subcommand_from check" -s q -l quiet -d "number and place alone"
+complete -c lanyardrove -n "__fish_seen_subcommand_from check" -s v -l verbose -d "the cycles waited too"
 complete -c lanyardrove -n "__fish_seen_subcommand_from check" -l failures -d "leave out accepted lists"
 complete -c lanyardrove -n "__fish_seen_subcommand_from check" -l all -d "every missing sync"
 complete -c lanyardrove -n "__fish_seen_subcommand_from check" -l format -x -a "text gcc github json sarif"

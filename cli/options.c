@@ -11,6 +11,12 @@ static bool set_quiet(Arguments *arguments, const char *value)
     return arguments->quiet = true;
 }
 
+static bool set_verbose(Arguments *arguments, const char *value)
+{
+    (void)value;
+    return arguments->verbose = true;
+}
+
 static bool set_failures(Arguments *arguments, const char *value)
 {
     (void)value;
@@ -86,6 +92,9 @@ static bool set_image(Arguments *arguments, const char *value)
 
 static const Option options[] = {
     { OF_CHECK, "quiet", 'q', NULL, set_quiet, NULL, "print 'number place' alone; of several files, the name\ntoo" },
+    { OF_CHECK, "verbose", 'v', NULL, set_verbose, NULL,
+      "say also the cycles that the syncs of a list wait; of a\n"
+      "refused list those before the refusal" },
     { OF_CHECK, "failures", 0, NULL, set_failures, NULL, "leave out the lists that are accepted" },
     { OF_CHECK, "all", 0, NULL, set_all, NULL,
       "tell every sync that a list misses, as if the commands\n"

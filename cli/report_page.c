@@ -49,9 +49,10 @@ static void add_verdict(Text *text, const Report *report)
     if (report->rows.refused < report->rows.count)
         text_add(text, "<p class=\"show\"><a href=\"#refused\">Show the command</a></p>\n");
     text_add(text, "</section>\n<dl class=\"facts\"><div><dt>number place</dt><dd><code>%u %u</code></dd></div>"
-                   "<div><dt>bytes</dt><dd>%s%zu</dd></div><div><dt>commands</dt><dd>%zu</dd></div></dl>\n",
+                   "<div><dt>bytes</dt><dd>%s%zu</dd></div><div><dt>commands</dt><dd>%zu</dd></div><div><dt>%s</dt><dd>%u</dd></div></dl>\n",
              report->answer.number, (unsigned)report->answer.place, goes_on(&report->list) ? "over " : "",
-             goes_on(&report->list) ? report->list.limit : report->list.length, report->rows.count);
+             goes_on(&report->list) ? report->list.limit : report->list.length, report->rows.count,
+             accepted ? "cycles waited" : "cycles waited before the refusal", (unsigned)cycles_waited(&report->list));
 }
 
 /* What the lines of a strip mean. */
@@ -88,8 +89,9 @@ static void add_hazards(Text *text, const Report *report)
 static void add_insertions(Text *text, const Report *report)
 {
     const Repaired *repaired = &report->repaired;
-    text_add(text, "<details%s><summary>%zu %s inserted, %u cycles</summary>\n<ul id=\"inserted\">\n", repaired->count <= OPEN_LIMIT ? " open" : "",
-             repaired->count, repaired->count == 1 ? "sync would be" : "syncs would be", (unsigned)repaired->answer.third);
+    char all[160];
+    inserted_text(repaired, false, all, sizeof all);
+    text_add(text, "<details%s><summary>%s</summary>\n<ul id=\"inserted\">\n", repaired->count <= OPEN_LIMIT ? " open" : "", all);
     for (size_t i = 0; i < repaired->count; i++)
         text_add(text, "<li>%s before word %zu, %s</li>\n", command_name(repaired->inserted[i].number), repaired->inserted[i].place,
                  name_at(&report->list, repaired->inserted[i].place));

@@ -68,6 +68,12 @@ def example(name):
     return os.path.join(TOP, "examples", name)
 
 
+def inserted(syncs, cycles, in_all, before=0, done="inserted"):
+    """The line in which a repair says what it inserted."""
+    return (f"{syncs} sync{'' if syncs == 1 else 's'} {done}, {cycles} cycles, {in_all} words in all; "
+            f"the list waits {before} cycles before, {before + cycles} after\n")
+
+
 def files():
     return sorted(os.listdir("."))
 

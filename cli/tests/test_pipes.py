@@ -3,7 +3,7 @@ import os
 import re
 import subprocess
 
-from support import C, FULL, L, N, PIPE, R, S, TOOL, arriving, example, files, read, run, same, test, words, write
+from support import C, FULL, L, N, PIPE, R, S, TOOL, arriving, example, files, inserted, read, run, same, test, words, write
 
 CHECK, DUMP, REPORT = ["check", "-"], ["dump", "-"], ["report", "-", "-o", "-"]
 DRAW = ["draw", "-", "--memory", "64", "-o", "out.bin"]
@@ -43,7 +43,7 @@ def repair_reads_on_after_a_missing_sync_and_ends_at_other_refusals():
     same(arriving(REPAIR, words(*S, R, C), bytes(16384 - 40), b"x"), (1, too_long))
     same(arriving(REPAIR, bytes(16376), words(R)), (1, "5 2047\n" + not_set.split("\n")[1].replace("word 0", "word 2047") + "\n"))
     same(files(), [])
-    text = "Sync Pipe before word 4, Load Tile\n1 sync inserted, 50 cycles, 7 words in all\n"
+    text = "Sync Pipe before word 4, Load Tile\n" + inserted(1, 50, 7)
     same(run(*REPAIR, stdin=words(*S, R, L, C)), (0, text, ""))
     same((read("out.rdp"), files()), (words(*S, R, PIPE, L, C), ["out.rdp"]))
     # after a missing sync the repair judges the whole list, as from a file

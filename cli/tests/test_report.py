@@ -6,7 +6,7 @@ import re
 import struct
 
 from rules import commands_of, hazards_along
-from support import C, L, N, ONE_CYCLE, R, S, SET_TILE, example, memory_of_i, png_pixels, read, rgb_of, run, same, test, words, write
+from support import C, FULL, L, N, ONE_CYCLE, PIPE, R, S, SET_TILE, TILE, example, inserted, memory_of_i, png_pixels, read, rgb_of, run, same, test, words, write
 
 
 class Page(html.parser.HTMLParser):
@@ -69,10 +69,18 @@ def report_of_a_refused_list():
     same(len(refused), 1)
     assert "37000000F801003F" in refused[0] and "Refused, 9 4: word 4: Set Fill Color requires Sync Pipe, for the" in refused[0], refused
     same(len([row for row in page.rows_of("inserted") if "+ Sync Pipe" in row]), 1)
-    assert "1 sync would be inserted, 50 cycles" in page.text and "Sync Pipe before word 4, Set Fill Color" in page.text
+    assert inserted(1, 50, 6, done="would be inserted").strip() in page.text and "Sync Pipe before word 4, Set Fill Color" in page.text
     same(page.source.count('class="strip"'), 2)  # the list and the repaired list
     assert "drawn by the repaired list" in page.text
     same(page.picture(), (8, 4, bytes(96)))  # the colour is set after the rectangle
+
+
+@test
+def report_shows_the_cycles_with_the_verdict():
+    for given, status, fact in (([*S, R, PIPE, C, TILE, FULL], 0, ("cycles waited", "83")), ([*S, R, TILE, C, PIPE], 1, ("cycles waited before the refusal", "33")),
+                                ([], 0, ("cycles waited", "0"))):
+        facts = re.findall(r"<dt>(.*?)</dt><dd>(.*?)</dd>", reported(words(*given), status).source)
+        same(facts[-1], fact, given)
 
 
 @test
