@@ -6,7 +6,8 @@ import re
 import struct
 
 from rules import commands_of, hazards_along
-from support import C, FULL, L, N, ONE_CYCLE, PIPE, R, S, SET_TILE, TILE, example, inserted, memory_of_i, png_pixels, read, rgb_of, run, same, test, words, write
+from support import (C, FULL, L, N, ONE_CYCLE, PIPE, R, S, SET_TILE, TILE, example, inserted, memory_of_i,
+                     png_pixels, read, rgb_of, run, same, test, words, write)
 
 
 class Page(html.parser.HTMLParser):
@@ -77,8 +78,8 @@ def report_of_a_refused_list():
 
 @test
 def report_shows_the_cycles_with_the_verdict():
-    for given, status, fact in (([*S, R, PIPE, C, TILE, FULL], 0, ("cycles waited", "83")), ([*S, R, TILE, C, PIPE], 1, ("cycles waited before the refusal", "33")),
-                                ([], 0, ("cycles waited", "0"))):
+    for given, status, fact in (([*S, R, PIPE, C, TILE, FULL], 0, ("cycles waited", "83")), ([], 0, ("cycles waited", "0")),
+                                ([*S, R, TILE, C, PIPE], 1, ("cycles waited before the refusal", "33"))):
         facts = re.findall(r"<dt>(.*?)</dt><dd>(.*?)</dd>", reported(words(*given), status).source)
         same(facts[-1], fact, given)
 
