@@ -52,7 +52,7 @@ static void written_record(const uint8_t *record) {
 }
 
 // A list in portions of a length, each in an exact buffer, closed again and again; the record is defined, and stays so when it is damaged. The bytes that
-// hold nothing are not: no call reads them
+// hold nothing are not: no answer, no other byte and no branch goes by them
 static void one_stream(const uint8_t *list, size_t length, size_t portion, bool null) {
     static const uint32_t damage[][2] = {{WAITED, MOST_WAITED}, {WAITED, UINT32_MAX}, {WAITED, 0}, {HELD_COUNT, 175}, {HELD_COUNT, UINT32_MAX}};
     const size_t times = sizeof damage / sizeof *damage;
