@@ -114,8 +114,33 @@ bool is_named(unsigned number);
 const char *command_name(unsigned number);
 const char *name_at(const List *list, size_t place);
 const char *field_name(unsigned number, size_t field);
-void field_value(const Command *command, size_t field, char *text, size_t room);
 const char *suffix_name(const Command *command, size_t word);
+
+/* How a field is shown. */
+typedef enum {
+    PLAIN,      /* a number */
+    QUARTER,    /* quarter pixels or texels */
+    PARTS_32,   /* parts of 32 */
+    PARTS_1024, /* parts of 1,024 */
+    FIXED,      /* the integer part of a number; its fraction, in parts of 65,536, is the next field */
+    HEX,
+    COLOUR, /* in eight digits */
+    FORMAT, /* of texels or pixels */
+    SIZE,   /* of texels or pixels */
+    CYCLE,  /* the cycle type */
+    LESS_ONE /* one less than the size */
+} Style;
+
+Style field_style(unsigned number, size_t field);
+
+/* -- shown.c: fields as they are shown ----------------------------------- */
+
+typedef struct {
+    char name[32], value[96];
+    bool is_zero; /* all of its bits are */
+} Shown;
+
+bool next_shown(const Command *command, size_t *at, Shown *shown);
 
 /* -- hint.c -------------------------------------------------------------- */
 
@@ -195,8 +220,9 @@ typedef struct {
     int count;
     Input input;
     const char *output; /* NULL where -o is not given */
-    bool help, quiet, failures, all, dry, in_place, has_memory, has_image;
+    bool help, brief, has_around, quiet, failures, all, dry, in_place, has_memory, has_image;
     const struct Format *format; /* of what check tells */
+    uint64_t from, to, around; /* places that dump shows */
     uint64_t memory, start;
     Image image;
 } Arguments;

@@ -35,6 +35,27 @@ static bool set_in_place(Arguments *arguments, const char *value)
     return arguments->in_place = true;
 }
 
+static bool set_brief(Arguments *arguments, const char *value)
+{
+    (void)value;
+    return arguments->brief = true;
+}
+
+static bool set_from(Arguments *arguments, const char *value)
+{
+    return take_address(value, &arguments->from);
+}
+
+static bool set_to(Arguments *arguments, const char *value)
+{
+    return take_address(value, &arguments->to);
+}
+
+static bool set_around(Arguments *arguments, const char *value)
+{
+    return arguments->has_around = take_address(value, &arguments->around);
+}
+
 static bool set_format(Arguments *arguments, const char *value)
 {
     arguments->format = format_of(value);
@@ -93,6 +114,10 @@ static const Option options[] = {
     { OF_CHECK, "format", 0, "FORM", set_format, "one of text, gcc, github, json and sarif",
       "how lists are told: text, gcc (as compilers do), github\n"
       "(annotations), json or sarif" },
+    { OF_DUMP, "brief", 0, NULL, set_brief, NULL, "leave out the fields that are 0" },
+    { OF_DUMP, "from", 0, "PLACE", set_from, "a number", "show the commands from this word on" },
+    { OF_DUMP, "to", 0, "PLACE", set_to, "a number", "show the commands up to this word" },
+    { OF_DUMP, "around", 0, "PLACE", set_around, "a number", "show eight commands before the one of this word, and\neight after" },
     { OF_DRAW, "memory", 0, "BYTES", set_memory, "a number of bytes up to 256M", "the length of memory; K and M may follow" },
     { OF_DRAW, "start", 0, "ADDRESS", set_start, "an address", "the address of its first byte; 0 if not given" },
     { OF_DRAW, "image", 0, "ADDRESS,WIDTH,HEIGHT,SIZE", set_image,
@@ -186,7 +211,7 @@ static bool take_option(const Entry *entry, int found, Arguments *arguments)
 int run_entry(const Entry *entry, int argc, char **argv)
 {
     static char program[] = "lanyardrove";
-    Arguments arguments = { .command = entry->name };
+    Arguments arguments = { .command = entry->name, .to = UINT64_MAX };
     Known known;
     int found;
     know_options(&known);

@@ -15,18 +15,17 @@ static void add_words(Text *text, const List *list, const Command *command)
 /* The fields of a command; of a command with many, those that are not 0. */
 static void add_fields(Text *text, const Command *command)
 {
-    size_t zeros = 0;
-    for (size_t i = 0; command->whole && i < command->count; i++) {
-        char value[64];
-        if (command->count > MANY_FIELDS && command->fields[i] == 0) {
-            zeros++;
-            continue;
-        }
-        field_value(command, i, value, sizeof value);
-        text_add(text, "<span class=\"field\">%s <b>%s</b></span> ", field_name(command->number, i), value);
+    size_t zeros = 0, others = 0, at = 0;
+    Shown shown;
+    while (command->whole && next_shown(command, &at, &shown)) {
+        bool left_out = command->count > MANY_FIELDS && shown.is_zero;
+        zeros += left_out;
+        others += !left_out;
+        if (!left_out)
+            text_add(text, "<span class=\"field\">%s <b>%s</b></span> ", shown.name, shown.value);
     }
     if (zeros > 0)
-        text_add(text, "<span class=\"field\">%s%zu fields are 0</span>", zeros < command->count ? "the other " : "all ", zeros);
+        text_add(text, "<span class=\"field\">%s%zu fields are 0</span>", others > 0 ? "the other " : "all ", zeros);
 }
 
 /* Why a command is refused: what it waits for, where a sync is missing. */
