@@ -188,6 +188,7 @@ bool image_of_list(const List *list, Image *image);
 size_t image_length(const Image *image);
 bool image_inside(const Image *image, const Memory *memory);
 void image_text(const Image *image, char *text, size_t room);
+void pixel_rgb(const uint8_t *pixel, uint32_t bits, uint8_t *rgb);
 uint8_t *image_rgb(const Image *image, const Memory *memory);
 uint8_t *image_png(const Image *image, const uint8_t *rgb, size_t *length);
 uint8_t *image_ppm(const Image *image, const uint8_t *rgb, size_t *length);
