@@ -54,6 +54,20 @@ def install_and_uninstall():
 
 
 @test
+def the_dockerfile_has_only_steps_that_are_run():
+    """make dockerfile runs them; here is only seen that it knows them all, and that what is copied is made."""
+    text = read(os.path.join(TOP, "Dockerfile")).decode()
+    steps = re.findall(r"^([A-Z]+) (.*)$", text.replace("\\\n", ""), re.M)
+    same({step for step, _ in steps}, {"FROM", "RUN", "COPY"})
+    known = re.findall(r"^    ([A-Z]+)\)", read(os.path.join(TOP, "tools", "dockerfile")).decode(), re.M)
+    same(set(known), {"FROM", "RUN", "COPY"})
+    plan = make("-n", "-o", "build/liblanyardrove.a", "dockerfile")
+    assert "bash tools/dockerfile" in plan and 'install -D -m $mode "${pair#*=}" "build/installed/usr/' in plan, plan
+    for name in (rest.split()[0] for step, rest in steps if step == "COPY"):
+        assert name == "build/installed/usr" or os.path.exists(os.path.join(TOP, name)), name
+
+
+@test
 def a_debian_package_is_installed_and_used():
     version = run("--version")[1].split()[1]
     machine = subprocess.run(["dpkg", "--print-architecture"], capture_output=True, check=True).stdout.decode().strip()
