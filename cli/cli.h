@@ -54,9 +54,15 @@ const char *reason_of(unsigned number);
 
 /* -- source.c: the bytes of a list where they are ----------------------- */
 
+/* A number that an option gives. */
 typedef struct {
-    uint64_t offset, length;
-    bool has_length, swap, hex;
+    bool is_given;
+    uint64_t value;
+} Number;
+
+typedef struct {
+    Number offset, length;
+    bool swap, hex;
 } Input;
 
 /* The file that a list is read from, and how far. */
@@ -221,9 +227,9 @@ typedef struct {
     int count;
     Input input;
     const char *output; /* NULL where -o is not given */
-    bool help, brief, has_around, quiet, failures, all, dry, in_place, has_memory, has_image;
+    bool help, brief, quiet, failures, all, dry, in_place, has_memory, has_image;
     const struct Format *format; /* of what check tells */
-    uint64_t from, to, around; /* places that dump shows */
+    Number from, to, around; /* places that dump shows */
     uint64_t memory, start;
     Image image;
 } Arguments;
@@ -246,7 +252,8 @@ typedef struct {
     const char *name;
     char letter;       /* 0 where it has none */
     const char *value; /* what the help calls its value; NULL where it takes none */
-    bool (*set)(Arguments *arguments, const char *value); /* false where the value is wrong; NULL for the help */
+    bool (*set)(void *member, const char *value); /* false where the value is wrong */
+    size_t member;        /* what it sets, in bytes from the start of the arguments */
     const char *expected; /* what a value that is wrong is not */
     const char *text;     /* what the help says, in lines */
 } Option;

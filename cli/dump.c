@@ -50,7 +50,7 @@ static void print_fields(const Dump *dump, const Command *command)
 /* Place, byte in the file, and the word there. */
 static void print_word(const Dump *dump, size_t place)
 {
-    printf("%6zu  %06" PRIX64 "  %016" PRIX64, place, dump->arguments->input.offset + 8 * place, word_at(dump->list->bytes, place));
+    printf("%6zu  %06" PRIX64 "  %016" PRIX64, place, dump->arguments->input.offset.value + 8 * place, word_at(dump->list->bytes, place));
 }
 
 /* The further words of a command; those after a triangle's base are named. */
@@ -130,7 +130,7 @@ static void print_rest(const Dump *dump)
     if (goes_on(list))
         printf("        the list goes on after %zu bytes, which is all that is shown\n", list->limit);
     else if (list->length % 8 != 0) {
-        printf("%6zu  %06" PRIX64 "  ", list->length / 8, dump->arguments->input.offset + list->length / 8 * 8);
+        printf("%6zu  %06" PRIX64 "  ", list->length / 8, dump->arguments->input.offset.value + list->length / 8 * 8);
         for (size_t i = list->length / 8 * 8; i < list->length; i++)
             printf("%02X", list->bytes[i]);
         printf("  no whole word\n");
@@ -181,16 +181,16 @@ static bool wants_colour(void)
 int run_dump(const Arguments *arguments)
 {
     List list;
-    if (arguments->has_around && (arguments->from > 0 || arguments->to != UINT64_MAX)) {
+    if (arguments->around.is_given && (arguments->from.is_given || arguments->to.is_given)) {
         complain("dump has --around, or --from and --to");
         return usage_error(arguments->command);
     }
     if (!list_read(arguments->paths[0], &list, &to_show, &arguments->input))
         return STATUS_ERROR;
-    Dump dump = { arguments, wants_colour(), &list, (size_t)arguments->from, (size_t)arguments->to };
+    Dump dump = { arguments, wants_colour(), &list, (size_t)arguments->from.value, arguments->to.is_given ? (size_t)arguments->to.value : SIZE_MAX };
     int status = STATUS_ERROR;
-    if (arguments->has_around && !find_around(&dump, arguments->around))
-        complain("%s: no command has word %" PRIu64, arguments->paths[0], arguments->around);
+    if (arguments->around.is_given && !find_around(&dump, arguments->around.value))
+        complain("%s: no command has word %" PRIu64, arguments->paths[0], arguments->around.value);
     else {
         print_list(&dump);
         hint_swapped(arguments->paths[0], &list, &arguments->input);

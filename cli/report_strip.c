@@ -34,8 +34,8 @@ static void add_bars(Text *text, const Part *part, unsigned bit)
     for (size_t first = part->first; first < part->end; first = end) {
         end = run_end(part, first, bit);
         if (is_on(part, first, bit))
-            text_add(text, "<a href=\"#w%zu\" tabindex=\"-1\"><rect class=\"h-%s\" x=\"%zu\" y=\"%u\" width=\"%zu\" height=\"%d\"><title>%s: before the "
-                           "commands at words %zu to %zu</title></rect></a>\n", rows[first].place, hazard_name(bit), first - part->first,
+            text_add(text, "<a href=\"#w%zu\" tabindex=\"-1\"><rect class=\"h-%s\" x=\"%zu\" y=\"%u\" width=\"%zu\" height=\"%d\">"
+                           "<title>%s: before the commands at words %zu to %zu</title></rect></a>\n", rows[first].place, hazard_name(bit), first - part->first,
                      bit * LINE + MARGIN, end - first, LINE - 2 * MARGIN, hazard_name(bit), rows[first].place, rows[end - 1].place);
     }
 }
