@@ -41,6 +41,13 @@ def make_makes_archive_and_tool():
 
 
 @test
+def make_names_the_libraries_that_are_missing():
+    for goal in ("cli-libraries", "cli", "all"):
+        make("-s", "-B", "-o", "build/liblanyardrove.a", "PKG_CONFIG=false", goal, status=2,
+             errors=b"The tool needs libpng and jansson: apt-get install libpng-dev libjansson-dev pkg-config\n")
+
+
+@test
 def install_and_uninstall():
     root = os.path.abspath("a root")
     make_built("install", f"DESTDIR={root}", "PREFIX=/usr")
