@@ -111,7 +111,7 @@ static json_t *uri_json(const char *path)
 static json_t *location_json(const Arguments *arguments, const char *path, size_t place, const char *text)
 {
     json_t *location = json_pack("{s:{s:{s:o}, s:{s:I, s:i}}}", "physicalLocation", "artifactLocation", "uri", uri_json(path), "region", "byteOffset",
-                                 (json_int_t)(arguments->input.offset + 8 * place), "byteLength", 8);
+                                 (json_int_t)(arguments->input.offset.value + 8 * place), "byteLength", 8);
     if (location != NULL && text != NULL)
         json_object_set_new(location, "message", json_pack("{s:s}", "text", text));
     return location;

@@ -17,6 +17,11 @@ complete -c lanyardrove -n "__fish_seen_subcommand_from check" -l format -x -a "
 complete -c lanyardrove -n "__fish_seen_subcommand_from repair" -l check -d "write nothing"
 complete -c lanyardrove -n "__fish_seen_subcommand_from repair" -s i -l in-place -d "write each list over itself"
 
+complete -c lanyardrove -n "__fish_seen_subcommand_from dump" -l brief -d "leave out fields that are 0"
+complete -c lanyardrove -n "__fish_seen_subcommand_from dump" -l from -x
+complete -c lanyardrove -n "__fish_seen_subcommand_from dump" -l to -x
+complete -c lanyardrove -n "__fish_seen_subcommand_from dump" -l around -x
+
 complete -c lanyardrove -n "__fish_seen_subcommand_from draw" -l memory -x -a "64K 1M 4M 8M"
 complete -c lanyardrove -n "__fish_seen_subcommand_from draw" -l start -x
 complete -c lanyardrove -n "__fish_seen_subcommand_from draw" -l image -x

@@ -22,9 +22,9 @@ static const Entry entries[] = {
       "text to standard error. Nothing is written where the list is refused for another\n"
       "reason than a missing sync." },
     { OF_DUMP, "dump", run_dump, 1,
-      "dump FILE\n"
-      "Shows the verdict, then the list command by command: place, words, name, the\n"
-      "hazards before it (pipe, tile, draw, load) and every field. At the refused\n"
+      "dump [OPTION].. FILE\n"
+      "Shows the verdict, then the list command by command: place, byte, words, name,\n"
+      "the hazards before it (pipe, tile, draw, load) and every field. At the refused\n"
       "command stands why, and the command that it has to wait for is marked. After it\n"
       "the hazards go on as if it had run." },
     { OF_DRAW, "draw", run_draw, 1,

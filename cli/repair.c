@@ -89,7 +89,7 @@ static const char *fault_of(const Arguments *arguments, bool to_output)
         return "repair has one of --check, --in-place and -o";
     if (arguments->count > 1 && !arguments->dry && !arguments->in_place)
         return "repair of several lists needs --in-place or --check";
-    if (arguments->in_place && (input->offset > 0 || input->has_length || input->swap || input->hex))
+    if (arguments->in_place && (input->offset.is_given || input->length.is_given || input->swap || input->hex))
         return "only whole files are repaired in place";
     for (int i = 0; arguments->in_place && i < arguments->count; i++)
         if (strcmp(arguments->paths[i], "-") == 0)

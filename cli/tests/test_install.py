@@ -41,6 +41,13 @@ def make_makes_archive_and_tool():
 
 
 @test
+def make_names_the_libraries_that_are_missing():
+    for goal in ("cli-libraries", "cli", "all"):
+        make("-s", "-B", "-o", "build/liblanyardrove.a", "PKG_CONFIG=false", goal, status=2,
+             errors=b"The tool needs libpng and jansson: apt-get install libpng-dev libjansson-dev pkg-config\n")
+
+
+@test
 def install_and_uninstall():
     root = os.path.abspath("a root")
     make_built("install", f"DESTDIR={root}", "PREFIX=/usr")
@@ -51,6 +58,20 @@ def install_and_uninstall():
     write(f"{root}/usr/lib/other", b"")
     make_built("uninstall", f"DESTDIR={root}", "PREFIX=/usr")
     same(files_below(root), ["usr/lib/other"])
+
+
+@test
+def the_dockerfile_has_only_steps_that_are_run():
+    """make dockerfile runs them; here is only seen that it knows them all, and that what is copied is made."""
+    text = read(os.path.join(TOP, "Dockerfile")).decode()
+    steps = re.findall(r"^([A-Z]+) (.*)$", text.replace("\\\n", ""), re.M)
+    same({step for step, _ in steps}, {"FROM", "RUN", "COPY"})
+    known = re.findall(r"^    ([A-Z]+)\)", read(os.path.join(TOP, "tools", "dockerfile")).decode(), re.M)
+    same(set(known), {"FROM", "RUN", "COPY"})
+    plan = make("-n", "-o", "build/liblanyardrove.a", "dockerfile")
+    assert "bash tools/dockerfile" in plan and 'install -D -m $mode "${pair#*=}" "build/installed/usr/' in plan, plan
+    for name in (rest.split()[0] for step, rest in steps if step == "COPY"):
+        assert name == "build/installed/usr" or os.path.exists(os.path.join(TOP, name)), name
 
 
 @test

@@ -58,15 +58,15 @@ def dump_and_report_show_what_comes_after_a_refusal():
     for data in (words(*given), words(*given) + b"\xAB"):  # the refused command comes before the stray byte
         status, out, err = run(*DUMP, stdin=data)
         same((status, out.startswith(MISSING), err), (1, True, ""))
-        same([int(place) for place in re.findall(r"^ *(\d+)  [0-9A-F]{16}  ", out, re.M)], list(range(8)))
-        same("     8  AB  no whole word\n" in out, len(data) % 8 == 1)
-        same(run(*REPORT, stdin=data)[1].count('<td class="place">'), 8)
+        same([int(place) for place in re.findall(r"^ *(\d+)  [0-9A-F]{6}  [0-9A-F]{16}  ", out, re.M)], list(range(8)))
+        same("     8  000040  AB  no whole word\n" in out, len(data) % 8 == 1)
+        same(run(*REPORT, stdin=data)[1].count('<td class="place" '), 8)
     same(arriving(DUMP, words(*given), bytes(32768 - 64), b"x")[1].count("hazards:"), 4096)
     status, out = arriving(DUMP, words(*given), bytes(40000))
     same((status, out.startswith(MISSING), out.count("hazards:")), (1, True, 4096))
     assert out.endswith("\n        the list goes on after 32768 bytes, which is all that is shown\n"), out[-200:]
     status, out = arriving(REPORT, words(*given), bytes(40000))
-    same((status, out.count('<td class="place">')), (1, 4096))
+    same((status, out.count('<td class="place" ')), (1, 4096))
     assert "<dd>over 32768</dd>" in out and "the commands of its first 32,768 bytes are shown" in out
     assert "<code>9 4</code>" in out and "The list cannot be repaired: <code>1 2048</code>" in out, out
 
