@@ -11,7 +11,7 @@ use Rattle.rdp_draw.specs.Fill.{colorByte, covers, painted}
 use Rattle.rdp_draw.specs.Draw.{Act, nothing, otherDraw, filling, Draw, drawsOf, drawAnswer, acted, paintedAll, drawMemory}
 use Rattle.rdp_draw.specs.Refusals.{actCovers, someCovers, LastCovers}
 use Rattle.rdp_draw.proofs.DrawLaws.{memory-kept, memory-painted}
-use Rattle.rdp_draw.proofs.OverlayLaws.{length-overlay, getD-overlay}
+use Rattle.rdp_pixels.proofs.OverlayLaws.{length-overlay, getD-overlay}
 
 module _ (start : ℕ) where
   painted-join : (xs ys : List Draw) (m : List ℕ) → paintedAll start (xs ++ ys) m ≡ paintedAll start ys (paintedAll start xs m)

@@ -1,4 +1,3 @@
-pub mod Overlay
 pub mod Fill
 pub mod Draw
 pub mod Meaning

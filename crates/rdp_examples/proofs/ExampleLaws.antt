@@ -15,8 +15,9 @@ use Rattle.rdp_check.specs.Refusals.{commandGrounds, groundsOf}
 use Rattle.rdp_check.specs.Plan.{syncAt, waitOf, withOption, applied}
 use Rattle.rdp_check.specs.Best.{clearedBy, totalWith, choiceOf, prefer, chosen, best, plan, planned, repairedBytes}
 use Rattle.rdp_check.specs.Repair.{repairOf, outAfter, workAfter}
-use Rattle.rdp_draw.specs.Overlay.{overlay}
-use Rattle.rdp_draw.specs.Fill.{colorByte, bytesPerPixel, pixelAddress, rowKept, kept, oneOf, someByte}
+use Rattle.rdp_pixels.specs.Overlay.{overlay}
+use Rattle.rdp_draw.specs.Fill.{colorByte, bytesPerPixel, pixelAddress, oneOf, someByte}
+use Rattle.rdp_pixels.specs.Kept.{rowKept, kept}
 use Rattle.rdp_draw.specs.Draw.{actOf, drawsFrom, drawRefusals, drawGrounds, drawAnswer, paintedAll, drawMemory}
 use Rattle.rdp_examples.specs.Examples.{examples, allRight}
 

@@ -1,8 +1,8 @@
--- `rdp_draw::areas::row_kept` meets its contract: each way rewrites with the flags that led there. Assumes nothing.
+-- `rdp_pixels::row_kept` meets its contract: each way rewrites with the flags that led there. Assumes nothing.
 use borrow.Author.Tests.{not-true, not-false}
-use Rattle.rdp_draw.specs.Fill.{rowKept}
-use Rattle.rdp_draw.proofs.areas.row_kept.Statement.{statement}
-use Rattle.rdp_draw.proofs.areas.row_kept.Tie as tie
+use Rattle.rdp_pixels.specs.Kept.{rowKept}
+use Rattle.rdp_pixels.proofs.row_kept.Statement.{statement}
+use Rattle.rdp_pixels.proofs.row_kept.Tie as tie
 
 returns : tie.Need-returns
 unfolding rowKept

@@ -10,8 +10,8 @@ use borrow.Author.Tests.{le-leb, lt-ltb, leb-true, ltb-true}
 use lib.Dec.{leb, ltb}
 use lib.ListN.{length, getD, set, length-set}
 use lib.Seq.{ext-getD, getD-set-same, getD-set-other}
-use Rattle.rdp_draw.proofs.BoolLaws.{and-is, same-truth}
-use Rattle.rdp_draw.specs.Overlay.{overlay, within}
+use Rattle.rdp_pixels.proofs.BoolLaws.{and-is, same-truth}
+use Rattle.rdp_pixels.specs.Overlay.{overlay, within}
 
 -- one order or the other
 pub split {ℓ} : {X : Type ℓ} (a b : ℕ) → (a ≤ b → X) → (b < a → X) → X

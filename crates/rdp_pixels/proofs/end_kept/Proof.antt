@@ -1,8 +1,8 @@
--- `rdp_draw::areas::end_kept` meets its contract. Assumes nothing.
+-- `rdp_pixels::end_kept` meets its contract. Assumes nothing.
 use native.Mathlib.Omega.{arith}
 use borrow.Author.Needs.{needs}
-use Rattle.rdp_draw.proofs.areas.end_kept.Statement.{statement}
-use Rattle.rdp_draw.proofs.areas.end_kept.Tie as tie
+use Rattle.rdp_pixels.proofs.end_kept.Statement.{statement}
+use Rattle.rdp_pixels.proofs.end_kept.Tie as tie
 
 add-past : tie.Need-add-past
 add-past c = search needs
