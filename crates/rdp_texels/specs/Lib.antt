@@ -1,0 +1,5 @@
+pub mod Texels
+pub mod Load
+pub mod Copy
+pub mod Refusals
+pub mod Rows
