@@ -1,6 +1,7 @@
 pub mod SeenLaws
 pub mod DrawLaws
 pub mod DrawnLaws
+pub mod CopyLaws
 pub mod PixelLaws
 pub mod InsideLaws
 pub mod AreaLaws

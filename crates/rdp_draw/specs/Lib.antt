@@ -4,5 +4,6 @@ pub mod Meaning
 pub mod Runs
 pub mod Seen
 pub mod Refusals
+pub mod Written
 pub mod Pattern
 pub mod Width

@@ -6,15 +6,16 @@ use Prim.Native.Nat.{ℕ, _<_}
 use native.Mathlib.Omega.{arith}
 use borrow.Author.Tests.{eq-eqb, ne-eqb}
 use lib.Dec.{eqb}
+use lib.ListN.{length}
 use Rattle.rdp_pixels.specs.Kept.{rowKept}
 use Rattle.rdp_command.specs.declared.LoadFields.{LoadFields}
 use Rattle.rdp_command.specs.declared.CopyFields.{CopyFields}
 use Rattle.rdp_texels.specs.declared.Grid.{Grid}
 use Rattle.rdp_texels.specs.declared.Span.{Span}
-use Rattle.rdp_texels.specs.Texels.{Move}
+use Rattle.rdp_texels.specs.Texels.{Move, loaded, copied}
 use Rattle.rdp_texels.specs.Load.{loadNeeds, loadMoves}
 use Rattle.rdp_texels.specs.Copy.{copyNeeds, copyMoves}
-use Rattle.rdp_texels.specs.Refusals.{loadRefusal, copyRefusal, sized}
+use Rattle.rdp_texels.specs.Refusals.{loadRefusal, copyRefusal, sized, loadTexture, copyMemory}
 use Rattle.rdp_texels.specs.Rows.{keptMoves, loadGrid, loadSpan, copyGrid, copySpan, lies, spanSome, cornersRefusal, EvenGrid, SmallGrid, SmallSpan, Ready}
 use Rattle.rdp_texels.proofs.CornerLaws.{texelRefusal, Ends, corners-refusal, grid-none, span-some}
 use Rattle.rdp_texels.proofs.LinkLaws.{load-moves, load-ends, load-even, copy-moves, copy-ends, copy-even}
@@ -115,3 +116,13 @@ left-alone {r} {n} {x} y e ne = rw (ne-eqb n 0 (λ h. ne (e ∙ h)))
 
 pub done : {r n : ℕ} (x : List ℕ) {y z : List ℕ} → r ≡ n → r ≡ 0 → y ≡ z → y ≡ cond (eqb n 0) z x
 done {r} {n} x e h same = rw (eq-eqb n 0 (sym e ∙ h)) same
+
+-- what is left where nothing is refused
+module _ (start : ℕ) (memory texture : List ℕ) (size : length texture ≡ 4096) where
+  pub load-leaves : (l : LoadFields) → loadRefusal l start (length memory) ≡ 0 → loadTexture l start memory texture ≡ loaded start memory (loadMoves l) texture
+  unfolding loadTexture
+  load-leaves l e = rw (eq-eqb (length texture) 4096 size, e)
+
+  pub copy-leaves : (c : CopyFields) → copyRefusal c start (length memory) ≡ 0 → copyMemory c start texture memory ≡ copied start texture (copyMoves c) memory
+  unfolding copyMemory
+  copy-leaves c e = rw (eq-eqb (length texture) 4096 size, e)
