@@ -4,7 +4,7 @@
     tools/drawings.py           writes crates/rdp_drawings/stdout
     tools/drawings.py --check   says whether that file is as it would write it
 
-The lists, and the memory that each is drawn into, are read from the program's calls. What is drawn follows documents 000 and 01, pixel by pixel;
+The lists, and the memory that each is drawn into, are read from the program's calls. What is drawn follows documents 000, 01 and 02 (#106), pixel by pixel;
 nothing here is taken from crates/rdp_draw or the crates below it, so that the program's output and this file are independent.
 """
 import pathlib
@@ -23,6 +23,7 @@ TRIANGLES = range(0x08, 0x10)
 TEXTURE_RECTANGLES = (0x24, 0x25)
 FILL_RECTANGLE = 0x36
 LOADS = (0x30, 0x33, 0x34)
+TEXTURE_RECTANGLE, LOAD_TILE, SET_TILE_SIZE, SET_TEXTURE_IMAGE = 0x24, 0x34, 0x32, 0x3D
 SET_TILE = 0x35
 ATTRIBUTES = (0x2A, 0x2B, 0x2C, 0x2F, 0x37, 0x38, 0x39, 0x3B, 0x3C, 0x3E, 0x3F)
 SET_SCISSOR, SET_OTHER_MODES, SET_FILL_COLOR, SET_COLOR_IMAGE = 0x2D, 0x2F, 0x37, 0x3F
@@ -132,7 +133,16 @@ def check(data):
     return 0, len(words)
 
 
-# ---- "Fill", and grounds 10 to 12: drawing.
+# ---- "Fill", document 02's "Copy mode", and grounds 10 to 12 and 16 to 18: drawing.
+
+class Refused(Exception):
+    """A ground that holds."""
+
+
+def demand(holds, ground):
+    if not holds:
+        raise Refused(ground)
+
 
 def kept(scissor, x, y):
     across = bits(scissor, 55, 44) <= 4 * x < bits(scissor, 23, 12)
@@ -141,37 +151,112 @@ def kept(scissor, x, y):
     return across and down and (not field or y % 2 == odd)
 
 
-def addresses(rectangle, scissor, image):
-    """The address of every byte of a kept pixel."""
-    size = {1: 1, 2: 2, 3: 4}[bits(image, 52, 51)]
-    width = bits(image, 41, 32) + 1
+def pixels(rectangle, scissor):
+    """The kept pixels, row by row and each row from the left."""
     for y in range(bits(rectangle, 11, 0) // 4, bits(rectangle, 43, 32) // 4 + 1):
         for x in range(bits(rectangle, 23, 12) // 4, bits(rectangle, 55, 44) // 4 + 1):
             if kept(scissor, x, y):
-                first = bits(image, 25, 0) + (y * width + x) * size
-                yield from range(first, first + size)
+                yield x, y
 
 
-def draw(data, memory, start):
+def pixel_address(image, x, y):
+    size = {1: 1, 2: 2, 3: 4}[bits(image, 52, 51)]
+    return bits(image, 25, 0) + (y * (bits(image, 41, 32) + 1) + x) * size, size
+
+
+def fill(word, seen, memory, start):
+    image = last(seen, SET_COLOR_IMAGE)
+    places = [pixel_address(image, x, y) for x, y in pixels(word, last(seen, SET_SCISSOR))]
+    addresses = [address for first, size in places for address in range(first, first + size)]
+    demand(all(start <= address < start + len(memory) for address in addresses), 12)
+    color = bits(last(seen, SET_FILL_COLOR) or 0, 31, 0).to_bytes(4, 'big')
+    for address in addresses:
+        memory[address - start] = color[address % 4]
+
+
+def is_rgba16(word):
+    """Whether an image or a descriptor is set and 16-bit RGBA."""
+    return word is not None and bits(word, 55, 53) == 0 and bits(word, 52, 51) == 2
+
+
+def of_tile(seen, numbers, tile):
+    """The last of some commands that names a tile, or None."""
+    return next((word for word in reversed(seen) if number_of(word) in numbers and bits(word, 26, 24) == tile), None)
+
+
+def texture_byte(descriptor, row, column):
+    """The byte of a texel, with bit 2 turned over in odd rows."""
+    byte = 8 * bits(descriptor, 40, 32) + 8 * bits(descriptor, 49, 41) * row + 2 * column
+    return byte ^ 4 if row % 2 else byte
+
+
+def moves(texels, memory, start):
+    """Grounds 12 and 18 over texels, each an address and a texture byte, which are then handed back with indices of memory."""
+    demand(all(start <= address and address + 2 <= start + len(memory) for address, _ in texels), 12)
+    demand(all(0 <= byte <= 4094 for _, byte in texels), 18)
+    return [(address - start, byte) for address, byte in texels]
+
+
+def load(word, seen, memory, start, texture):
+    image, tile = last(seen, SET_TEXTURE_IMAGE), of_tile(seen, (SET_TILE,), bits(word, 26, 24))
+    demand(number_of(word) == LOAD_TILE and is_rgba16(image) and is_rgba16(tile), 17)
+    left, top = bits(word, 55, 44) // 4, bits(word, 43, 32) // 4
+    right, bottom = bits(word, 23, 12) // 4, bits(word, 11, 0) // 4
+    texels = [(bits(image, 23, 0) + (y * (bits(image, 41, 32) + 1) + x) * 2, texture_byte(tile, y - top, x - left))
+              for y in range(top, bottom + 1) for x in range(left, right + 1)]
+    for index, byte in moves(texels, memory, start):
+        texture[byte:byte + 2] = memory[index:index + 2]
+
+
+def signed(number):
+    return number - 0x10000 if number >= 0x8000 else number
+
+
+def copy(word, second, seen, memory, start, texture):
+    tile = bits(word, 26, 24)
+    descriptor, size = of_tile(seen, (SET_TILE,), tile), of_tile(seen, (SET_TILE_SIZE, *LOADS), tile) or 0
+    modes, image = last(seen, SET_OTHER_MODES), last(seen, SET_COLOR_IMAGE)
+    s, t, dsdx, dtdy = (signed(bits(second, low + 15, low)) for low in (48, 32, 16, 0))
+    tile_left, tile_top = bits(size, 55, 44), bits(size, 43, 32)
+    demand(is_rgba16(descriptor) and bits(image, 52, 51) == 2, 17)
+    demand(dsdx == 0x1000 and dtdy == 0x0400 and not any((s % 32, t % 32, tile_left % 4, tile_top % 4)), 17)
+    demand(not any(bits(descriptor, high, low) for high, low in ((18, 18), (17, 14), (13, 10), (8, 8), (7, 4), (3, 0))), 17)
+    demand(not any(bits(modes, bit, bit) for bit in (51, 47, 0)), 17)
+    left, top = bits(word, 23, 12) // 4, bits(word, 11, 0) // 4
+    texels = [(pixel_address(image, x, y)[0], texture_byte(descriptor, t // 32 + y - top - tile_top // 4, s // 32 + x - left - tile_left // 4))
+              for x, y in pixels(word, last(seen, SET_SCISSOR))]
+    for index, byte in moves(texels, memory, start):
+        memory[index:index + 2] = texture[byte:byte + 2]
+
+
+def act(words, place, word, seen, memory, start, texture):
+    """Draws or loads one command, or raises its first ground."""
+    if is_load(word):
+        load(word, seen, memory, start, texture)
+    elif is_draw(word):
+        kind = number_of(word), cycle_type(seen)
+        demand(kind in ((FILL_RECTANGLE, 3), (TEXTURE_RECTANGLE, 2)), 10)
+        demand(bits(last(seen, SET_COLOR_IMAGE), 25, 0) % 64 == 0, 11)
+        if kind[0] == FILL_RECTANGLE:
+            fill(word, seen, memory, start)
+        else:
+            copy(word, words[place + 1], seen, memory, start, texture)
+
+
+def draw(data, memory, start, texture=bytes(4096)):
     """The answer's number and place, and memory after drawing."""
-    number, words = check(data)
+    number, end = check(data)
     if number:
-        return (number, words), memory
-    painted = bytearray(memory)
-    for place, word, seen in commands(words_in(data)):
-        if not is_draw(word):
-            continue
-        if number_of(word) != FILL_RECTANGLE or cycle_type(seen) != 3:
-            return (10, place), memory
-        image = last(seen, SET_COLOR_IMAGE)
-        if bits(image, 25, 0) % 64:
-            return (11, place), memory
-        color = bits(last(seen, SET_FILL_COLOR) or 0, 31, 0).to_bytes(4, 'big')
-        for address in addresses(word, last(seen, SET_SCISSOR), image):
-            if not start <= address < start + len(memory):
-                return (12, place), memory
-            painted[address - start] = color[address % 4]
-    return (0, words), bytes(painted)
+        return (number, end), memory
+    if len(texture) != 4096:
+        return (16, 0), memory
+    drawn, loaded, words = bytearray(memory), bytearray(texture), words_in(data)
+    for place, word, seen in commands(words):
+        try:
+            act(words, place, word, seen, drawn, start, loaded)
+        except Refused as refused:
+            return (refused.args[0], place), memory
+    return (0, end), bytes(drawn)
 
 
 # ---- The calls in the program's sources.
@@ -200,7 +285,7 @@ def words_from(text, table):
     return found
 
 
-CALL = re.compile(r'\b(drawn|drawn_zeros|drawn_long|picture|picture_on_zeros)\(\s*b"([^"]*)",\s*(?:&(\w+|\[[^\]]*\]))?([^;]*)\);')
+CALL = re.compile(r'\b(drawn|drawn_zeros|drawn_long|picture|picture_on_zeros|picture_with_small_texture)\(\s*b"([^"]*)",\s*(?:&(\w+|\[[^\]]*\]))?([^;]*)\);')
 
 
 def cases():
@@ -241,7 +326,8 @@ def printed(function, name, data, numbers):
     else:
         length, start = 64, 0
         byte = 0 if function == 'picture_on_zeros' else BEFORE
-    answer, memory = draw(data, bytes([byte] * length), start)
+    texture = bytes(4095 if function == 'picture_with_small_texture' else 4096)
+    answer, memory = draw(data, bytes([byte] * length), start, texture)
     line = f'\n{name}: {answer[0]} {answer[1]}'
     if function == 'drawn_long':
         return answer, f'{line}, checksum {fletcher(memory):016x}{rows(memory[:16], 16)}{rows(memory[-16:], 16)}\n'
@@ -251,7 +337,7 @@ def printed(function, name, data, numbers):
 def stdout():
     shown = [(name, *printed(function, name, data, numbers)) for function, name, data, numbers in cases()]
     assert len({name for name, _, _ in shown}) == len(shown), 'two lists have one name'
-    assert {number for _, (number, _), _ in shown} == set(range(13)), 'a number from 0 to 12 is never answered'
+    assert {number for _, (number, _), _ in shown} == {*range(13), 16, 17, 18}, 'a number of drawing is never answered'
     return 'name: number place, and memory after drawing\n' + ''.join(text for _, _, text in shown)
 
 

@@ -48,9 +48,13 @@ check-small list = record { number = among-below 256 (checkOf list .number) chec
 repair-small : (r : Repaired) → Bounds r → Small (repairReply r)
 repair-small r b = record { number = among-below 256 (r .number) repairNumbers tt (b .number); third = omega (arith, b .cycles); place = omega (arith, b .place) }
 
-draw-small : (list : List ℕ) (start len : ℕ) → Small (drawReply list start len)
-draw-small list start len =
-    record { number = among-below 256 (drawAnswer list start len .number) drawNumbers tt (draw-numbers list start len); third = omega arith; place = omega (arith, draw-place list start len) }
+draw-small : (list : List ℕ) (start len size : ℕ) → Small (drawReply list start len size)
+draw-small list start len size =
+    record {
+      number = among-below 256 (drawAnswer list start len size .number) drawNumbers tt (draw-numbers list start len size);
+      third = omega arith;
+      place = omega (arith, draw-place list start len size);
+    }
 
 -- a refusal that is known
 plain-small : (a : Answer) (n : ℕ) → n < 2 ^ 8 → a ≡ record { number = n; place = 0 } → Small (plain a)
@@ -90,7 +94,7 @@ pub small : {r : Reply} → Occurs r → Small r
 small (ofStep hazards number) = step-small hazards number
 small (ofCheck list) = check-small list
 small (ofRepair is) = repair-small _ (repair-bounds is)
-small (ofDraw list start len) = draw-small list start len
+small (ofDraw list start len size) = draw-small list start len size
 small (ofDecode list fields) = decode-small list fields
 small (ofEncode number fields suffix out) = encode-small number fields suffix out
 small (ofFeed r long near portion) = told-small (fedOf r portion) (fed-near r long near portion) (fed-told r long near portion)

@@ -66,9 +66,9 @@ repairReply r = reply (r .number) (r .cycles) (r .place)
 abbrev pub RepairReplies : List ℕ → List ℕ → List ℕ → ℕ → List ℕ → List ℕ → Type 0
 RepairReplies list work out w work′ out′ = (r : Repaired) × (w ≡ packed (repairReply r)) × RepairIs list work out r work′ out′
 
--- drawing on memory of `len` bytes that starts at address `start`
-abbrev pub drawReply : List ℕ → ℕ → ℕ → Reply
-drawReply list start len = plain (drawAnswer list start len)
+-- drawing on memory of `len` bytes that starts at address `start`, with texture memory of `size` bytes
+abbrev pub drawReply : List ℕ → ℕ → ℕ → ℕ → Reply
+drawReply list start len size = plain (drawAnswer list start len size)
 
 -- a decoded command of number n: the third number is n where its fields are written; the place is their count
 abbrev pub decodedReply : ℕ → List ℕ → Decoded → Reply
@@ -125,7 +125,7 @@ pub data Occurs : Reply → Type 0 where
   ofStep : (hazards number : ℕ) → Occurs (stepReply hazards number)
   ofCheck : (list : List ℕ) → Occurs (checkReply list)
   ofRepair : {list work out work′ out′ : List ℕ} {r : Repaired} → RepairIs list work out r work′ out′ → Occurs (repairReply r)
-  ofDraw : (list : List ℕ) (start len : ℕ) → Occurs (drawReply list start len)
+  ofDraw : (list : List ℕ) (start len size : ℕ) → Occurs (drawReply list start len size)
   ofDecode : (list fields : List ℕ) → Occurs (decodeReply list fields)
   ofEncode : (number : ℕ) (fields suffix out : List ℕ) → Occurs (encodeReply number fields suffix out)
   ofFeed : (r : Stream) → length (r .held) ≡ 176 → r .place < 2 ^ 32 → (portion : List ℕ) → Occurs (feedReply r portion)

@@ -5,7 +5,7 @@ ghost use Prim.Native.Nat.{_+_, _<_, _^_, min};
 ghost use lib.Dec.{eqb};
 ghost use lib.ListN.{length};
 ghost use Rattle.rdp_words.specs.Lengths.{commandWords};
-ghost use Rattle.rdp_draw.specs.Draw.{drawMemory};
+ghost use Rattle.rdp_draw.specs.Draw.{drawn, memories};
 ghost use Rattle.lanyardrove.specs.Replies.{reply, mostThird, packed, stepReply, checkReply, RepairReplies, drawReply, decodeReply, decodeFields, encodeReply, encodeBytes, fedPacked, closedPacked};
 use rdp_command::Decoded;
 use rdp_stream::Stream;
@@ -51,9 +51,9 @@ fn third_of_record(number: u32, waited: u32) -> u32
 // The version of this library: major, minor and patch number, eight bits each. The header has the same number.
 #[no_mangle]
 pub extern "C" fn lanyardrove_version() -> u32
-    ensures { λ r. ⌜ r ≡ 0x040000 ⌝ }
+    ensures { λ r. ⌜ r ≡ 0x050000 ⌝ }
 {
-    0x040000
+    0x050000
 }
 
 // The words of the command that begins with a word: a plain count.
@@ -93,14 +93,21 @@ pub extern "C" fn lanyardrove_repair(list: &[u8], work: &mut [u8], out: &mut [u8
     pack(repaired.number, repaired.cycles, repaired.place)
 }
 
-// Drawing the fill rectangles of a list into memory that starts at an address: the first of refusals 1 to 12, or 0 and the words of the list.
+// Drawing a list into memory that starts at an address, with texture memory: the first of refusals 1 to 9, 16, and 10, 11, 17, 12 and 18, or 0 and the words of
+// the list.
 #[no_mangle]
-pub extern "C" fn lanyardrove_draw(list: &[u8], memory: &mut [u8], start: u64) -> u64
-    ensures reply { λ r. ⌜ r ≡ packed (drawReply (now (list .entry)) start (length (now (memory .entry)))) ⌝ }
-    ensures memory { λ _. ⌜ now (memory .exit) ≡ drawMemory (now (list .entry)) start (now (memory .entry)) ⌝ }
+pub extern "C" fn lanyardrove_draw(
+    list: &[u8],
+    memory: &mut [u8],
+    start: u64,
+    texture: &mut [u8],
+) -> u64
+    ensures reply { λ r. ⌜ r ≡ packed (drawReply (now (list .entry)) start (length (now (memory .entry))) (length (now (texture .entry)))) ⌝ }
+    ensures memory { λ _. ⌜ now (memory .exit) ≡ drawn (now (list .entry)) start (memories (now (memory .entry)) (now (texture .entry))) .memory ⌝ }
+    ensures texture { λ _. ⌜ now (texture .exit) ≡ drawn (now (list .entry)) start (memories (now (memory .entry)) (now (texture .entry))) .texture ⌝ }
 {
-    let drawn = rdp_draw::draw(list, memory, start);
-    pack(drawn.number, 0, drawn.place)
+    let answer = rdp_draw::draw(list, memory, start, texture);
+    pack(answer.number, 0, answer.place)
 }
 
 // The first command of a list: 0, its command number as the third number and the count of its fields, which are written in the order of the wiki's bit

@@ -2,7 +2,7 @@
 ghost use mathlib.Core.Path.{_≡_};
 ghost use Rattle.rdp_words.specs.Words.{wordAt};
 ghost use Rattle.rdp_command.specs.Decode.{decodeOf};
-ghost use Rattle.rdp_command.specs.Reads.{headOf, fillFields, registerFields, tileFields};
+ghost use Rattle.rdp_command.specs.Reads.{headOf, fillFields, loadFields, copyFields, registerFields, tileFields};
 ghost use Rattle.rdp_command.specs.Encode.{encodeAnswer, encodeOut};
 ghost use Rattle.rdp_command.specs.Numbers.{fieldsAnswer, fieldsOut, fromNumbers};
 
@@ -283,6 +283,49 @@ pub struct FillFields {
     pub color: u32,
 }
 
+// The first words of the commands that set what a Load Tile is done under: Set Texture Image, and the Set Tile of its tile. 0 stands where none has come.
+#[repr(C)]
+pub struct LoadWords {
+    pub image: u64,
+    pub tile: u64,
+}
+
+// A Load Tile with what it is done under; a register is set where its word is not 0.
+#[repr(C)]
+pub struct LoadFields {
+    pub image_set: bool,
+    pub image: Image,
+    pub tile_set: bool,
+    pub tile: TileDescriptor,
+    pub area: TileArea,
+}
+
+// The first words of the commands that set what a texture rectangle is drawn under: Set Other Modes, Set Scissor, Set Color Image, the Set Tile of its
+// tile, and the command that set that tile's size. 0 stands where none has come.
+#[repr(C)]
+pub struct CopyWords {
+    pub modes: u64,
+    pub scissor: u64,
+    pub image: u64,
+    pub tile: u64,
+    pub size: u64,
+}
+
+// A texture rectangle with what it is drawn under in COPY mode: of its tile, whether the descriptor is set, and the upper left corner.
+#[repr(C)]
+pub struct CopyFields {
+    pub cycle_type: u8,
+    pub rectangle: TexturedRectangle,
+    pub tile_set: bool,
+    pub tile: TileDescriptor,
+    pub tile_corner: TexelCorner,
+    pub scissor: Scissor,
+    pub image: Image,
+    pub perspective: bool,
+    pub lookup: bool,
+    pub alpha_compare: bool,
+}
+
 // The first words of the commands that set the registers but the tiles, in the order of their numbers. 0 stands where none has come.
 #[repr(C)]
 pub struct RegisterWords {
@@ -423,6 +466,39 @@ pub fn fill_fields(set: FillWords, rectangle: u64) -> FillFields
         scissor: read::scissor(set.scissor),
         image: read::color_image(set.image),
         color: read::fill_color(set.color),
+    }
+}
+
+// A Load Tile by its word, with the fields of the words that set what it is done under.
+pub fn load_fields(set: LoadWords, load: u64) -> LoadFields
+    ensures { λ r. ⌜ r ≡ loadFields set load ⌝ }
+{
+    LoadFields {
+        image_set: set.image != 0,
+        image: read::image(set.image),
+        tile_set: set.tile != 0,
+        tile: read::tile_descriptor(set.tile),
+        area: read::tile_area(load),
+    }
+}
+
+// A texture rectangle by its two words, with the fields of the words that set what it is drawn under.
+pub fn copy_fields(set: CopyWords, first: u64, second: u64) -> CopyFields
+    ensures { λ r. ⌜ r ≡ copyFields set first second ⌝ }
+{
+    let size = read::tile_area(set.size);
+    let tile_corner = size.upper_left;
+    CopyFields {
+        cycle_type: read::cycle_type(set.modes),
+        rectangle: read::textured_rectangle(first, second),
+        tile_set: set.tile != 0,
+        tile: read::tile_descriptor(set.tile),
+        tile_corner,
+        scissor: read::scissor(set.scissor),
+        image: read::color_image(set.image),
+        perspective: (set.modes >> 51) % 0x2 == 1,
+        lookup: (set.modes >> 47) % 0x2 == 1,
+        alpha_compare: set.modes % 0x2 == 1,
     }
 }
 

@@ -4,25 +4,25 @@
 --     painted-empty                 nothing is painted where the area has no byte
 -- Assumes nothing.
 use mathlib.Core.Path.{_≡_, sym, ap, _∙_}
-use mathlib.Core.Bool.{Bool, true, false, cond, not, Bool·not-not, false≢true}
+use mathlib.Core.Bool.{true, false, cond, not, Bool·not-not, false≢true}
 use mathlib.Core.List.{List}
 use Prim.Native.Nat.{ℕ, suc, _+_, _-_, _*_, _/_, _%_, _≤_, _<_}
 use native.Mathlib.Nat.{add-mul, mul-assoc, mul-zero, mul-le-mul-right, suc-mul, not-suc-le-zero, div-lt-iff-lt-mul, div-mul-le-self, lt-div-mul-add}
 use native.Mathlib.Omega.{arith}
-use borrow.Author.Tests.{eqb-false}
 use lib.ListN.{length}
 use Rattle.rdp_command.specs.declared.Image.{Image}
-use Rattle.rdp_command.specs.declared.Scissor.{Scissor}
 use Rattle.rdp_words.proofs.Tests.{by-test}
 use Rattle.rdp_draw.specs.declared.Area.{Area}
 use Rattle.rdp_command.specs.declared.FillFields.{FillFields}
-use Rattle.rdp_draw.specs.Fill.{bytesPerPixel, colorByte, covers, outside, painted, pixelAddress, rowKept}
+use Rattle.rdp_draw.specs.Fill.{bytesPerPixel, colorByte, covers, outside, painted, pixelAddress}
+use Rattle.rdp_pixels.specs.Kept.{rowKept, keptFrom}
 use Rattle.rdp_draw.specs.Meaning.{Covers, Kept}
-use Rattle.rdp_draw.specs.Overlay.{overlay, within}
+use Rattle.rdp_pixels.specs.Overlay.{overlay, within}
 use Rattle.rdp_draw.specs.Runs.{areaEmpty, areaInside, areaOf, endColumn, endRow, firstColumn, firstKeptRow, firstRow, inRuns, keptRows, rowStep, runBytes, strideOf}
-use Rattle.rdp_draw.proofs.BoolLaws.{cond-true, cond-false, same-truth, other-truth}
-use Rattle.rdp_draw.proofs.OverlayLaws.{split, within-true, within-is, overlay-none, overlay-cong, overlay-from}
-use Rattle.rdp_draw.proofs.PixelLaws.{row-kept-is, row-kept-true, covers-sound, covers-complete, outside-sound, outside-complete}
+use Rattle.rdp_pixels.proofs.BoolLaws.{cond-true, cond-false, same-truth, other-truth}
+use Rattle.rdp_pixels.proofs.OverlayLaws.{split, within-true, within-is, overlay-none, overlay-cong, overlay-from}
+use Rattle.rdp_pixels.proofs.KeptLaws.{row-kept-is, row-kept-true, from-near, from-kept}
+use Rattle.rdp_draw.proofs.PixelLaws.{covers-sound, covers-complete, outside-sound, outside-complete}
 use Rattle.rdp_draw.proofs.InsideLaws.{in-runs-is, in-runs-true, runs-from, empty-runs, inside-is, inside-sound, inside-complete}
 
 -- ---- addresses
@@ -57,17 +57,6 @@ run-pixel b n d h =
 
 -- ---- rows
 
--- of two rows in a row, one is kept
-row-kept-next : (s : Scissor) (y : ℕ) → rowKept s y ≡ false → rowKept s (y + 1) ≡ true
-unfolding rowKept
-row-kept-next s y e =
-    row-kept-true s (y + 1)
-    (λ h. next (s .odd) (eqb-false (y % 2) (cond (s .odd) 1 0) (rw h at e)))
-  where
-    next : (o : Bool) → (y % 2 ≡ cond o 1 0 → ⊥) → (y + 1) % 2 ≡ cond o 1 0
-    next true ne = omega (arith, ne)
-    next false ne = omega (arith, ne)
-
 -- every second row, from one on: row y by its number, and row number k
 module _ (o first from end : ℕ) (after : first ≤ from) (near : from ≤ first + 1) (parity : from % 2 ≡ o) where
   second-from : (y : ℕ) → first ≤ y → y % 2 ≡ o → from ≤ y
@@ -97,11 +86,9 @@ module _ (f : FillFields) where
     rows-half = cond-true (f .scissor .«field») ((endRow f - firstKeptRow f + 1) / 2) (endRow f - firstKeptRow f) e
 
     first-kept : (firstRow f ≤ firstKeptRow f) × (firstKeptRow f ≤ firstRow f + 1) × (firstKeptRow f % 2 ≡ cond (f .scissor .odd) 1 0)
-    unfolding firstKeptRow
     first-kept =
-        by-test (rowKept (f .scissor) (firstRow f))
-        (λ h. rw h (omega arith, omega arith, row-kept-is (f .scissor) (firstRow f) h e))
-        (λ h. rw h (omega arith, omega arith, row-kept-is (f .scissor) (firstRow f + 1) (row-kept-next (f .scissor) (firstRow f) h) e))
+        let near = from-near (f .scissor) (firstRow f) in
+        (near .0, near .1, row-kept-is (f .scissor) (firstKeptRow f) (from-kept (f .scissor) (firstRow f)) e)
 
   -- without
   module _ (e : f .scissor .«field» ≡ false) where
@@ -117,7 +104,7 @@ module _ (f : FillFields) where
     rows-all = cond-false (f .scissor .«field») ((endRow f - firstKeptRow f + 1) / 2) (endRow f - firstKeptRow f) e
 
     first-all : firstKeptRow f ≡ firstRow f
-    unfolding firstKeptRow
+    unfolding keptFrom
     first-all = cond-true (rowKept (f .scissor) (firstRow f)) (firstRow f) (firstRow f + 1) (every-row (firstRow f))
 
   -- the number of a kept row, and the row of a number

@@ -6,7 +6,7 @@ use native.Mathlib.Omega.{arith}
 use lib.Pow.{field, high, low, mod-mod-pow, shr-lt, shr-shr}
 use Rattle.rdp_draw.specs.Fill.{colorByte}
 use Rattle.rdp_draw.specs.Pattern.{rotated}
-use Rattle.rdp_draw.proofs.OverlayLaws.{split}
+use Rattle.rdp_pixels.proofs.OverlayLaws.{split}
 
 pub color-same : (color a b : ℕ) → a % 4 ≡ b % 4 → colorByte color a ≡ colorByte color b
 unfolding colorByte

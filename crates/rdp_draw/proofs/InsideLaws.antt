@@ -9,10 +9,10 @@ use borrow.Author.Tests.{eqb-false, le-leb, leb-true, ne-eqb}
 use lib.Dec.{eqb, leb}
 use Rattle.rdp_words.proofs.Tests.{by-test, neither}
 use Rattle.rdp_draw.specs.declared.Area.{Area}
-use Rattle.rdp_draw.specs.Overlay.{within}
+use Rattle.rdp_pixels.specs.Overlay.{within}
 use Rattle.rdp_draw.specs.Runs.{areaEmpty, areaInside, inRuns}
-use Rattle.rdp_draw.proofs.BoolLaws.{or-is, or-left, or-right, and-is, and-true-of, same-truth}
-use Rattle.rdp_draw.proofs.OverlayLaws.{within-true, within-is}
+use Rattle.rdp_pixels.proofs.BoolLaws.{or-is, or-left, or-right, and-is, and-true-of, same-truth}
+use Rattle.rdp_pixels.proofs.OverlayLaws.{within-true, within-is}
 
 -- ---- some runs
 

@@ -1,8 +1,7 @@
 pub mod SeenLaws
 pub mod DrawLaws
 pub mod DrawnLaws
-pub mod BoolLaws
-pub mod OverlayLaws
+pub mod CopyLaws
 pub mod PixelLaws
 pub mod InsideLaws
 pub mod AreaLaws

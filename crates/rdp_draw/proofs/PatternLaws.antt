@@ -7,10 +7,10 @@ use native.Mathlib.Omega.{arith}
 use lib.ListN.{length, getD, set}
 use lib.Seq.{getD-set-same, getD-set-other}
 use Rattle.rdp_draw.specs.Fill.{colorByte}
-use Rattle.rdp_draw.specs.Overlay.{overlay, within}
+use Rattle.rdp_pixels.specs.Overlay.{overlay, within}
 use Rattle.rdp_draw.specs.Pattern.{Repeats, Written}
 use Rattle.rdp_draw.proofs.ColorLaws.{color-same}
-use Rattle.rdp_draw.proofs.OverlayLaws.{split, within-true, within-false, getD-overlay-0, overlay-none, overlay-adjacent, overlay-more}
+use Rattle.rdp_pixels.proofs.OverlayLaws.{split, within-true, within-false, getD-overlay-0, overlay-none, overlay-adjacent, overlay-more}
 
 -- ---- patterns
 

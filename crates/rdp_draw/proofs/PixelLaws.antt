@@ -4,19 +4,20 @@
 -- Assumes nothing.
 use mathlib.Core.Path.{_≡_, refl, sym, _∙_}
 use mathlib.Core.Logic.{⊎-elim}
-use mathlib.Core.Bool.{Bool, true, cond, not, _&&_, false≢true}
-use Prim.Native.Nat.{ℕ, zero, suc, _+_, _-_, _*_, _/_, _%_, _≤_, _<_}
+use mathlib.Core.Bool.{Bool, true, not, _&&_, false≢true}
+use Prim.Native.Nat.{ℕ, zero, suc, _+_, _-_, _/_, _≤_, _<_}
 use native.Mathlib.Omega.{arith}
 use borrow.Author.Tests.{eqb-true, eq-eqb, not-true}
 use lib.Dec.{eqb}
-use Rattle.rdp_command.specs.declared.Scissor.{Scissor}
 use Rattle.rdp_words.proofs.Tests.{by-test}
 use Rattle.rdp_command.specs.declared.FillFields.{FillFields}
-use Rattle.rdp_draw.specs.Fill.{bytesPerPixel, covers, kept, oneOf, outside, pixelAddress, rowKept, someByte}
+use Rattle.rdp_draw.specs.Fill.{bytesPerPixel, covers, oneOf, outside, pixelAddress, someByte}
+use Rattle.rdp_pixels.specs.Kept.{kept}
 use Rattle.rdp_draw.specs.Meaning.{Covers, Kept}
-use Rattle.rdp_draw.specs.Overlay.{within}
-use Rattle.rdp_draw.proofs.BoolLaws.{or-is, or-left, or-right, and-is, and-true-of}
-use Rattle.rdp_draw.proofs.OverlayLaws.{split, within-true, within-is}
+use Rattle.rdp_pixels.specs.Overlay.{within}
+use Rattle.rdp_pixels.proofs.BoolLaws.{or-is, or-left, or-right, and-is, and-true-of}
+use Rattle.rdp_pixels.proofs.OverlayLaws.{split, within-true, within-is}
+use Rattle.rdp_pixels.proofs.KeptLaws.{row-kept-is, row-kept-true, kept-is, kept-true}
 
 -- ---- one of some numbers
 
@@ -36,16 +37,6 @@ one-true k (suc n) test i l h e =
     (λ same. let here : i ≡ k = omega arith in or-left (test k) (oneOf (suc k) n test) (rw here at e))
     (λ more. or-right (test k) (oneOf (suc k) n test) (one-true (suc k) n test i (omega arith) (omega arith) e))
 
--- ---- a kept row
-
-pub row-kept-is : (s : Scissor) (y : ℕ) → rowKept s y ≡ true → s .«field» ≡ true → y % 2 ≡ cond (s .odd) 1 0
-unfolding rowKept
-row-kept-is s y e h = eqb-true (y % 2) (cond (s .odd) 1 0) (rw h at e)
-
-pub row-kept-true : (s : Scissor) (y : ℕ) → (s .«field» ≡ true → y % 2 ≡ cond (s .odd) 1 0) → rowKept s y ≡ true
-unfolding rowKept
-row-kept-true s y h = by-test (s .«field») (λ e. rw e (eq-eqb (y % 2) (cond (s .odd) 1 0) (h e))) (λ e. rw e)
-
 module _ (f : FillFields) (test : ℕ → Bool) where
   -- a byte of pixel (x, y), and of a pixel of row y, passes the test
   abbrev pixelTest : ℕ → ℕ → Bool
@@ -61,44 +52,19 @@ module _ (f : FillFields) (test : ℕ → Bool) where
       → (f .rectangle .«upper_left» .y / 4 ≤ y) × (y ≤ f .rectangle .«lower_right» .y / 4)
       → kept (f .scissor) x y ≡ true
       → pixelAddress (f .image) x y ≤ a → a < pixelAddress (f .image) x y + bytesPerPixel (f .image .size) → Covers f a
-  unfolding kept
   covers-of x y a columns rows e start end =
-      let s = f .scissor in
-      let parts =
-      and-is
-      (within (s .«upper_left» .x) (s .«lower_right» .x) (4 * x) && within (s .«upper_left» .y) (s .«lower_right» .y) (4 * y))
-      (rowKept s y) e in
-      let inside =
-      and-is (within (s .«upper_left» .x) (s .«lower_right» .x) (4 * x)) (within (s .«upper_left» .y) (s .«lower_right» .y) (4 * y))
-      (parts .0) in
+      let k = kept-is (f .scissor) x y e in
       record {
         x = x;
         y = y;
-        kept =
-            record {
-              columns = columns;
-              rows = rows;
-              across = within-is (s .«upper_left» .x) (s .«lower_right» .x) (4 * x) (inside .0);
-              down = within-is (s .«upper_left» .y) (s .«lower_right» .y) (4 * y) (inside .1);
-              parity = row-kept-is s y (parts .1);
-            };
+        kept = record { columns = columns; rows = rows; across = k .across; down = k .down; parity = row-kept-is (f .scissor) y (k .row) };
         start = start;
         end = end;
       }
 
   kept-of : (x y : ℕ) → Kept f x y → kept (f .scissor) x y ≡ true
-  unfolding kept
   kept-of x y k =
-      let s = f .scissor in
-      and-true-of
-      (within (s .«upper_left» .x) (s .«lower_right» .x) (4 * x) && within (s .«upper_left» .y) (s .«lower_right» .y) (4 * y))
-      (rowKept s y)
-      (and-true-of
-      (within (s .«upper_left» .x) (s .«lower_right» .x) (4 * x))
-      (within (s .«upper_left» .y) (s .«lower_right» .y) (4 * y))
-      (within-true (s .«upper_left» .x) (s .«lower_right» .x) (4 * x) (k .across .0) (k .across .1))
-      (within-true (s .«upper_left» .y) (s .«lower_right» .y) (4 * y) (k .down .0) (k .down .1)))
-      (row-kept-true s y (k .parity))
+      kept-true (f .scissor) x y (record { across = k .across; down = k .down; row = row-kept-true (f .scissor) y (k .parity) })
 
   -- a covered address passes the test
   some-is : someByte f test ≡ true → (a : ℕ) × Covers f a × (test a ≡ true)

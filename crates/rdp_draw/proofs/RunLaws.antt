@@ -7,11 +7,11 @@ use native.Mathlib.Nat.{suc-mul, zero-mul}
 use native.Mathlib.Omega.{arith}
 use lib.ListN.{length}
 use Rattle.rdp_draw.specs.Fill.{colorByte}
-use Rattle.rdp_draw.specs.Overlay.{overlay, within}
+use Rattle.rdp_pixels.specs.Overlay.{overlay, within}
 use Rattle.rdp_draw.specs.Pattern.{rotated, Repeats, Written}
 use Rattle.rdp_draw.specs.Runs.{inRuns}
 use Rattle.rdp_draw.proofs.ColorLaws.{rotated-byte}
-use Rattle.rdp_draw.proofs.OverlayLaws.{within-false, within-joined, length-overlay, overlay-none, overlay-cong, overlay-values, overlay-overlay}
+use Rattle.rdp_pixels.proofs.OverlayLaws.{within-false, within-joined, length-overlay, overlay-none, overlay-cong, overlay-values, overlay-overlay}
 
 module _ (from size stride : ℕ) (v : ℕ → ℕ) (m : List ℕ) where
   pub runs-none : m ≡ overlay (inRuns from size stride 0) v 0 m

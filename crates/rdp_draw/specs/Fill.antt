@@ -1,12 +1,12 @@
 -- Document 01, "Fill": the bytes that a fill rectangle covers, pixel by pixel, and what it writes there.
 use Prim.Native.Nat.{ℕ, zero, suc, _+_, _-_, _*_, _/_, _%_, _^_}
-use mathlib.Core.Bool.{Bool, true, false, cond, not, _&&_, _||_}
+use mathlib.Core.Bool.{Bool, false, cond, not, _&&_, _||_}
 use mathlib.Core.List.{List}
 use lib.Dec.{eqb}
 use Rattle.rdp_command.specs.declared.Image.{Image}
-use Rattle.rdp_command.specs.declared.Scissor.{Scissor}
 use Rattle.rdp_command.specs.declared.FillFields.{FillFields}
-use Rattle.rdp_draw.specs.Overlay.{overlay, within}
+use Rattle.rdp_pixels.specs.Overlay.{overlay, within}
+use Rattle.rdp_pixels.specs.Kept.{kept}
 
 -- "the byte at address a is byte a mod 4 of the fill colour, most significant first"
 unfoldable pub colorByte : ℕ → ℕ → ℕ
@@ -19,15 +19,6 @@ bytesPerPixel size = cond (eqb size 1) 1 (cond (eqb size 2) 2 (cond (eqb size 3)
 -- "colour address + (y·width + x)·bytes per pixel"; the field holds the width minus one
 unfoldable pub pixelAddress : Image → ℕ → ℕ → ℕ
 pixelAddress i x y = i .address + (y * (i .width + 1) + x) * bytesPerPixel (i .size)
-
--- "with field set, when y mod 2 equals odd"
-unfoldable pub rowKept : Scissor → ℕ → Bool
-rowKept s y = cond (s .«field») (eqb (y % 2) (cond (s .odd) 1 0)) true
-
--- "a pixel (x, y) is kept when 4x and 4y are at least the scissor's upper left and below its lower right"
-unfoldable pub kept : Scissor → ℕ → ℕ → Bool
-kept s x y =
-    (within (s .«upper_left» .x) (s .«lower_right» .x) (4 * x) && within (s .«upper_left» .y) (s .«lower_right» .y) (4 * y)) && rowKept s y
 
 -- one of the n numbers from k on passes the test
 unfoldable pub oneOf : ℕ → ℕ → (ℕ → Bool) → Bool

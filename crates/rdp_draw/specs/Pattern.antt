@@ -5,7 +5,7 @@ use mathlib.Core.List.{List}
 use Prim.Native.Nat.{ℕ, _+_, _-_, _*_, _/_, _%_, _^_, _≤_, _<_}
 use lib.ListN.{length, getD}
 use Rattle.rdp_draw.specs.Fill.{colorByte}
-use Rattle.rdp_draw.specs.Overlay.{overlay, within}
+use Rattle.rdp_pixels.specs.Overlay.{overlay, within}
 
 -- the 32-bit colour with its first p bytes moved to its end
 unfoldable pub rotated : ℕ → ℕ → ℕ

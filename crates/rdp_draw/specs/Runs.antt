@@ -1,24 +1,19 @@
 -- The kept pixels of a fill as runs of bytes, a run for each kept row. No public contract cites this.
-use Prim.Native.Nat.{ℕ, zero, suc, _+_, _-_, _*_, _/_, _≤_, min, max}
+use Prim.Native.Nat.{ℕ, zero, suc, _+_, _-_, _*_, _/_, _≤_}
 use mathlib.Core.Bool.{Bool, false, cond, _&&_, _||_}
 use lib.Dec.{leb, eqb}
 use Rattle.rdp_draw.specs.declared.Area.{Area}
 use Rattle.rdp_command.specs.declared.FillFields.{FillFields}
-use Rattle.rdp_draw.specs.Fill.{bytesPerPixel, pixelAddress, rowKept}
-use Rattle.rdp_draw.specs.Overlay.{within}
+use Rattle.rdp_draw.specs.Fill.{bytesPerPixel, pixelAddress}
+use Rattle.rdp_pixels.specs.Kept.{firstKept, endKept, keptFrom}
+use Rattle.rdp_pixels.specs.Overlay.{within}
 
 -- i is in one of some runs of `size` numbers, the first of which begins at `from` and each next one `stride` on
 unfoldable pub inRuns : ℕ → ℕ → ℕ → ℕ → ℕ → Bool
 inRuns from size stride zero i = false
 inRuns from size stride (suc rows) i = within from (from + size) i || inRuns (from + stride) size stride rows i
 
--- The columns, or the rows, of a rectangle inside a scissor, in quarter pixels: from the first up to, not including, the end.
-abbrev pub firstKept : ℕ → ℕ → ℕ
-firstKept near clip = max (near / 4) ((clip + 3) / 4)
-
-abbrev pub endKept : ℕ → ℕ → ℕ
-endKept far clip = min (far / 4 + 1) ((clip + 3) / 4)
-
+-- the kept columns and rows of a fill
 abbrev pub firstColumn : FillFields → ℕ
 firstColumn f = firstKept (f .rectangle .«upper_left» .x) (f .scissor .«upper_left» .x)
 
@@ -32,8 +27,8 @@ abbrev pub endRow : FillFields → ℕ
 endRow f = endKept (f .rectangle .«lower_right» .y) (f .scissor .«lower_right» .y)
 
 -- with field set every second row is kept, from the first that is
-unfoldable pub firstKeptRow : FillFields → ℕ
-firstKeptRow f = cond (rowKept (f .scissor) (firstRow f)) (firstRow f) (firstRow f + 1)
+abbrev pub firstKeptRow : FillFields → ℕ
+firstKeptRow f = keptFrom (f .scissor) (firstRow f)
 
 unfoldable pub keptRows : FillFields → ℕ
 keptRows f = cond (f .scissor .«field») ((endRow f - firstKeptRow f + 1) / 2) (endRow f - firstKeptRow f)

@@ -2,11 +2,10 @@
 use crate::Area;
 use rdp_command::FillFields;
 use rdp_command::Image;
-use rdp_command::Scissor;
 ghost use mathlib.Core.Path.{_≡_};
 ghost use Prim.Native.Nat.{_+_, _*_, _-_, _≤_};
-ghost use Rattle.rdp_draw.specs.Fill.{bytesPerPixel, pixelAddress, rowKept};
-ghost use Rattle.rdp_draw.specs.Runs.{Small, areaEmpty, areaInside, areaOf, endKept, firstKept, firstKeptRow, keptRows, runBytes, strideOf};
+ghost use Rattle.rdp_draw.specs.Fill.{bytesPerPixel, pixelAddress};
+ghost use Rattle.rdp_draw.specs.Runs.{Small, areaEmpty, areaInside, areaOf, keptRows, runBytes, strideOf};
 
 // The bytes of some pixels. The bounds below are those of fields of 16 bits; they keep every sum and product far from wrapping.
 fn bytes_of(pixels: u64, size: u8) -> u64
@@ -21,24 +20,6 @@ fn bytes_of(pixels: u64, size: u8) -> u64
     }
 }
 
-// The first kept column, or row. Pixel p is kept where 4p is at least the scissor's edge, so the edge is rounded up.
-fn first_kept(near: u16, clip: u16) -> u64
-    ensures { λ r. ⌜ (r ≡ firstKept near clip) × (r ≤ 16384) ⌝ }
-{
-    let first = near as u64 / 4;
-    let edge = (clip as u64 + 3) / 4;
-    if first < edge { edge } else { first }
-}
-
-// The column, or row, past the last kept one: the rectangle's last is included, and 4p is below the scissor's edge.
-fn end_kept(far: u16, clip: u16) -> u64
-    ensures { λ r. ⌜ (r ≡ endKept far clip) × (r ≤ 16384) ⌝ }
-{
-    let past = far as u64 / 4 + 1;
-    let end = (clip as u64 + 3) / 4;
-    if past < end { past } else { end }
-}
-
 // How many there are from the first up to the end.
 fn count(first: u64, end: u64) -> u64
     ensures { λ r. ⌜ r ≡ end - first ⌝ }
@@ -46,31 +27,13 @@ fn count(first: u64, end: u64) -> u64
     if first < end { end - first } else { 0 }
 }
 
-// Whether the scissor's field setting keeps row y.
-fn row_kept(scissor: Scissor, y: u64) -> bool
-    ensures { λ r. ⌜ r ≡ rowKept scissor y ⌝ }
-{
-    if !scissor.field {
-        return true;
-    }
-    if scissor.odd { y % 2 == 1 } else { y % 2 == 0 }
-}
-
-// The first row that the rectangle has and the scissor keeps, if there is one.
-fn first_kept_row(fill: FillFields) -> u64
-    ensures { λ r. ⌜ (r ≡ firstKeptRow fill) × (r ≤ 16385) ⌝ }
-{
-    let y = first_kept(fill.rectangle.upper_left.y, fill.scissor.upper_left.y);
-    let scissor = fill.scissor;
-    if row_kept(scissor, y) { y } else { y + 1 }
-}
-
 // The number of kept rows: with field set, every second one.
 fn kept_rows(fill: FillFields) -> u64
     ensures { λ r. ⌜ (r ≡ keptRows fill) × (r ≤ 16384) ⌝ }
 {
-    let first = first_kept_row(fill);
-    let end = end_kept(fill.rectangle.lower_right.y, fill.scissor.lower_right.y);
+    let scissor = fill.scissor;
+    let first = rdp_pixels::first_kept_row(fill.rectangle.upper_left.y, scissor);
+    let end = rdp_pixels::end_kept(fill.rectangle.lower_right.y, fill.scissor.lower_right.y);
     let rows = count(first, end);
     if fill.scissor.field {
         (rows + 1) / 2
@@ -91,8 +54,8 @@ fn stride_of(fill: FillFields) -> u64
 fn run_bytes(fill: FillFields) -> u64
     ensures { λ r. ⌜ (r ≡ runBytes fill) × (r ≤ 65536) ⌝ }
 {
-    let first = first_kept(fill.rectangle.upper_left.x, fill.scissor.upper_left.x);
-    let end = end_kept(fill.rectangle.lower_right.x, fill.scissor.lower_right.x);
+    let first = rdp_pixels::first_kept(fill.rectangle.upper_left.x, fill.scissor.upper_left.x);
+    let end = rdp_pixels::end_kept(fill.rectangle.lower_right.x, fill.scissor.lower_right.x);
     bytes_of(count(first, end), fill.image.size)
 }
 
@@ -110,8 +73,9 @@ pub fn area_of(fill: FillFields) -> Area
     ensures { λ r. ⌜ (r ≡ areaOf fill) × Small r ⌝ }
 {
     let image = fill.image;
-    let x = first_kept(fill.rectangle.upper_left.x, fill.scissor.upper_left.x);
-    let y = first_kept_row(fill);
+    let x = rdp_pixels::first_kept(fill.rectangle.upper_left.x, fill.scissor.upper_left.x);
+    let scissor = fill.scissor;
+    let y = rdp_pixels::first_kept_row(fill.rectangle.upper_left.y, scissor);
     Area {
         first: pixel_address(image, x, y),
         size: run_bytes(fill),

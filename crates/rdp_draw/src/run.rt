@@ -3,7 +3,7 @@ ghost use mathlib.Core.Path.{_≡_};
 ghost use Prim.Native.Nat.{_+_, _-_, _*_, _%_, _<_, _≤_};
 ghost use lib.ListN.{length};
 ghost use Rattle.rdp_draw.specs.Fill.{colorByte};
-ghost use Rattle.rdp_draw.specs.Overlay.{overlay, within};
+ghost use Rattle.rdp_pixels.specs.Overlay.{overlay, within};
 ghost use Rattle.rdp_draw.specs.Pattern.{rotated, Repeats, Written, ChunksAre};
 ghost use Rattle.rdp_draw.specs.Runs.{inRuns};
 

@@ -1,22 +1,28 @@
-// The walk over the draws of a list, with the words that last set the registers.
+// The walk over the acts of a list, with the words that last set the registers.
 ghost use mathlib.Core.Path.{_≡_};
-ghost use Rattle.rdp_words.specs.Words.{wordAt};
-ghost use Rattle.rdp_command.specs.Reads.{fillFields};
-ghost use Rattle.rdp_draw.specs.Seen.{fillWords, Reaches};
+ghost use Prim.Native.Nat.{_<_};
+ghost use Rattle.rdp_state.specs.RegisterWords.{tileIn};
+ghost use Rattle.rdp_draw.specs.Seen.{fillAt, copyAt, loadAt, Reaches};
+use rdp_command::CopyFields;
+use rdp_command::CopyWords;
 use rdp_command::FillFields;
 use rdp_command::FillWords;
+use rdp_command::LoadFields;
+use rdp_command::LoadWords;
 
-// The commands that set a register, a bit for each number.
+// The commands that set a register, a bit for each number; and the loads among them.
 const SETTERS: u64 = 0xFFBD_FC00_0000_0000;
 
-// A draw: its place and its number. Where there is none, the place is the number of words.
+const LOADS: u64 = 0x0019_0000_0000_0000;
+
+// An act: its place and its number. Where there is none, the place is the number of words.
 pub struct Reached {
     pub place: usize,
     pub number: u8,
 }
 
-// The first draw from a place on; the words before it are stored in the file. Every other command has one word.
-pub fn next_draw(list: &[u8], from: usize, file: &mut [u64; 32]) -> Reached
+// The first act from a place on; the words before it are stored in the file, and a load's own. Every command but an act has one word.
+pub fn next_act(list: &[u8], from: usize, file: &mut [u64; 32]) -> Reached
     ensures { λ r. ⌜ Reaches (now (list .entry)) from (now (file .entry)) r (now (file .exit)) ⌝ }
 {
     let words = list.len() / 8;
@@ -29,6 +35,9 @@ pub fn next_draw(list: &[u8], from: usize, file: &mut [u64; 32]) -> Reached
         }
         if rdp_words::is_among(SETTERS, number) {
             rdp_state::store(file, number, rdp_words::word_at(list, at));
+            if rdp_words::is_among(LOADS, number) {
+                return Reached { place: at, number };
+            }
             at += 1;
             continue;
         }
@@ -42,7 +51,7 @@ pub fn next_draw(list: &[u8], from: usize, file: &mut [u64; 32]) -> Reached
 
 // A fill rectangle at a place, with what it is drawn under.
 pub fn fill_at(list: &[u8], place: usize, file: &[u64; 32]) -> FillFields
-    ensures { λ r. ⌜ r ≡ fillFields (fillWords (now (file .entry))) (wordAt (now (list .entry)) place) ⌝ }
+    ensures { λ r. ⌜ r ≡ fillAt (now (file .entry)) (now (list .entry)) place ⌝ }
 {
     let set = FillWords {
         modes: file[5],
@@ -51,4 +60,41 @@ pub fn fill_at(list: &[u8], place: usize, file: &[u64; 32]) -> FillFields
         color: file[6],
     };
     rdp_command::fill_fields(set, rdp_words::word_at(list, place))
+}
+
+// The tile that a word names.
+fn tile_in(w: u64) -> usize
+    ensures { λ r. ⌜ (r ≡ tileIn w) × (r < 8) ⌝ }
+{
+    ((w >> 24) % 8) as usize
+}
+
+// A texture rectangle at a place, with what it is drawn under.
+pub fn copy_at(list: &[u8], place: usize, file: &[u64; 32]) -> CopyFields
+    requires { ⌜ place < 4096 ⌝ }
+    ensures { λ r. ⌜ r ≡ copyAt (now (file .entry)) (now (list .entry)) place ⌝ }
+{
+    let word = rdp_words::word_at(list, place);
+    let tile = tile_in(word);
+    let set = CopyWords {
+        modes: file[5],
+        scissor: file[3],
+        image: file[14],
+        tile: file[15 + tile],
+        size: file[23 + tile],
+    };
+    rdp_command::copy_fields(set, word, rdp_words::word_at(list, place + 1))
+}
+
+// A Load Tile at a place, with what it is done under.
+pub fn load_at(list: &[u8], place: usize, file: &[u64; 32]) -> LoadFields
+    ensures { λ r. ⌜ r ≡ loadAt (now (file .entry)) (now (list .entry)) place ⌝ }
+{
+    let word = rdp_words::word_at(list, place);
+    let tile = tile_in(word);
+    let set = LoadWords {
+        image: file[12],
+        tile: file[15 + tile],
+    };
+    rdp_command::load_fields(set, word)
 }

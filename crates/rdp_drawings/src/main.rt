@@ -5,6 +5,7 @@
 //
 // Memory holds the byte 55 before, which no colour here has, so that what is left as it was can be seen. Of a long memory there are a checksum, the
 // first bytes and the last ones. tools/drawings.py reads the lists in these files and works out the file stdout.
+mod copies;
 mod fields;
 mod lent;
 mod long;
@@ -23,5 +24,6 @@ fn main() {
     registers::show_registers();
     lent::show_lent();
     refusals::show_refusals();
+    copies::show_copies();
     long::show_long();
 }

@@ -118,10 +118,22 @@ fn print_answer(name: &[u8], answer: Answer) {
     io::print_decimal(STDOUT_FILENO, answer.place as u64);
 }
 
+// The answer of drawing with texture memory of zeros.
+fn draw(list: &[u8], memory: &mut [u8], start: u64) -> Answer {
+    let mut texture = [0u8; 4096];
+    rdp_draw::draw(list, memory, start, &mut texture)
+}
+
+// The same with a byte less.
+fn draw_with_less(list: &[u8], memory: &mut [u8]) -> Answer {
+    let mut texture = [0u8; 4095];
+    rdp_draw::draw(list, memory, 0, &mut texture)
+}
+
 // Draws the list of words, which is laid into `list`.
 fn draw_list(name: &[u8], words: &[u64], list: &mut [u8], memory: &mut [u8], start: u64) {
     lay(words, list);
-    print_answer(name, rdp_draw::draw(list, memory, start));
+    print_answer(name, draw(list, memory, start));
 }
 
 // The same of at most 32 words.
@@ -157,11 +169,27 @@ pub fn picture_on_zeros(name: &[u8], words: &[u64]) {
     draw_in_rows(name, words, &mut memory, 0, 16);
 }
 
+fn draw_list_with_less(name: &[u8], words: &[u64], list: &mut [u8], memory: &mut [u8]) {
+    lay(words, list);
+    print_answer(name, draw_with_less(list, memory));
+}
+
+// As `picture`, of at most 32 words, with texture memory of 4,095 bytes.
+pub fn picture_with_small_texture(name: &[u8], words: &[u64]) {
+    let mut list = [0u8; 256];
+    let mut memory = [0x55u8; 64];
+    if words.len() <= 32 {
+        draw_list_with_less(name, words, &mut list[0..8 * words.len()], &mut memory);
+        print_rows(&memory, 16);
+        print(b"\n");
+    }
+}
+
 // Draws a list of `length` zeros, at most 32,769, into four bytes.
 pub fn drawn_zeros(name: &[u8], length: usize) {
     let list = [0u8; 32769];
     let mut memory = [0x55u8; 4];
-    print_answer(name, rdp_draw::draw(front(&list, length), &mut memory, 0));
+    print_answer(name, draw(front(&list, length), &mut memory, 0));
     print_rows(&memory, 4);
     print(b"\n");
 }

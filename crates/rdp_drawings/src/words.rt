@@ -41,6 +41,20 @@ pub const LOAD: u64 = 0x34_00000000000000;
 
 pub const SET_TILE: u64 = 0x35_00000000000000;
 
+// Texels of 16 bits, 8 wide, at address 0; a tile of such texels, 16 bytes a row; its load from (0, 0) to (7, 3).
+pub const TEXTURE: u64 = 0x3D_10_0007_00000000;
+
+pub const TILE: u64 = 0x35_10_0400_00000000;
+
+pub const LOAD_ALL: u64 = 0x34_000_000_00_01C_00C;
+
+// COPY mode; pixels (4, 0) to (7, 3) in it, from the tile's first texel, of which four are taken a clock.
+pub const COPY: u64 = 0x2F_20_0000_00000000;
+
+pub const COPY_RIGHT: u64 = 0x24_01C_00C_00_010_000;
+
+pub const TEXELS: u64 = 0x0000_0000_1000_0400;
+
 pub const LOAD_SYNC: u64 = 0x26_00000000000000;
 
 pub const PIPE_SYNC: u64 = 0x27_00000000000000;

@@ -9,7 +9,7 @@ use Rattle.rdp_check.specs.Commands.{commandsOf}
 use Rattle.rdp_check.specs.Check.{checkOf}
 use Rattle.rdp_check.specs.Repair.{repairOf, outAfter, workAfter}
 use Rattle.rdp_check.specs.Best.{repairedBytes, leastCycles}
-use Rattle.rdp_draw.specs.Draw.{drawAnswer, drawMemory}
+use Rattle.rdp_draw.specs.Draw.{drawAnswer, drawn, memories}
 
 -- ---- the paper's words
 
@@ -76,7 +76,7 @@ pub data Case : Type 0 where
   checks : List ℕ → ℕ → ℕ → ℕ → ℕ → Case
   -- the repair of a list of words writes a list of words, and inserts so many cycles
   repairs : List ℕ → List ℕ → ℕ → Case
-  -- drawing a list of words into memory, which starts at address 0, gives number and place, and leaves memory so
+  -- drawing a list of words into memory, which starts at address 0, with texture memory of zeros, gives number and place, and leaves memory so
   draws : List ℕ → List ℕ → ℕ → ℕ → List ℕ → Case
 
 -- the lower and the upper half of the fill colour
@@ -109,6 +109,8 @@ examples =
     ∷ repairs (setup ++ rectangle ∷ loadTile ∷ fillColor ∷ []) (setup ++ rectangle ∷ syncPipe ∷ loadTile ∷ fillColor ∷ []) 50
     ∷ repairs (setup ++ rectangle ∷ loadTile ∷ rectangle ∷ []) (setup ++ rectangle ∷ syncLoad ∷ loadTile ∷ syncLoad ∷ rectangle ∷ []) 50
     ∷ repairs (setup ++ rectangle ∷ noOperation ∷ fillColor ∷ []) (setup ++ rectangle ∷ noOperation ∷ syncPipe ∷ fillColor ∷ []) 50
+    -- K repaired is not drawn (#106): no texture image is set for the load
+    ∷ draws (setup ++ rectangle ∷ syncLoad ∷ loadTile ∷ syncLoad ∷ rectangle ∷ []) (zeros 64) 17 5 (zeros 64)
     -- O: with width 7 pixel (0,1) is at address 14 and takes the lower half
     ∷ draws (setupOfWidth7 ++ fillColor ∷ onePixel ∷ []) (zeros 64) 0 5 (zeros 14 ++ 0x00 ∷ 0x3F ∷ zeros 48)
     -- #104: after a load the hazards are tile and load, 2 + 8, and it is the cause; a Sync Load leaves tile, a Sync Tile none
@@ -152,8 +154,9 @@ repairsRight given repaired cycles =
 abbrev pub drawsRight : List ℕ → List ℕ → ℕ → ℕ → List ℕ → Bool
 drawsRight words memory number place after =
     let list : List ℕ = bytesIn words in
-    let r = drawAnswer list 0 (length memory) in
-    (eqb (r .number) number && eqb (r .place) place) && sameList (drawMemory list 0 memory) after
+    let texture : List ℕ = zeros 4096 in
+    let r = drawAnswer list 0 (length memory) (length texture) in
+    (eqb (r .number) number && eqb (r .place) place) && sameList (drawn list 0 (memories memory texture) .memory) after
 
 abbrev pub right : Case → Bool
 right (checks list number place hazards cause) = checksRight list number place hazards cause

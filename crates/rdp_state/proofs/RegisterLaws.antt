@@ -14,7 +14,7 @@ use Rattle.rdp_words.specs.Kinds.{among, wordsOf}
 use Rattle.rdp_command.specs.Layout.{tileAreaLines, tileDescriptorLines}
 use Rattle.rdp_command.specs.Groups.{tileAreaOf, tileDescriptorOf}
 use Rattle.rdp_command.specs.Commands.{numberOf}
-use Rattle.rdp_command.specs.Reads.{fieldsIn, cycleTypeIn, scissorIn, fillColorIn, colorImageIn}
+use Rattle.rdp_command.specs.Reads.{fieldsIn, otherModesIn, cycleTypeIn, scissorIn, fillColorIn, colorImageIn, textureImageIn}
 use Rattle.rdp_words.specs.Lengths.{firstNumber, wholeWords}
 use Rattle.rdp_command.specs.Decode.{ownWords, commandIn, decodeOf}
 use Rattle.rdp_command.specs.declared.TileDescriptor.{TileDescriptor}
@@ -26,8 +26,8 @@ use Rattle.rdp_words.proofs.PlaceLaws.{number-small, is-whole}
 use Rattle.rdp_command.proofs.CommandLaws.{one-word}
 use Rattle.rdp_command.proofs.ReadLaws.{decodes, decoded-number}
 use Rattle.rdp_check.specs.Commands.{commandsFrom}
-use Rattle.rdp_check.specs.Registers.{noTile, noRegisters, withTiles, registersAfter, afterDecoded, describedTiles, sizedTiles}
-use Rattle.rdp_state.specs.RegisterWords.{tileIn, slotOf, setters, storedAt, wordsAfter, tilesBy, registersBy, isSet, word, registersIn}
+use Rattle.rdp_check.specs.Registers.{noTile, tileOf, noRegisters, withTiles, registersAfter, afterDecoded, describedTiles, sizedTiles}
+use Rattle.rdp_state.specs.RegisterWords.{tileIn, slotOf, setters, storedAt, wordsAfter, tileBy, tilesBy, registersBy, isSet, word, registersIn}
 use Rattle.rdp_state.specs.Replay.{slotRow, slotEntry, slotIn, upTo, wordsUpTo, registersUpTo}
 use Rattle.rdp_check.specs.declared.Tile.{Tile}
 use Rattle.rdp_check.specs.declared.Registers.{Registers}
@@ -313,6 +313,28 @@ pub record FillReads (ws : List ℕ) : Type 0 where
 pub fill-reads : (ws : List ℕ) → FillReads ws
 unfolding registersBy
 fill-reads ws = record { mode = refl; scissor = refl; image = refl; color = refl }
+
+-- the registers that texels are loaded and copied under, but the tile
+pub record TextureReads (ws : List ℕ) : Type 0 where
+  pub image-set : registersIn ws .images .texture .set ≡ isSet ws 12
+  pub image : registersIn ws .images .texture .image ≡ textureImageIn (word ws 12)
+  pub perspective : registersIn ws .modes .other .modes .texture .«persp_tex_en» ≡ otherModesIn (word ws 5) .texture .«persp_tex_en»
+  pub lookup : registersIn ws .modes .other .modes .texture .«tlut_en» ≡ otherModesIn (word ws 5) .texture .«tlut_en»
+  pub alpha-compare : registersIn ws .modes .other .modes .pixel .«alpha_compare_en» ≡ otherModesIn (word ws 5) .pixel .«alpha_compare_en»
+
+pub texture-reads : (ws : List ℕ) → TextureReads ws
+unfolding registersBy
+texture-reads ws = record { image-set = refl; image = refl; perspective = refl; lookup = refl; alpha-compare = refl }
+
+-- a tile
+pub tile-reads : (ws : List ℕ) (t : ℕ) → t < 8 → tileOf (registersIn ws .tiles) t ≡ tileBy (isSet ws) (word ws) t
+unfolding registersBy
+tile-reads ws =
+    by-eight (λ (t : ℕ). tileOf (registersIn ws .tiles) t ≡ tileBy (isSet ws) (word ws) t) refl refl refl refl refl refl refl refl
+
+-- the words of other slots stay
+pub word-other : (slot : ℕ) (ws : List ℕ) (w k : ℕ) → (k ≡ slot → ⊥) → word (storedAt slot ws w) k ≡ word ws k
+word-other slot ws w k ne = by-test (eqb slot 31) (λ t. rw t) (λ f. rw f (getD-set-other ws slot k w 0 ne))
 
 -- ---- a list
 

@@ -1,4 +1,4 @@
--- `lanyardrove::lanyardrove_draw` meets its contract: the answer of drawing, packed, and the memory. Assumes nothing.
+-- `lanyardrove::lanyardrove_draw` meets its contract: the answer of drawing, packed, and the memories. Assumes nothing.
 use mathlib.Core.Path.{_≡_, ap, _∙_}
 use native.Mathlib.Omega.{arith}
 use borrow.Author.Needs.{needs}
@@ -12,18 +12,23 @@ draw-requires : tie.Need-draw-requires
 draw-requires c κs = search needs
 
 answers : (c : tie.After-draw) →
-    let s = c .before .before .before .before .args in
-    plain (c .draw .result) ≡ drawReply (s .list .now) (s .start) (length (s .memory .now))
+    let s = c .before .before .before .before .before .before .args in
+    plain (c .draw .result) ≡ drawReply (s .list .now) (s .start) (length (s .memory .now)) (length (s .texture .now))
 answers c = ap plain (c .draw .ensures .0)
 
 pack-requires : tie.Need-pack-requires
-pack-requires c κs = let p = packs _ (answers (c .before .before)) (ofDraw _ _ _) in omega (arith, p .0, p .1)
+pack-requires c κs = let p = packs _ (answers (c .before .before .before .before)) (ofDraw _ _ _ _) in omega (arith, p .0, p .1)
 
 same-length : tie.Need-same-length
 same-length c = search needs
 
+same-length-2 : tie.Need-same-length-2
+same-length-2 c = search needs
+
 returns : tie.Need-returns
-returns c = (c .pack .ensures ∙ ap packed (answers (c .before .before .before)), c .before .before .before .draw .ensures .1)
+returns c =
+    let d = c .before .before .before .before .before in
+    (c .pack .ensures ∙ ap packed (answers d), d .draw .ensures .1)
 
 pub lanyardrove-draw-spec : {M : Type 1} → statement M
-lanyardrove-draw-spec = tie.close (tie.spec draw-requires pack-requires same-length returns)
+lanyardrove-draw-spec = tie.close (tie.spec draw-requires pack-requires same-length same-length-2 returns)

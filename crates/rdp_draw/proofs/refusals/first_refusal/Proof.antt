@@ -1,4 +1,4 @@
--- `rdp_draw::refusals::first_refusal` meets its contract. The loop's invariant: the first refusal of the draws from here on is that of the list. The
+-- `rdp_draw::refusals::first_refusal` meets its contract. The loop's invariant: the first refusal of the acts from here on is that of the list. The
 -- measure is what is left of the words. Assumes nothing.
 use mathlib.Core.Path.{refl}
 use Prim.Native.Nat.{_-_}
@@ -14,16 +14,16 @@ Inv-loop list words start len file₀ reached₀ file reached = Reaching (Tests 
 abbrev μ-loop : tie.MeasureT-loop
 μ-loop list words start len file₀ reached₀ file reached = words - reached .place
 
-next-draw-requires : tie.Need-next-draw-requires Inv-loop μ-loop
-next-draw-requires c κs = search needs
+next-act-requires : tie.Need-next-act-requires Inv-loop μ-loop
+next-act-requires c κs = search needs
 
 loop-holds : tie.Need-loop-holds Inv-loop μ-loop
 loop-holds c =
     let p = c .before .before .before .pre in
-    reaching-first _ _ _ (p .0) (p .1 .1) refl _ _ (c .next-draw .ensures)
+    reaching-first _ _ _ (p .0) (p .1 .1) refl _ _ (c .next-act .ensures)
 
 refusal-at-requires : tie.Need-refusal-at-requires Inv-loop μ-loop
-refusal-at-requires c κs = search needs
+refusal-at-requires c κs = omega (arith, c .before .if1 .taken, c .before .before .before .before .before .before .before .pre .1 .0)
 
 cast-t13 : tie.Need-cast-t13 Inv-loop μ-loop
 cast-t13 c =
@@ -44,20 +44,20 @@ add-next c =
     let p = l .before .before .before .before .before .before .pre in
     omega (arith, c .words-of .ensures, next (l .before .before .loop .inv) (l .if1 .taken) .inside, p .0, p .1 .0)
 
-next-draw-requires-2 : tie.Need-next-draw-requires-2 Inv-loop μ-loop
-next-draw-requires-2 c κs = search needs
+next-act-requires-2 : tie.Need-next-act-requires-2 Inv-loop μ-loop
+next-act-requires-2 c κs = search needs
 
 loop-less : tie.Need-loop-less Inv-loop μ-loop
 loop-less c =
     let l = c .before .before .before .before .before .before in
-    omega (arith, l .if1 .taken, falls (l .before .before .loop .inv) (l .if1 .taken) _ (c .before .before .words-of .ensures) _ _ (c .next-draw2 .ensures))
+    omega (arith, l .if1 .taken, falls (l .before .before .loop .inv) (l .if1 .taken) _ (c .before .before .words-of .ensures) _ _ (c .next-act2 .ensures))
 
 loop-again : tie.Need-loop-again Inv-loop μ-loop
 loop-again c =
     let t = c .before .before .before in
     let l = t .before .before .before in
     tests-again _ _ (l .before .before .loop .inv) (l .if1 .taken) _ (t .before .refusal-at .ensures) (t .if2 .left) _
-    (c .before .before .words-of .ensures) _ _ (c .next-draw2 .ensures)
+    (c .before .before .words-of .ensures) _ _ (c .next-act2 .ensures)
 
 cast-t16 : tie.Need-cast-t16 Inv-loop μ-loop
 cast-t16 c = omega (arith, c .before .before .before .before .before .before .pre .1 .0)
@@ -71,14 +71,14 @@ first-refusal-spec =
     (tie.spec
     Inv-loop
     μ-loop
-    next-draw-requires
+    next-act-requires
     loop-holds
     refusal-at-requires
     cast-t13
     returns
     words-of-requires
     add-next
-    next-draw-requires-2
+    next-act-requires-2
     loop-less
     loop-again
     cast-t16

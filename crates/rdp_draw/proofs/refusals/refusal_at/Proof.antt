@@ -1,53 +1,64 @@
--- `rdp_draw::refusals::refusal_at` meets its contract: a line for each refusal. Assumes nothing.
+-- `rdp_draw::refusals::refusal_at` meets its contract: a line for each number. Assumes nothing.
 use borrow.Author.Needs.{needs}
-use Rattle.rdp_draw.proofs.DrawLaws.{refusal-10, refusal-11, refusal-12, refusal-0}
+use Rattle.rdp_draw.proofs.DrawLaws.{refusal-fill, refusal-copy, refusal-load, refusal-17, refusal-10}
 use Rattle.rdp_draw.proofs.refusals.refusal_at.Statement.{statement}
 use Rattle.rdp_draw.proofs.refusals.refusal_at.Tie as tie
 
 fill-at-requires : tie.Need-fill-at-requires
 fill-at-requires c κs = search needs
 
+fill-refusal-requires : tie.Need-fill-refusal-requires
+fill-refusal-requires c κs = search needs
+
 returns : tie.Need-returns
 returns c =
-    let f = c .before .before .before in
-    refusal-10 _ _ (f .before .before .args .at .number) (f .fill-at .ensures) (c .if1 .taken)
+    let a = c .before .before .before .before .before .args in
+    refusal-fill (a .start) (a .len) (a .file .now) (a .list .now) (a .at .place) (a .at .number) (c .before .before .if1 .taken) _ _ (c .before .fill-at .ensures) (c .fill-refusal .ensures)
+
+copy-at-requires : tie.Need-copy-at-requires
+copy-at-requires c κs = c .before .before .before .before .before .pre
+
+copy-refusal-requires : tie.Need-copy-refusal-requires
+copy-refusal-requires c κs = search needs
 
 returns-2 : tie.Need-returns-2
 returns-2 c =
-    let t = c .before .before in
-    let f = t .before .before .before in
-    refusal-11 _ _ (f .before .before .args .at .number) (f .fill-at .ensures) (t .if1 .left) (c .if2 .taken)
+    let a = c .before .before .before .before .before .before .before .args in
+    refusal-copy (a .start) (a .len) (a .file .now) (a .list .now) (a .at .place) (a .at .number) (c .before .before .if2 .taken) _ _ (c .before .copy-at .ensures) (c .copy-refusal .ensures)
 
-area-of-requires : tie.Need-area-of-requires
-area-of-requires c κs = search needs
+load-at-requires : tie.Need-load-at-requires
+load-at-requires c κs = search needs
 
-is-inside-requires : tie.Need-is-inside-requires
-is-inside-requires c κs = c .area-of .ensures .1
+load-refusal-requires : tie.Need-load-refusal-requires
+load-refusal-requires c κs = search needs
 
 returns-3 : tie.Need-returns-3
 returns-3 c =
-    let a = c .before .before in
-    let t = a .before .before .before in
-    let f = t .before .before .before in
-    refusal-0 _ _ (f .before .before .args .at .number) (f .fill-at .ensures) (t .if1 .left) (a .before .if2 .left) _ (a .area-of .ensures .0) _
-    (c .before .is-inside .ensures) (c .if3 .taken)
+    let a = c .before .before .before .before .before .before .before .before .before .args in
+    refusal-load (a .start) (a .len) (a .file .now) (a .list .now) (a .at .place) (a .at .number) (c .before .before .if3 .taken) _ _ (c .before .load-at .ensures) (c .load-refusal .ensures)
 
 returns-4 : tie.Need-returns-4
 returns-4 c =
-    let a = c .before .before in
-    let t = a .before .before .before in
-    let f = t .before .before .before in
-    refusal-12 _ _ (f .before .before .args .at .number) (f .fill-at .ensures) (t .if1 .left) (a .before .if2 .left) _ (a .area-of .ensures .0) _
-    (c .before .is-inside .ensures) (c .if3 .left)
+    let a = c .before .before .before .before .before .before .before .before .before .before .args in
+    refusal-17 (a .start) (a .len) (a .file .now) (a .list .now) (a .at .place) (a .at .number) (c .before .before .before .before .before .before .before .if1 .left) (c .before .before .before .before .before .if2 .left) (c .before .before .before .if3 .left) (c .if4 .taken)
+
+returns-5 : tie.Need-returns-5
+returns-5 c =
+    let a = c .before .before .before .before .before .before .before .before .before .before .args in
+    refusal-10 (a .start) (a .len) (a .file .now) (a .list .now) (a .at .place) (a .at .number) (c .before .before .before .before .before .before .before .if1 .left) (c .before .before .before .before .before .if2 .left) (c .before .before .before .if3 .left) (c .if4 .left)
 
 pub refusal-at-spec : {M : Type 1} → statement M
 refusal-at-spec =
     tie.close
     (tie.spec
     fill-at-requires
+    fill-refusal-requires
     returns
+    copy-at-requires
+    copy-refusal-requires
     returns-2
-    area-of-requires
-    is-inside-requires
+    load-at-requires
+    load-refusal-requires
     returns-3
-    returns-4)
+    returns-4
+    returns-5)

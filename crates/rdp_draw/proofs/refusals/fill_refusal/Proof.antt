@@ -1,0 +1,31 @@
+-- `rdp_draw::refusals::fill_refusal` meets its contract. Assumes nothing.
+use borrow.Author.Needs.{needs}
+use Rattle.rdp_draw.proofs.DrawLaws.{fill-10, fill-11, fill-12, fill-0}
+use Rattle.rdp_draw.proofs.refusals.fill_refusal.Statement.{statement}
+use Rattle.rdp_draw.proofs.refusals.fill_refusal.Tie as tie
+
+returns : tie.Need-returns
+returns c = let a = c .before .before .args in fill-10 (a .start) (a .len) (a .fill) (c .if1 .taken)
+
+returns-2 : tie.Need-returns-2
+returns-2 c = let a = c .before .before .before .before .args in fill-11 (a .start) (a .len) (a .fill) (c .before .before .if1 .left) (c .if2 .taken)
+
+area-of-requires : tie.Need-area-of-requires
+area-of-requires c κs = search needs
+
+is-inside-requires : tie.Need-is-inside-requires
+is-inside-requires c κs = c .area-of .ensures .1
+
+returns-3 : tie.Need-returns-3
+returns-3 c =
+    let a = c .before .before .before .before .before .before .before .args in
+    fill-0 (a .start) (a .len) (a .fill) (c .before .before .before .before .before .if1 .left) (c .before .before .before .if2 .left) _ (c .before .before .area-of .ensures .0) _ (c .before .is-inside .ensures) (c .if3 .taken)
+
+returns-4 : tie.Need-returns-4
+returns-4 c =
+    let a = c .before .before .before .before .before .before .before .args in
+    fill-12 (a .start) (a .len) (a .fill) (c .before .before .before .before .before .if1 .left) (c .before .before .before .if2 .left) _ (c .before .before .area-of .ensures .0) _ (c .before .is-inside .ensures) (c .if3 .left)
+
+pub fill-refusal-spec : {M : Type 1} → statement M
+fill-refusal-spec =
+    tie.close (tie.spec returns returns-2 area-of-requires is-inside-requires returns-3 returns-4)

@@ -1,0 +1,11 @@
+pub mod TurnLaws
+pub mod PartLaws
+pub mod SpanLaws
+pub mod RowLaws
+pub mod CornerLaws
+pub mod LinkLaws
+pub mod GridLaws
+pub mod LoopLaws
+pub mod ActLaws
+pub mod ExactLaws
+pub mod ExampleTests

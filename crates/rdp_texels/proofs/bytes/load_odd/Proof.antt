@@ -1,0 +1,38 @@
+-- `rdp_texels::bytes::load_odd` meets its contract. Assumes nothing.
+use denote.Ref.{now}
+use native.Mathlib.Omega.{arith}
+use Rattle.rdp_texels.proofs.PartLaws.{part-three}
+use borrow.Author.Needs.{needs}
+use Rattle.rdp_texels.proofs.bytes.load_odd.Statement.{statement}
+use Rattle.rdp_texels.proofs.bytes.load_odd.Tie as tie
+
+head-requires : tie.Need-head-requires
+head-requires c κs = search needs
+
+load-turned-requires : tie.Need-load-turned-requires
+load-turned-requires c κs = search needs
+
+load-groups-requires : tie.Need-load-groups-requires
+load-groups-requires c κs =
+    let h = c .before .before .before .before .before .head .ensures in
+    (h .0, (h .1 .0, (omega arith, omega arith)))
+
+load-turned-requires-2 : tie.Need-load-turned-requires-2
+load-turned-requires-2 c κs = search needs
+
+same-length : tie.Need-same-length
+same-length c = search needs
+
+returns : tie.Need-returns
+returns c = part-three (now (c .before .before .before .before .before .before .before .before .before .before .before .before .before .before .before .args .to)) (c .before .before .before .before .before .before .before .before .before .before .load-turned .ensures) (c .before .before .before .before .before .before .load-groups .ensures) (c .before .before .load-turned2 .ensures)
+
+pub load-odd-spec : {M : Type 1} → statement M
+load-odd-spec =
+    tie.close
+    (tie.spec
+    head-requires
+    load-turned-requires
+    load-groups-requires
+    load-turned-requires-2
+    same-length
+    returns)

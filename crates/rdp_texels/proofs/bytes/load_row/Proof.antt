@@ -1,0 +1,27 @@
+-- `rdp_texels::bytes::load_row` meets its contract. Assumes nothing.
+use borrow.Author.Needs.{needs}
+use Rattle.rdp_texels.proofs.bytes.load_row.Statement.{statement}
+use Rattle.rdp_texels.proofs.bytes.load_row.Tie as tie
+
+load-odd-requires : tie.Need-load-odd-requires
+load-odd-requires c κs = search needs
+
+same-length : tie.Need-same-length
+same-length c = search needs
+
+returns : tie.Need-returns
+returns c = rw (c .before .before .before .before .if1 .taken) (c .before .before .load-odd .ensures)
+
+copy-even-requires : tie.Need-copy-even-requires
+copy-even-requires c κs = search needs
+
+same-length-2 : tie.Need-same-length-2
+same-length-2 c = search needs
+
+returns-2 : tie.Need-returns-2
+returns-2 c = rw (c .before .before .before .before .if1 .left) (c .before .before .copy-even .ensures)
+
+pub load-row-spec : {M : Type 1} → statement M
+load-row-spec =
+    tie.close
+    (tie.spec load-odd-requires same-length returns copy-even-requires same-length-2 returns-2)

@@ -1,0 +1,48 @@
+-- `rdp_texels::load_tile` meets its contract. Assumes nothing.
+use Rattle.rdp_texels.specs.Texels.{loaded}
+use Rattle.rdp_texels.specs.Load.{loadMoves}
+use Rattle.rdp_texels.specs.Refusals.{loadTexture, loadRefusal}
+use Rattle.rdp_texels.proofs.ActLaws.{wrong-size, right-size, left-alone, done}
+use lib.ListN.{length}
+use denote.Ref.{now}
+use native.Mathlib.Omega.{arith}
+use mathlib.Core.Path.{sym, _∙_}
+use borrow.Author.Needs.{needs}
+use Rattle.rdp_texels.proofs.load_tile.Statement.{statement}
+use Rattle.rdp_texels.proofs.load_tile.Tie as tie
+
+returns : tie.Need-returns
+unfolding loadTexture
+returns c =
+    let s = c .before .before .before .args in
+    let e = wrong-size (length (now (s .texture))) (loadRefusal (s .load) (s .start) (length (now (s .memory)))) (c .if1 .taken) in
+    (e, left-alone (loaded (s .start) (now (s .memory)) (loadMoves (s .load)) (now (s .texture))) e (λ h. omega arith))
+
+load-refusal-requires : tie.Need-load-refusal-requires
+load-refusal-requires c κs = search needs
+
+returns-2 : tie.Need-returns-2
+unfolding loadTexture
+returns-2 c =
+    let s = c .before .before .before .before .before .args in
+    let e = right-size (length (now (s .texture))) (c .before .before .if1 .left) (c .before .load-refusal .ensures) in
+    (e, left-alone (loaded (s .start) (now (s .memory)) (loadMoves (s .load)) (now (s .texture))) e (c .if2 .taken))
+
+load-texels-requires : tie.Need-load-texels-requires
+load-texels-requires c κs = (c .before .before .before .if1 .left, sym (c .before .before .load-refusal .ensures) ∙ c .before .if2 .left)
+
+same-length : tie.Need-same-length
+same-length c = search needs
+
+returns-3 : tie.Need-returns-3
+unfolding loadTexture
+returns-3 c =
+    let s = c .before .before .before .before .before .before .before .before .before .args in
+    let e = right-size (length (now (s .texture))) (c .before .before .before .before .before .before .if1 .left) (c .before .before .before .before .before .load-refusal .ensures) in
+    let h = c .before .before .before .before .if2 .left in
+    (sym h ∙ e, done (now (s .texture)) e h (c .before .before .load-texels .ensures))
+
+pub load-tile-spec : {M : Type 1} → statement M
+load-tile-spec =
+    tie.close
+    (tie.spec returns load-refusal-requires returns-2 load-texels-requires same-length returns-3)
