@@ -13,12 +13,15 @@ pub enum Ground {
     SyncLoadMissing = 7,
     SyncTileMissing = 8,
     SyncPipeMissing = 9,
-    NotFillRectangle = 10,
+    NotDrawn = 10,
     MisalignedImage = 11,
     OutsideMemory = 12,
     WorkTooShort = 13,
     OutputTooShort = 14,
     NotEncodable = 15,
+    TextureMemoryLength = 16,
+    NotCopied = 17,
+    OutsideTexture = 18,
 }
 
 /// A refusal: its ground and its place.

@@ -1,10 +1,16 @@
-//! Drawing of Fill Rectangles in FILL mode: 01, "Fill", pixel by pixel.
+//! Drawing: Fill Rectangle in FILL mode (01, "Fill"), and by request #106 Load Tile and
+//! texture rectangles in COPY mode. A whole list is judged before a byte is written.
 
 use crate::answer::{Ground, Refusal};
+use crate::area::Area;
 use crate::check::check;
-use crate::kinds::{commands, is_draw, kind, Kind};
-use crate::registers::{ColorImage, Registers, Scissor};
-use crate::words::bits;
+use crate::kinds::{commands, is_draw, kind, Command, Kind};
+use crate::registers::Registers;
+use crate::texture::{CopyRectangle, LoadTile, Move, TEXTURE_BYTES};
+use crate::words::word_at;
+
+const TEXTURE_RECTANGLE: u8 = 0x24;
+const LOAD_TILE: u8 = 0x34;
 
 /// Where the lent memory lies: `start`, `start + 1`, .. No sum of it wraps.
 #[derive(Clone, Copy, Debug, PartialEq, Eq)]
@@ -20,154 +26,157 @@ impl Lent {
         let index = usize::try_from(distance).ok()?;
         (index < self.length).then_some(index)
     }
+
+    /// The index of an address that was tested.
+    fn tested(self, address: u64) -> usize {
+        self.index(address).expect("ground 12 was tested")
+    }
 }
 
 /// Draws a list into memory that starts at a stated address, and answers the
-/// list's words. "Drawing runs the whole check, then walks again: at each draw
-/// 10, 11, 12." Only then it paints.
-pub fn draw(list: &[u8], memory: &mut [u8], start: u64) -> Result<usize, Refusal> {
+/// list's words. "Drawing runs the whole check, then walks again." 16 comes "after the
+/// check and before the second walk".
+pub fn draw(
+    list: &[u8],
+    memory: &mut [u8],
+    start: u64,
+    texture: &mut [u8],
+) -> Result<usize, Refusal> {
     let words = check(list).outcome?;
+    if texture.len() != TEXTURE_BYTES {
+        return Err(Refusal::new(Ground::TextureMemoryLength, 0));
+    }
     let length = memory.len();
     let lent = Lent { start, length };
-    let fills = fills(list, |address| lent.index(address).is_some())?;
-    for fill in &fills {
-        paint(fill, memory, lent);
+    for work in works(list, |work| work.outside(lent))? {
+        work.perform(memory, lent, texture);
     }
     Ok(words)
 }
 
-/// The fills of a list that passes the check, or the first draw with ground 10,
-/// 11 or 12.
-pub fn fills(list: &[u8], inside: impl Fn(u64) -> bool) -> Result<Vec<Fill>, Refusal> {
+/// What the draws and loads of a list that passes the check do, or the first refusal:
+/// at each command 10, 11, 17, then what `outside` finds.
+pub fn works(list: &[u8], outside: impl Fn(&Work) -> Option<Ground>) -> Result<Vec<Work>, Refusal> {
     let mut registers = Registers::default();
-    let mut fills = Vec::new();
+    let mut works = Vec::new();
     for command in commands(list) {
-        if is_draw(command.number()) {
-            let fill = fill_at(&registers, command.number(), command.word, &inside)
-                .map_err(|ground| Refusal::new(ground, command.place))?;
-            fills.push(fill);
+        let refused = |ground| Refusal::new(ground, command.place);
+        if let Some(work) = work_of(&registers, list, command).map_err(refused)? {
+            outside(&work).map_or(Ok(()), |ground| Err(refused(ground)))?;
+            works.push(work);
         }
         registers.run(command.word);
     }
-    Ok(fills)
+    Ok(works)
 }
 
-/// One draw: grounds 10, 11 and 12 in this order.
-fn fill_at(
-    registers: &Registers,
-    number: u8,
-    word: u64,
-    inside: impl Fn(u64) -> bool,
-) -> Result<Fill, Ground> {
-    if kind(number) != Kind::FillRectangle || !registers.fill_mode() {
-        return Err(Ground::NotFillRectangle);
-    }
-    let fill = Fill {
-        rectangle: Rectangle::of(word),
-        scissor: registers.scissor(),
-        image: registers.color_image(),
-        color: registers.fill_color(),
-    };
-    if !fill.image.address.is_multiple_of(64) {
-        Err(Ground::MisalignedImage)
-    } else if !fill.addresses().all(inside) {
-        Err(Ground::OutsideMemory)
+/// What a command does with lent memory and texture memory, if it does anything.
+fn work_of(registers: &Registers, list: &[u8], command: Command) -> Result<Option<Work>, Ground> {
+    let number = command.number();
+    if is_draw(number) {
+        draw_of(registers, list, command).map(Some)
+    } else if kind(number) == Kind::Load {
+        load_of(registers, command).map(Some)
     } else {
-        Ok(fill)
+        Ok(None)
     }
 }
 
-/// "The byte at address a is byte a mod 4 of the fill colour, most significant
-/// first."
-fn paint(fill: &Fill, memory: &mut [u8], lent: Lent) {
-    let color = fill.color.to_be_bytes();
-    for address in fill.addresses() {
-        let index = lent.index(address).expect("ground 12 was tested");
-        memory[index] = color[(address % 4) as usize];
+/// A draw: grounds 10, 11 and 17 in this order.
+fn draw_of(registers: &Registers, list: &[u8], command: Command) -> Result<Work, Ground> {
+    let area = Area::of(registers, command.word);
+    let fills = kind(command.number()) == Kind::FillRectangle && registers.fill_mode();
+    let copies = command.number() == TEXTURE_RECTANGLE && registers.copy_mode();
+    if !fills && !copies {
+        return Err(Ground::NotDrawn);
     }
+    if !area.image.address.is_multiple_of(64) {
+        return Err(Ground::MisalignedImage);
+    }
+    if fills {
+        let color = registers.fill_color();
+        return Ok(Work::Fill(Fill { area, color }));
+    }
+    let words = [command.word, word_at(list, command.place + 1)];
+    let copied = CopyRectangle::of(registers, area, words);
+    copied.map(Work::Copy).ok_or(Ground::NotCopied)
 }
 
-/// A Fill Rectangle's corners, in quarter pixels.
+/// A load: ground 17, of "Load TLUT or Load Block in any drawn list" too.
+fn load_of(registers: &Registers, command: Command) -> Result<Work, Ground> {
+    let is_load_tile = command.number() == LOAD_TILE;
+    let load = is_load_tile.then(|| LoadTile::of(registers, command.word));
+    load.flatten().map(Work::Load).ok_or(Ground::NotCopied)
+}
+
+/// What one command does, with the registers that it does it with.
 #[derive(Clone, Copy, Debug, PartialEq, Eq)]
-pub struct Rectangle {
-    pub left: u64,
-    pub top: u64,
-    pub right: u64,
-    pub bottom: u64,
+pub enum Work {
+    Fill(Fill),
+    Load(LoadTile),
+    Copy(CopyRectangle),
 }
 
-impl Rectangle {
-    /// "Lower right x 55:44, y 43:32, upper left x 23:12, y 11:0."
-    fn of(word: u64) -> Rectangle {
-        Rectangle {
-            left: bits(word, 23, 12),
-            top: bits(word, 11, 0),
-            right: bits(word, 55, 44),
-            bottom: bits(word, 43, 32),
-        }
-    }
-}
-
-/// One Fill Rectangle with the registers that it is drawn with.
+/// One Fill Rectangle.
 #[derive(Clone, Copy, Debug, PartialEq, Eq)]
 pub struct Fill {
-    pub rectangle: Rectangle,
-    pub scissor: Scissor,
-    pub image: ColorImage,
-    pub color: u32,
+    area: Area,
+    color: u32,
+}
+
+impl Work {
+    /// All addresses of lent memory that are written or read.
+    pub fn addresses(&self) -> Box<dyn Iterator<Item = u64> + '_> {
+        match self {
+            Work::Fill(fill) => Box::new(fill.area.addresses()),
+            _ => Box::new(self.moves().map(|moved| moved.address)),
+        }
+    }
+
+    /// The bytes between lent memory and texture memory, in their order.
+    pub fn moves(&self) -> Box<dyn Iterator<Item = Move> + '_> {
+        match self {
+            Work::Fill(_) => Box::new(std::iter::empty()),
+            Work::Load(load) => Box::new(load.moves()),
+            Work::Copy(copy) => Box::new(copy.moves()),
+        }
+    }
+
+    /// Ground 12 over all bytes, then 18 over all.
+    fn outside(&self, lent: Lent) -> Option<Ground> {
+        let texture = 0..TEXTURE_BYTES as i64;
+        if self
+            .addresses()
+            .any(|address| lent.index(address).is_none())
+        {
+            Some(Ground::OutsideMemory)
+        } else if self.moves().any(|moved| !texture.contains(&moved.byte)) {
+            Some(Ground::OutsideTexture)
+        } else {
+            None
+        }
+    }
+
+    fn perform(&self, memory: &mut [u8], lent: Lent, texture: &mut [u8]) {
+        match self {
+            Work::Fill(fill) => fill.paint(memory, lent),
+            Work::Load(_) => self.moves().for_each(|Move { address, byte }| {
+                texture[byte as usize] = memory[lent.tested(address)];
+            }),
+            Work::Copy(_) => self.moves().for_each(|Move { address, byte }| {
+                memory[lent.tested(address)] = texture[byte as usize];
+            }),
+        }
+    }
 }
 
 impl Fill {
-    /// The addresses of all bytes of all kept pixels.
-    pub fn addresses(&self) -> impl Iterator<Item = u64> + '_ {
-        self.kept_pixels()
-            .flat_map(|(x, y)| self.bytes_of_pixel(x, y))
-    }
-
-    /// The pixels of the rectangle that the scissor keeps.
-    fn kept_pixels(&self) -> impl Iterator<Item = (u64, u64)> + '_ {
-        let rows = covered(self.rectangle.top, self.rectangle.bottom);
-        rows.filter(|y| self.keeps_row(*y))
-            .flat_map(|y| self.kept_columns().map(move |x| (x, y)))
-    }
-
-    fn kept_columns(&self) -> impl Iterator<Item = u64> + '_ {
-        let columns = covered(self.rectangle.left, self.rectangle.right);
-        columns.filter(|x| self.keeps_column(*x))
-    }
-
-    /// "Kept when 4x [is] at least the scissor's upper left and below its lower
-    /// right".
-    fn keeps_column(&self, x: u64) -> bool {
-        4 * x >= self.scissor.left && 4 * x < self.scissor.right
-    }
-
-    /// ".. and 4y likewise, and, with field set, when y mod 2 equals odd."
-    fn keeps_row(&self, y: u64) -> bool {
-        let within = 4 * y >= self.scissor.top && 4 * y < self.scissor.bottom;
-        within && (!self.scissor.field || y % 2 == self.scissor.odd)
-    }
-
-    /// "Its address is colour address + (y·width + x)·bytes per pixel."
-    fn bytes_of_pixel(&self, x: u64, y: u64) -> impl Iterator<Item = u64> {
-        let bytes_per_pixel = self.bytes_per_pixel();
-        let address = self.image.address + (y * self.image.width + x) * bytes_per_pixel;
-        address..address + bytes_per_pixel
-    }
-
-    /// Sizes 1, 2, 3 are 8, 16, 32 bits; the check refused 4 bits.
-    fn bytes_per_pixel(&self) -> u64 {
-        match self.image.size {
-            1 => 1,
-            2 => 2,
-            3 => 4,
-            _ => unreachable!("ground 6 was tested"),
+    /// "The byte at address a is byte a mod 4 of the fill colour, most significant
+    /// first."
+    fn paint(&self, memory: &mut [u8], lent: Lent) {
+        let color = self.color.to_be_bytes();
+        for address in self.area.addresses() {
+            memory[lent.tested(address)] = color[(address % 4) as usize];
         }
     }
-}
-
-/// "Columns run from floor(left/4) to floor(right/4), both included; rows
-/// likewise. If the end is below the start, nothing is covered."
-fn covered(start: u64, end: u64) -> impl Iterator<Item = u64> {
-    start / 4..=end / 4
 }

@@ -4,6 +4,7 @@
 //! ("01" below) or one table of the N64brew command page ("000" below).
 
 pub mod answer;
+pub mod area;
 pub mod check;
 pub mod comparison;
 pub mod decode;
@@ -17,4 +18,5 @@ pub mod record;
 pub mod registers;
 pub mod repair;
 pub mod stream;
+pub mod texture;
 pub mod words;

@@ -75,8 +75,8 @@ pub fn repair(list: &[u8], work: &mut [u8], out: &mut [u8]) -> u64 {
 }
 
 /// `lanyardrove_draw`.
-pub fn draw(list: &[u8], memory: &mut [u8], start: u64) -> u64 {
-    match draw::draw(list, memory, start) {
+pub fn draw(list: &[u8], memory: &mut [u8], start: u64, texture: &mut [u8]) -> u64 {
+    match draw::draw(list, memory, start, texture) {
         Ok(words) => accepted(words, 0),
         Err(refusal) => refused(refusal),
     }

@@ -8,6 +8,7 @@ const SET_SCISSOR: u8 = 0x2D;
 const SET_OTHER_MODES: u8 = 0x2F;
 const SET_TILE_SIZE: u8 = 0x32;
 const SET_FILL_COLOR: u8 = 0x37;
+const SET_TEXTURE_IMAGE: u8 = 0x3D;
 const SET_COLOR_IMAGE: u8 = 0x3F;
 
 /// "Registers and the eight tile descriptors start at zero and 'not set'."
@@ -42,6 +43,14 @@ pub struct ColorImage {
     /// 0, 1, 2, 3 for 4, 8, 16, 32 bits.
     pub size: u64,
     /// In pixels.
+    pub width: u64,
+    pub address: u64,
+}
+
+/// What a load reads of Set Texture Image.
+#[derive(Clone, Copy, Debug, PartialEq, Eq)]
+pub struct TextureImage {
+    /// In texels.
     pub width: u64,
     pub address: u64,
 }
@@ -111,9 +120,35 @@ impl Registers {
             .all(|number| self.is_set(*number))
     }
 
-    /// "Set Other Modes cycle type 53:52 (.. 3 FILL)."
+    /// "Set Other Modes cycle type 53:52 (.. 2 COPY, 3 FILL)."
+    fn cycle_type(&self) -> u64 {
+        bits(self.word(SET_OTHER_MODES), 53, 52)
+    }
+
     pub fn fill_mode(&self) -> bool {
-        bits(self.word(SET_OTHER_MODES), 53, 52) == 3
+        self.cycle_type() == 3
+    }
+
+    pub fn copy_mode(&self) -> bool {
+        self.cycle_type() == 2
+    }
+
+    /// Request #106: "perspective, look-up and alpha compare off". 000 has persp_tex_en
+    /// at bit 51, tlut_en at 47, alpha_compare_en at 0.
+    pub fn copies_plainly(&self) -> bool {
+        let modes = self.word(SET_OTHER_MODES);
+        [51, 47, 0]
+            .into_iter()
+            .all(|bit| bits(modes, bit, bit) == 0)
+    }
+
+    /// The texture image, if it is "set and 16-bit RGBA".
+    pub fn texture_image(&self) -> Option<TextureImage> {
+        let word = self.setters[usize::from(SET_TEXTURE_IMAGE)]?;
+        is_16_bit_rgba(word).then_some(TextureImage {
+            width: bits(word, 41, 32) + 1,
+            address: bits(word, 23, 0),
+        })
     }
 
     /// "Set Color Image format 55:53, size 52:51, width minus one 41:32, address
@@ -199,9 +234,14 @@ fn word_of_size(size: TileSize) -> u64 {
         | size.lower_right_t
 }
 
+/// Whether a Set Texture Image or a Set Tile says format RGBA, 55:53, of 16 bits, 52:51.
+pub fn is_16_bit_rgba(word: u64) -> bool {
+    bits(word, 55, 53) == 0 && bits(word, 52, 51) == 2
+}
+
 /// The tile size that Set Tile Size and each of the three loads carry, all in
 /// the same bits.
-fn size_of(word: u64) -> TileSize {
+pub fn size_of(word: u64) -> TileSize {
     TileSize {
         upper_left_s: bits(word, 55, 44),
         upper_left_t: bits(word, 43, 32),

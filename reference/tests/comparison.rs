@@ -7,6 +7,7 @@ use reference::comparison::side::{Reference, Side};
 use reference::kinds::{commands, is_draw, is_textured_draw};
 use reference::record::{pack, unpack, Record, NUMBERS};
 use reference::stream::{MOST_TOTAL, ROOM};
+use reference::texture::TEXTURE_BYTES;
 use reference::words::command_number;
 
 const SEED: u64 = 7;
@@ -38,6 +39,12 @@ enum Fault {
     MemoryByte,
     /// A refused draw has written one byte.
     MemoryAtRefusal,
+    /// One byte of texture memory is wrong.
+    TextureByte,
+    /// A refused load has written one byte.
+    TextureAtRefusal,
+    /// A byte too many of texture memory is taken for right.
+    TextureLonger,
     /// The work buffer is not cleared.
     WorkKept,
     /// At ground 14 the output is written as far as it goes.
@@ -163,9 +170,14 @@ impl Side for Faulty {
         answer
     }
 
-    fn draw(&self, list: &[u8], memory: &mut [u8], start: u64) -> u64 {
-        let answer = Reference.draw(list, memory, start);
+    fn draw(&self, list: &[u8], memory: &mut [u8], start: u64, texture: &mut [u8]) -> u64 {
+        let taken = match self.0 {
+            Fault::TextureLonger => texture.len().min(TEXTURE_BYTES),
+            _ => texture.len(),
+        };
+        let answer = Reference.draw(list, memory, start, &mut texture[..taken]);
         match (self.0, ground(answer)) {
+            (Fault::TextureByte, 0) | (Fault::TextureAtRefusal, 18) => flip_last(texture),
             (Fault::MemoryByte, 0) | (Fault::MemoryAtRefusal, 12) => flip_last(memory),
             _ => {}
         }
@@ -315,6 +327,9 @@ fn every_fault_is_found_in_its_function() {
         (Fault::WordsOverLimit, Function::Check),
         (Fault::MemoryByte, Function::Draw),
         (Fault::MemoryAtRefusal, Function::Draw),
+        (Fault::TextureByte, Function::Draw),
+        (Fault::TextureAtRefusal, Function::Draw),
+        (Fault::TextureLonger, Function::Draw),
         (Fault::WorkKept, Function::Repair),
         (Fault::OutputAtGround14, Function::Repair),
         (Fault::OutputBeyond, Function::Repair),

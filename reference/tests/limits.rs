@@ -5,7 +5,6 @@ mod common;
 
 use common::*;
 use reference::answer::Ground;
-use reference::draw::draw;
 use reference::packed::{self, Answer};
 use reference::repair::{repair, Repaired};
 use reference::words::bytes_of;
@@ -79,7 +78,7 @@ fn no_sum_of_the_start_wraps() {
     let list = bytes_of(&after_setup(&[C, R]));
     for distance in 0..64 {
         let mut memory = vec![0xAA; 200];
-        let outcome = draw(&list, &mut memory, u64::MAX - distance);
+        let outcome = drawn_at(&list, &mut memory, u64::MAX - distance);
         assert_eq!(outcome, refused(Ground::OutsideMemory, 4));
         assert_eq!(memory, vec![0xAA; 200]);
     }
@@ -89,10 +88,10 @@ fn no_sum_of_the_start_wraps() {
 fn memory_that_starts_at_the_first_byte() {
     let list = bytes_of(&after_setup(&[C, R]));
     let mut memory = vec![0; 20];
-    assert_eq!(draw(&list, &mut memory, 18), Ok(5));
+    assert_eq!(drawn_at(&list, &mut memory, 18), Ok(5));
     assert_eq!(memory[..4], [0x00, 0x3F, 0xF8, 0x01]);
     assert_eq!(memory[16..], [0x00, 0x3F, 0xF8, 0x01]);
-    let outcome = draw(&list, &mut memory, 19);
+    let outcome = drawn_at(&list, &mut memory, 19);
     assert_eq!(outcome, refused(Ground::OutsideMemory, 4));
 }
 

@@ -5,6 +5,7 @@ use crate::encode::encode;
 use crate::fields::{fields_of, Field};
 use crate::kinds::{base_words, suffix_words, words, Sync};
 use crate::marks::Marks;
+use crate::registers::Registers;
 use crate::words::{bytes_of, mask, word_at};
 
 /// A list under way.
@@ -12,6 +13,8 @@ pub struct Builder<'a> {
     pub rng: &'a mut Rng,
     pub words: Vec<u64>,
     marks: Marks,
+    /// The registers after the words so far.
+    pub registers: Registers,
     /// How often, in percent, a missing sync is put in.
     pub sync_percent: u64,
     /// Whether the unused bits are random instead of zero.
@@ -26,6 +29,7 @@ impl Builder<'_> {
             rng,
             words: Vec::new(),
             marks: Marks::default(),
+            registers: Registers::default(),
             sync_percent,
             stray_bits,
         }
@@ -81,6 +85,7 @@ impl Builder<'_> {
                 *word |= self.rng.number() & !used_bits(number, place);
             }
         }
+        self.registers.run(command[0]);
         self.words.extend(command);
         self.marks = self.marks.after(number);
     }

@@ -64,6 +64,7 @@ pub struct Call {
     pub work: Lent<u8>,
     pub out: Lent<u8>,
     pub memory: Lent<u8>,
+    pub texture: Lent<u8>,
     /// How the list is fed to a record, and what becomes of it.
     pub portions: Portions,
 }
@@ -83,6 +84,7 @@ impl Call {
             work: Lent::default(),
             out: Lent::default(),
             memory: Lent::default(),
+            texture: Lent::default(),
             portions: Portions::default(),
         }
     }
@@ -93,7 +95,10 @@ impl Call {
         match self.function {
             Function::Check => side.check(list),
             Function::Repair => side.repair(list, self.work.slice_mut(), self.out.slice_mut()),
-            Function::Draw => side.draw(list, self.memory.slice_mut(), self.start),
+            Function::Draw => {
+                let (memory, texture) = (self.memory.slice_mut(), self.texture.slice_mut());
+                side.draw(list, memory, self.start, texture)
+            }
             Function::Decode => side.decode(list, self.fields.slice_mut()),
             Function::Encode => side.encode(
                 self.number,
@@ -115,6 +120,7 @@ impl Call {
             ("work", &self.work, &other.work),
             ("out", &self.out, &other.out),
             ("memory", &self.memory, &other.memory),
+            ("texture", &self.texture, &other.texture),
         ];
         let differs = |(name, left, right): (&'static str, &Lent<u8>, &Lent<u8>)| {
             left.first_difference(right).map(|place| (name, place))
@@ -152,9 +158,10 @@ impl fmt::Display for Call {
             Function::Draw => {
                 writeln!(
                     f,
-                    "memory {} bytes, start {:#x}",
+                    "memory {} bytes, start {:#x}, texture memory {} bytes",
                     self.memory.len(),
-                    self.start
+                    self.start,
+                    self.texture.len()
                 )
             }
             Function::Decode => writeln!(f, "fields {}", self.fields.len()),

@@ -8,9 +8,10 @@ use crate::comparison::lent::Lent;
 use crate::comparison::portions::Portions;
 use crate::comparison::rng::Rng;
 use crate::decode::decode;
-use crate::draw::{fills, Fill};
+use crate::draw::{works, Work};
 use crate::kinds::{commands, Command};
 use crate::repair::{least_plan, with_plan, REPAIR_LIMIT, WORK_BYTES};
+use crate::texture::TEXTURE_BYTES;
 use crate::words::WORD_BYTES;
 
 /// All calls of a case.
@@ -129,39 +130,55 @@ fn draw_call(rng: &mut Rng, list: &[u8]) -> Call {
         list: Lent::of(rng, list),
         start,
         memory: Lent::random(rng, length.min(MOST_MEMORY) as usize),
+        texture: texture_memory(rng),
         ..Call::of(Function::Draw)
     }
 }
 
-/// The first and the last address that a list's fills write, if it passes the
-/// check and grounds 10 and 11, and writes any.
+/// Texture memory, seldom of a wrong length.
+fn texture_memory(rng: &mut Rng) -> Lent<u8> {
+    let wrong = rng.pick(&[
+        0,
+        8,
+        TEXTURE_BYTES - 1,
+        TEXTURE_BYTES + 1,
+        2 * TEXTURE_BYTES,
+    ]);
+    let length = if rng.one_in(16) { wrong } else { TEXTURE_BYTES };
+    Lent::random(rng, length)
+}
+
+/// The first and the last address that a list's draws and loads write or read up to
+/// grounds 10, 11 and 17, if it passes the check and touches any.
 fn touched(list: &[u8]) -> Option<(u64, u64)> {
     check(list).outcome.ok()?;
-    let fills = fills(list, |_| true).ok()?;
-    let first = fills.iter().flat_map(Fill::addresses).min()?;
-    let last = fills.iter().flat_map(Fill::addresses).max()?;
+    let refusal = works(list, |_| None).err();
+    let end = refusal.map_or(list.len(), |refusal| refusal.place * WORD_BYTES);
+    let works = works(&list[..end], |_| None).ok()?;
+    let first = works.iter().flat_map(Work::addresses).min()?;
+    let last = works.iter().flat_map(Work::addresses).max()?;
     Some((first, last))
 }
 
-/// A start and a length for fills that write from `first` to `last`.
+/// A start and a length for draws and loads that touch bytes from `first` to `last`.
 fn memory_for(rng: &mut Rng, first: u64, last: u64) -> (u64, u64) {
     let before = first.saturating_sub(rng.below(80));
     let slack = rng.below(80);
     let near_end = u64::MAX - rng.below(100);
     let low = last < LOW_MEMORY;
-    match rng.below(24) {
+    match rng.below(40) {
         0..=5 => (first, last + 1 - first),
         6 | 7 => (first, last - first),
         8 | 9 => (first + 1, last - first),
         10 | 11 if low => (0, last + 1),
         12 if low => (0, last),
-        10..=17 => (before, last + 1 - before + slack),
         18 => (first, 0),
         19 => (before, slack),
         20 => (near_end, slack),
-        // If sums of the start wrapped, all fills would lie inside.
+        // If sums of the start wrapped, all that is touched would lie inside.
         21 | 22 if low => (near_end, last + 200),
-        _ => (rng.number(), slack),
+        21..=23 => (rng.number(), slack),
+        _ => (before, last + 1 - before + slack),
     }
 }
 

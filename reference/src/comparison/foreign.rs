@@ -6,7 +6,7 @@ use crate::record::Record;
 
 pub type Check = unsafe extern "C" fn(*const u8, usize) -> u64;
 pub type Repair = unsafe extern "C" fn(*const u8, usize, *mut u8, usize, *mut u8, usize) -> u64;
-pub type Draw = unsafe extern "C" fn(*const u8, usize, *mut u8, usize, u64) -> u64;
+pub type Draw = unsafe extern "C" fn(*const u8, usize, *mut u8, usize, u64, *mut u8, usize) -> u64;
 pub type Decode = unsafe extern "C" fn(*const u8, usize, *mut u64, usize) -> u64;
 pub type Encode =
     unsafe extern "C" fn(u32, *const u64, usize, *const u8, usize, *mut u8, usize) -> u64;
@@ -55,6 +55,8 @@ macro_rules! foreign {
                 memory: *mut u8,
                 memory_length: usize,
                 start: u64,
+                texture: *mut u8,
+                texture_length: usize,
             ) -> u64;
             fn $feed(
                 record: *mut $crate::record::Record,
@@ -110,10 +112,21 @@ impl Side for Foreign {
         unsafe { (self.repair)(list, list_length, work, work_length, out, out_length) }
     }
 
-    fn draw(&self, list: &[u8], memory: &mut [u8], start: u64) -> u64 {
+    fn draw(&self, list: &[u8], memory: &mut [u8], start: u64, texture: &mut [u8]) -> u64 {
         let (list, list_length) = (list.as_ptr(), list.len());
         let (memory, memory_length) = (memory.as_mut_ptr(), memory.len());
-        unsafe { (self.draw)(list, list_length, memory, memory_length, start) }
+        let (texture, texture_length) = (texture.as_mut_ptr(), texture.len());
+        unsafe {
+            (self.draw)(
+                list,
+                list_length,
+                memory,
+                memory_length,
+                start,
+                texture,
+                texture_length,
+            )
+        }
     }
 
     fn decode(&self, list: &[u8], fields: &mut [u64]) -> u64 {

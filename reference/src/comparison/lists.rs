@@ -3,6 +3,7 @@
 use crate::comparison::builder::Builder;
 use crate::comparison::rng::Rng;
 use crate::comparison::scenes::{scene_list, Scene, CYCLE_TYPE};
+use crate::comparison::textures::copy_list;
 
 const SET_TILE: u8 = 0x35;
 
@@ -14,13 +15,16 @@ pub fn list(rng: &mut Rng, case: u64) -> Vec<u8> {
     match case % 500 {
         0..=5 => long_list(rng),
         6..=7 => large_scene(rng),
-        8..=27 => medium_scene(rng),
+        8..=19 => medium_scene(rng),
+        20..=27 => medium_copies(rng),
         28..=49 => random_bytes(rng),
         50..=71 => random_commands(rng),
         at @ 72..=135 => one_command(rng, (at - 72) as u8),
         at @ 136..=199 => command_after_marks(rng, (at - 136) as u8),
-        200..=299 => small_scene(rng),
-        300..=339 => damaged(rng, small_scene),
+        200..=249 => small_scene(rng),
+        250..=304 => small_copies(rng),
+        305..=322 => damaged(rng, small_scene),
+        323..=339 => damaged(rng, small_copies),
         340..=389 => mixed_list(rng, 16),
         390..=419 => damaged(rng, |rng| mixed_list(rng, 8)),
         420..=459 => short_list(rng, 3),
@@ -32,6 +36,16 @@ pub fn list(rng: &mut Rng, case: u64) -> Vec<u8> {
 fn small_scene(rng: &mut Rng) -> Vec<u8> {
     let reach = rng.between(0, 12);
     scene_list(rng, reach, 16)
+}
+
+fn small_copies(rng: &mut Rng) -> Vec<u8> {
+    let reach = rng.between(0, 12);
+    copy_list(rng, reach, 16)
+}
+
+fn medium_copies(rng: &mut Rng) -> Vec<u8> {
+    let reach = rng.between(16, 48);
+    copy_list(rng, reach, 8)
 }
 
 fn medium_scene(rng: &mut Rng) -> Vec<u8> {

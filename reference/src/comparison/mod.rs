@@ -16,3 +16,4 @@ pub mod rng;
 pub mod run;
 pub mod scenes;
 pub mod side;
+pub mod textures;

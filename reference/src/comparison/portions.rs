@@ -182,7 +182,10 @@ impl Damage {
             0 => number(rng, HELD_COUNT, 180),
             1 => number(rng, TAKEN, 33_000),
             2 => number(rng, NUMBER, 31),
-            3 => vec![(HELD + rng.below(ROOM as u64) as usize, rng.number() as u8)],
+            3 => {
+                let any = rng.below(ROOM as u64) as usize;
+                vec![(HELD + rng.pick(&[any, ROOM - 1]), rng.number() as u8)]
+            }
             4 => whole_command(rng),
             5 => [number(rng, HELD_COUNT, 24), number(rng, TAKEN, 48)].concat(),
             6 => [number(rng, NUMBER, 10), number(rng, PLACE, 5_000)].concat(),

@@ -2,6 +2,7 @@
 
 use crate::comparison::builder::Builder;
 use crate::comparison::rng::Rng;
+use crate::comparison::textures::Textures;
 
 /// The greatest coordinate, in quarter pixels.
 const MOST: u64 = 4_095;
@@ -18,6 +19,7 @@ pub struct Scene {
     width: u64,
     /// Whether the scissor stays within reach, or else the rectangles.
     scissor_bounds: bool,
+    pub textures: Textures,
 }
 
 impl Scene {
@@ -26,11 +28,26 @@ impl Scene {
         let any = rng.between(1, 1_024);
         let near = 64 * rng.below(16);
         let far = rng.number() & 0x3FF_FFC0;
+        let address = rng.pick(&[0, near, near, far, 0x3FF_FFC0]);
         Scene {
             reach,
-            address: rng.pick(&[0, near, near, far, 0x3FF_FFC0]),
+            address,
             width: rng.pick(&[reach.clamp(1, 1_024), small, small, any]),
             scissor_bounds: rng.one_in(2),
+            textures: Textures::near(rng, address),
+        }
+    }
+
+    /// A scene on an image that texture images can be near to: their addresses have 24
+    /// bits.
+    pub fn low(rng: &mut Rng, reach: u64) -> Scene {
+        let far = rng.number() & 0xFF_F000;
+        let near = 64 * rng.below(16);
+        let address = rng.pick(&[0, near, near, near, far]);
+        Scene {
+            address,
+            textures: Textures::near(rng, address),
+            ..Scene::new(rng, reach)
         }
     }
 
@@ -39,7 +56,7 @@ impl Scene {
     pub fn setup(&self, builder: &mut Builder) {
         let mut setters: Vec<fn(&Scene, &mut Builder)> = vec![
             Scene::modes,
-            Scene::image,
+            Scene::any_image,
             Scene::scissor,
             Scene::fill_color,
         ];
@@ -53,7 +70,7 @@ impl Scene {
     /// One command of any kind, most often a Fill Rectangle.
     pub fn step(&self, builder: &mut Builder) {
         match builder.rng.below(40) {
-            0 | 1 => self.image(builder),
+            0 | 1 => self.any_image(builder),
             2 => self.modes(builder),
             3 => other_draw(builder),
             _ => self.fill_step(builder),
@@ -66,13 +83,13 @@ impl Scene {
             0..=17 => self.fill_rectangle(builder),
             18..=23 => self.fill_color(builder),
             24..=25 => self.scissor(builder),
-            26..=28 => builder.one_of(&[0x30, 0x33, 0x34]),
+            26..=28 => self.textures.load(builder),
             29..=30 => builder.one_of(&[0x26, 0x27, 0x28]),
             _ => builder.one_of(HARMLESS),
         }
     }
 
-    fn modes(&self, builder: &mut Builder) {
+    pub fn modes(&self, builder: &mut Builder) {
         let mut fields = builder.random_fields(0x2F);
         if !builder.rng.one_in(30) {
             fields[CYCLE_TYPE] = 3;
@@ -80,10 +97,16 @@ impl Scene {
         builder.command(0x2F, &fields);
     }
 
-    fn image(&self, builder: &mut Builder) {
+    fn any_image(&self, builder: &mut Builder) {
+        let rng = &mut *builder.rng;
+        let size = if rng.one_in(40) { 0 } else { rng.between(1, 3) };
+        self.image(builder, size);
+    }
+
+    /// An image with pixels of that size.
+    pub fn image(&self, builder: &mut Builder, size: u64) {
         let rng = &mut *builder.rng;
         let format = rng.below(8);
-        let size = if rng.one_in(40) { 0 } else { rng.between(1, 3) };
         let width = if rng.one_in(4) {
             rng.between(1, 20)
         } else {
@@ -94,7 +117,7 @@ impl Scene {
         builder.command(0x3F, &[format, size, width - 1, address]);
     }
 
-    fn scissor(&self, builder: &mut Builder) {
+    pub fn scissor(&self, builder: &mut Builder) {
         let rng = &mut *builder.rng;
         let most = if self.scissor_bounds {
             4 * self.reach
@@ -109,18 +132,23 @@ impl Scene {
         builder.command(0x2D, &[left, top, field, odd, right, bottom]);
     }
 
-    fn fill_color(&self, builder: &mut Builder) {
+    pub fn fill_color(&self, builder: &mut Builder) {
         let color = builder.rng.number() >> 32;
         builder.command(0x37, &[color]);
     }
 
-    fn fill_rectangle(&self, builder: &mut Builder) {
-        let rng = &mut *builder.rng;
+    pub fn fill_rectangle(&self, builder: &mut Builder) {
+        let corners = self.corners(builder.rng);
+        builder.command(0x36, &corners);
+    }
+
+    /// A rectangle's right, bottom, left and top.
+    pub fn corners(&self, rng: &mut Rng) -> [u64; 4] {
         let near = 4 * self.reach;
         let most = if self.scissor_bounds { MOST } else { near };
         let (left, right) = span(rng, near, most);
         let (top, bottom) = span(rng, near, most);
-        builder.command(0x36, &[right, bottom, left, top]);
+        [right, bottom, left, top]
     }
 }
 
@@ -131,10 +159,10 @@ const HARMLESS: &[u8] = &[
     0x3C, 0x3D, 0x3E,
 ];
 
-/// Now and then a triangle or a texture rectangle.
+/// Now and then a draw or a load that is not drawn.
 fn other_draw(builder: &mut Builder) {
     if builder.rng.one_in(3) {
-        builder.one_of(&[0x08, 0x0A, 0x0F, 0x24, 0x25]);
+        builder.one_of(&[0x08, 0x0A, 0x0F, 0x24, 0x25, 0x30, 0x33]);
     }
 }
 

@@ -8,7 +8,7 @@ use crate::record::Record;
 pub trait Side {
     fn check(&self, list: &[u8]) -> u64;
     fn repair(&self, list: &[u8], work: &mut [u8], out: &mut [u8]) -> u64;
-    fn draw(&self, list: &[u8], memory: &mut [u8], start: u64) -> u64;
+    fn draw(&self, list: &[u8], memory: &mut [u8], start: u64, texture: &mut [u8]) -> u64;
     fn decode(&self, list: &[u8], fields: &mut [u64]) -> u64;
     fn encode(&self, number: u32, fields: &[u64], suffix: &[u8], out: &mut [u8]) -> u64;
     fn words(&self, first_word: u64) -> u64;
@@ -29,8 +29,8 @@ impl Side for Reference {
         packed::repair(list, work, out)
     }
 
-    fn draw(&self, list: &[u8], memory: &mut [u8], start: u64) -> u64 {
-        packed::draw(list, memory, start)
+    fn draw(&self, list: &[u8], memory: &mut [u8], start: u64, texture: &mut [u8]) -> u64 {
+        packed::draw(list, memory, start, texture)
     }
 
     fn decode(&self, list: &[u8], fields: &mut [u64]) -> u64 {

@@ -6,6 +6,7 @@ use reference::check::check;
 use reference::draw::draw;
 use reference::kinds::words;
 use reference::repair::{repair, Repaired};
+use reference::texture::TEXTURE_BYTES;
 use reference::words::bytes_of;
 
 pub const MODES: u64 = 0x2F30_0000_0000_0000;
@@ -76,8 +77,13 @@ pub fn repaired(words: &[u64]) -> (Vec<u8>, u32) {
 /// Draws on memory of zeros that starts at address 0.
 pub fn drawn(words: &[u64], length: usize) -> ((u8, usize), Vec<u8>) {
     let mut memory = vec![0; length];
-    let outcome = draw(&bytes_of(words), &mut memory, 0);
+    let outcome = drawn_at(&bytes_of(words), &mut memory, 0);
     (answer(outcome), memory)
+}
+
+/// Draws with texture memory of zeros.
+pub fn drawn_at(list: &[u8], memory: &mut [u8], start: u64) -> Result<usize, Refusal> {
+    draw(list, memory, start, &mut [0; TEXTURE_BYTES])
 }
 
 pub fn refused<T>(ground: Ground, place: usize) -> Result<T, Refusal> {

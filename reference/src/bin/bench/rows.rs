@@ -6,6 +6,7 @@ use crate::lists::{self, Pixels, Rectangle, HEIGHT, WIDTH};
 use crate::versions::Version;
 use reference::comparison::side::Side;
 use reference::record::NUMBERS;
+use reference::texture::TEXTURE_BYTES;
 
 pub enum Job {
     Check,
@@ -32,7 +33,10 @@ impl Row {
             Job::Registers => (version.registers)(&self.list),
             Job::Stream(portion) => stream(side, &self.list, portion),
             Job::Repair => side.repair(&self.list, &mut buffers.work, &mut buffers.out),
-            Job::Draw(_) => side.draw(&self.list, buffers.memory(), 0),
+            Job::Draw(_) => {
+                let (memory, texture) = buffers.drawn();
+                side.draw(&self.list, memory, 0, texture)
+            }
         }
     }
 }
@@ -52,6 +56,7 @@ pub struct Buffers {
     pub work: Vec<u8>,
     pub out: Vec<u8>,
     memory: Vec<Line>,
+    texture: Vec<u8>,
 }
 
 /// A part of memory that starts where a cache line does, as pictures do.
@@ -70,13 +75,20 @@ impl Buffers {
             work: vec![0xA5; 2 * row.list.len()],
             out: vec![0xA5; 2 * row.list.len()],
             memory: vec![Line([0; 64]); MEMORY / 64],
+            texture: vec![0; TEXTURE_BYTES],
         }
     }
 
     pub fn memory(&mut self) -> &mut [u8] {
+        self.drawn().0
+    }
+
+    /// What drawing writes: memory, and texture memory.
+    fn drawn(&mut self) -> (&mut [u8], &mut [u8]) {
         let lines = self.memory.as_mut_ptr();
         // A line is 64 bytes and nothing else.
-        unsafe { std::slice::from_raw_parts_mut(lines.cast(), MEMORY) }
+        let memory = unsafe { std::slice::from_raw_parts_mut(lines.cast(), MEMORY) };
+        (memory, &mut self.texture)
     }
 }
 
