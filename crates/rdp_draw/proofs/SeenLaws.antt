@@ -17,7 +17,7 @@ use Rattle.rdp_command.specs.Decode.{decodeOf}
 use Rattle.rdp_command.specs.Reads.{rectangleIn, fillFields}
 use Rattle.rdp_command.specs.declared.FillFields.{FillFields}
 use Rattle.rdp_command.specs.declared.Command.{Command}
-use Rattle.rdp_command.specs.declared.Command.the-variants.{NoOperation, FillTriangle, TextureRectangle, TextureRectangleFlip, SyncLoad, SyncPipe, SyncTile, SyncFull, SetKeyGb, SetKeyR, SetConvert, SetScissor, SetPrimitiveDepth, SetOtherModes, LoadTlut, SetTileSize, LoadBlock, LoadTile, SetTile, FillRectangle, SetFillColor, SetFogColor, SetBlendColor, SetPrimitiveColor, SetEnvironmentColor, SetCombineMode, SetTextureImage, SetDepthImage, SetColorImage}
+use Rattle.rdp_command.specs.declared.Command.the-variants.{NoOperation, FillTriangle, TextureRectangle, TextureRectangleFlip, SyncLoad, SyncPipe, SyncTile, SyncFull, SetKeyGb, SetKeyR, SetConvert, SetScissor, SetPrimitiveDepth, SetOtherModes, LoadTlut, SetTileSize, LoadBlock, LoadTile, SetTile, FillRectangle, SetFillColor, SetFogColor, SetBlendColor, SetPrimitiveColor, SetEnvironmentColor, SetCombineMode, SetTextureImage, SetDepthImage, SetColorImage, Unassigned}
 use Rattle.rdp_words.proofs.Tests.{by-test, false-of}
 use Rattle.rdp_words.proofs.KindLaws.{among-by, draws-among, draw-numbers, by-kinds, words-of-kind}
 use Rattle.rdp_words.proofs.PlaceLaws.{number-small, some-words}
@@ -98,6 +98,7 @@ no-act r (SetCombineMode g) e = refl
 no-act r (SetTextureImage g) e = refl
 no-act r (SetDepthImage g) e = refl
 no-act r (SetColorImage g) e = refl
+no-act r (Unassigned g) e = refl
 
 module _ (file c : List ℕ) (there : wholeWords c ≡ 0 → ⊥) where
   abbrev n : ℕ
