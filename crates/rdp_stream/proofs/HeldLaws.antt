@@ -6,14 +6,14 @@ use Prim.Native.Nat.{ℕ, zero, suc, _+_, _*_, _-_, _/_, _%_, _≤_, _<_}
 use native.Mathlib.Nat.{sub-zero, zero-sub, suc-sub-suc}
 use native.Mathlib.Omega.{arith}
 use native.Mathlib.Numerals.{add-one}
-use borrow.Author.Tests.{eq-eqb, ne-eqb, eqb-true, le-ltb, ltb-true, ltb-false}
+use borrow.Author.Tests.{eq-eqb, ne-eqb, eqb-true, lt-ltb, le-ltb, ltb-true, ltb-false}
 use lib.Dec.{eqb, ltb}
 use lib.ListN.{length, getD, take, drop, replicate, drop-of-length-le, length-drop}
 use lib.Seq.{drop-cons, drop-drop, take-all, length-take-le, paste}
 use Rattle.rdp_words.specs.Words.{halfOf, wordOf, wordAt, pasted}
 use Rattle.rdp_words.specs.Kinds.{among}
 use Rattle.rdp_words.specs.Lengths.{wholeWords}
-use Rattle.rdp_words.proofs.Tests.{and-true, true-of, neither, below, by-test}
+use Rattle.rdp_words.proofs.Tests.{and-true, true-of, neither, below, by-test, same, same-bool}
 use Rattle.rdp_words.proofs.WordLaws.{word-whole}
 use Rattle.rdp_words.proofs.OverwriteLaws.{pasted-is}
 use Rattle.rdp_check.specs.Order.{ground, firstOf}
@@ -139,7 +139,7 @@ unknown n =
     (λ f.
     let over : 20 ≤ n = ltb-false n 20 f in
     by-test (among n remembered) (λ m. let few : n < 20 = among-below 20 n remembered tt (rw m tt) in absurd (omega arith))
-    (λ m. rw (lt-ltb 9 n (omega arith), ne-eqb n 19 (λ e. omega arith), m)))
+    (λ m. rw (m, lt-ltb 9 n (omega arith), ne-eqb n 19 (λ e. omega arith))))
 
 -- the reasons in their order: the count, the bytes, the numbers
 any-of : (a b c d e f g h : Bool) → eqb (firstOf (ground 28 a ∷ ground 28 b ∷ ground 28 c ∷ ground 28 d ∷ ground 28 e ∷ ground 28 f ∷ ground 28 g ∷ ground 28 h ∷ []) 0) 28 ≡ a || ((b || c) || (d || (e || (f || (g || h)))))
