@@ -1,4 +1,5 @@
-# How a studio's image takes Lanyardrove in. It was never run: no Docker is at hand where the library is made.
+# How a studio's image takes Lanyardrove in. No Docker is at hand where the library is made: `make dockerfile` runs these steps in a root that
+# debootstrap makes.
 #
 # The archive is built outside, because the Rattle toolchain that proves and compiles it is no Debian package:
 #     make && make install DESTDIR=build/installed PREFIX=/usr

@@ -865,9 +865,9 @@ uint64_t plain_registers(const uint8_t *list, size_t list_length)
     return join(number ^ place << 32 ^ mixed, mixed_colors(&all), mixed_combiner(&all), mixed_modes(&all), mixed_images(&all));
 }
 
-/* Lists in portions (request #103). The record has the library's layout, but for the order of the registers' words. */
+/* Lists in portions (requests #103 and #105). The record has the library's layout, but for the order of the registers' words. */
 
-enum { MOST_TAKEN = 32768, ROOM = 176, NO_SLOT = 32 };
+enum { MOST_TAKEN = 32768, ROOM = 176, MOST_WAITED = 204800, NO_SLOT = 32 };
 
 struct plain_stream {
     uint64_t words[32]; /* the words that last set the registers; 0 where none has come */
@@ -878,12 +878,14 @@ struct plain_stream {
     uint32_t place;
     uint8_t hazards;
     uint8_t ended;
+    uint16_t spare;
+    uint32_t waited; /* the cycles of the accepted commands' syncs */
 };
 
 /* Where the word of a setter goes: the scissor, the modes and the colour image in front, eight slots for tiles and eight for their sizes. */
 enum { SCISSOR_SLOT, MODES_SLOT, IMAGE_SLOT, OTHER_SLOTS, TILE_SLOTS = 15, SIZE_SLOTS = 23 };
 
-static uint8_t slots[64];
+static uint8_t slots[64], waits[64];
 
 static bool sets_size(unsigned number)
 {
@@ -905,6 +907,12 @@ __attribute__((constructor)) static void fill_slots(void)
         else if (slots[number] != NO_SLOT)
             slots[number] = next++;
     }
+}
+
+__attribute__((constructor)) static void fill_waits(void)
+{
+    for (unsigned option = 1; option < 4; option++)
+        waits[option_sync[option]] = option_cycles[option];
 }
 
 static void store(uint64_t words[32], unsigned number, const uint8_t *command)
@@ -947,6 +955,7 @@ static bool settle(struct plain_stream *stream, const uint8_t *command, unsigned
     store(stream->words, number, command);
     stream->hazards = step & 15;
     stream->ended = number == SYNC_FULL;
+    stream->waited += waits[number];
     stream->taken += 8 * words_in(number);
     return true;
 }
@@ -1000,7 +1009,7 @@ static void take(struct plain_stream *stream, const uint8_t *portion, size_t len
 
 static bool is_damaged(const struct plain_stream *stream)
 {
-    if (stream->held_count >= ROOM || stream->number > 9)
+    if (stream->held_count >= ROOM || stream->number > 9 || stream->waited > MOST_WAITED)
         return true;
     for (size_t at = stream->held_count; at < ROOM; at++)
         if (stream->held[at] != 0)
@@ -1012,8 +1021,8 @@ static bool is_damaged(const struct plain_stream *stream)
 static uint64_t told(const struct plain_stream *stream)
 {
     if (stream->number != 0)
-        return answer(stream->number, 0, stream->place);
-    return answer(0, 0, (stream->taken - stream->held_count) / 8);
+        return answer(stream->number, stream->waited, stream->place);
+    return answer(0, stream->waited, (stream->taken - stream->held_count) / 8);
 }
 
 uint64_t plain_stream_feed(struct plain_stream *stream, const uint8_t *portion, size_t portion_length)

@@ -5,8 +5,8 @@
 #include <stddef.h>
 #include <stdint.h>
 
-/* Every answer is one number: bits 63:56 the number of the refusal or 0, bits 55:32 the cause of a check or the cycles of a repair,
-   bits 31:0 the place. */
+/* Every answer is one number: bits 63:56 the number of the refusal or 0, bits 55:32 the cause of a check, the cycles of a repair or
+   those that a stream has waited, bits 31:0 the place. */
 uint64_t plain_check(const uint8_t *list, size_t list_length);
 uint64_t plain_repair(const uint8_t *list, size_t list_length, uint8_t *work, size_t work_length, uint8_t *out, size_t out_length);
 uint64_t plain_draw(const uint8_t *list, size_t list_length, uint8_t *memory, size_t memory_length, uint64_t start);

@@ -51,6 +51,10 @@ int run_check(const Arguments *arguments)
 {
     const Format *format = arguments->format != NULL ? arguments->format : &formats[0];
     Tally tally = { 0 };
+    if (arguments->quiet && arguments->verbose) {
+        complain("check has one of --quiet and --verbose");
+        return usage_error(arguments->command);
+    }
     for (int i = 0; i < arguments->count; i++)
         check_file(arguments, format, arguments->paths[i], &tally);
     if (!format->end(arguments, &tally) || tally.unread > 0)

@@ -54,9 +54,15 @@ const char *reason_of(unsigned number);
 
 /* -- source.c: the bytes of a list where they are ----------------------- */
 
+/* A number that an option gives. */
 typedef struct {
-    uint64_t offset, length;
-    bool has_length, swap, hex;
+    bool is_given;
+    uint64_t value;
+} Number;
+
+typedef struct {
+    Number offset, length;
+    bool swap, hex;
 } Input;
 
 /* The file that a list is read from, and how far. */
@@ -114,8 +120,33 @@ bool is_named(unsigned number);
 const char *command_name(unsigned number);
 const char *name_at(const List *list, size_t place);
 const char *field_name(unsigned number, size_t field);
-void field_value(const Command *command, size_t field, char *text, size_t room);
 const char *suffix_name(const Command *command, size_t word);
+
+/* How a field is shown. */
+typedef enum {
+    PLAIN,      /* a number */
+    QUARTER,    /* quarter pixels or texels */
+    PARTS_32,   /* parts of 32 */
+    PARTS_1024, /* parts of 1,024 */
+    FIXED,      /* the integer part of a number; its fraction, in parts of 65,536, is the next field */
+    HEX,
+    COLOUR, /* in eight digits */
+    FORMAT, /* of texels or pixels */
+    SIZE,   /* of texels or pixels */
+    CYCLE,  /* the cycle type */
+    LESS_ONE /* one less than the size */
+} Style;
+
+Style field_style(unsigned number, size_t field);
+
+/* -- shown.c: fields as they are shown ----------------------------------- */
+
+typedef struct {
+    char name[32], value[96];
+    bool is_zero; /* all of its bits are */
+} Shown;
+
+bool next_shown(const Command *command, size_t *at, Shown *shown);
 
 /* -- hint.c -------------------------------------------------------------- */
 
@@ -127,6 +158,10 @@ void hint_swapped(const char *path, const List *list, const Input *input);
 unsigned hazards_after(unsigned hazards, const Command *command);
 const char *hazard_name(unsigned bit);
 void hazards_text(unsigned hazards, char *text, size_t room);
+
+/* -- cycles.c: the cycles that the syncs of a list wait ----------------- */
+
+uint32_t cycles_waited(const List *list);
 
 /* -- repaired.c: the repair, and the syncs that it inserted ------------- */
 
@@ -140,10 +175,12 @@ typedef struct {
     List list;
     Insertion *inserted;
     size_t count;
+    uint32_t before, after; /* the cycles that the given list waits, and the repaired one */
 } Repaired;
 
 bool repaired_of(const List *list, Repaired *repaired);
 size_t given_place(const Repaired *repaired, size_t place);
+void inserted_text(const Repaired *repaired, bool done, char *text, size_t room);
 void repaired_free(Repaired *repaired);
 
 /* -- picture.c: the picture in memory ----------------------------------- */
@@ -163,6 +200,7 @@ bool image_of_list(const List *list, Image *image);
 size_t image_length(const Image *image);
 bool image_inside(const Image *image, const Memory *memory);
 void image_text(const Image *image, char *text, size_t room);
+void pixel_rgb(const uint8_t *pixel, uint32_t bits, uint8_t *rgb);
 uint8_t *image_rgb(const Image *image, const Memory *memory);
 uint8_t *image_png(const Image *image, const uint8_t *rgb, size_t *length);
 uint8_t *image_ppm(const Image *image, const uint8_t *rgb, size_t *length);
@@ -195,8 +233,9 @@ typedef struct {
     int count;
     Input input;
     const char *output; /* NULL where -o is not given */
-    bool help, quiet, failures, all, dry, in_place, has_memory, has_image;
+    bool help, brief, quiet, verbose, failures, all, dry, in_place, has_memory, has_image;
     const struct Format *format; /* of what check tells */
+    Number from, to, around; /* places that dump shows */
     uint64_t memory, start;
     Image image;
 } Arguments;
@@ -219,7 +258,8 @@ typedef struct {
     const char *name;
     char letter;       /* 0 where it has none */
     const char *value; /* what the help calls its value; NULL where it takes none */
-    bool (*set)(Arguments *arguments, const char *value); /* false where the value is wrong; NULL for the help */
+    bool (*set)(void *member, const char *value); /* false where the value is wrong */
+    size_t member;        /* what it sets, in bytes from the start of the arguments */
     const char *expected; /* what a value that is wrong is not */
     const char *text;     /* what the help says, in lines */
 } Option;

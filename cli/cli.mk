@@ -3,6 +3,7 @@
 #   make cli-test                  runs the tool as a user would; the report is opened in Chromium unless CLI_NO_BROWSER=1
 #   make install PREFIX= DESTDIR=  the archive, header, files for pkg-config and CMake, tool, manual page and completion
 #   make uninstall PREFIX= DESTDIR=
+#   make dockerfile                runs the steps of the Dockerfile, as root, with debootstrap
 #   make deb                       build/lanyardrove_VERSION_amd64.deb, a Debian package of the same
 
 PREFIX ?= /usr/local
@@ -18,7 +19,7 @@ CLI_FLAGS = -std=c11 -pedantic $(WARNINGS) -Iinclude $(shell $(PKG_CONFIG) --cfl
 CLI_OBJECTS = $(patsubst cli/%.c,$(CLI_BUILD)/cli/%.o,$(sort $(wildcard cli/*.c)))
 CLI_TOOL = $(CLI_BUILD)/lanyardrove
 
-.PHONY: cli cli-libraries cli-test install uninstall deb
+.PHONY: cli cli-libraries cli-test install uninstall deb dockerfile
 
 cli: $(CLI_TOOL)
 
@@ -69,6 +70,12 @@ endef
 install: $(CLI_TOOL)
 	@$(CLI_PREFIX_CHECK)
 	$(call cli_install,$(DESTDIR),$(PREFIX))
+
+# The steps of the Dockerfile, in a root that debootstrap makes; outside the gate, since it fetches a whole system.
+dockerfile: $(CLI_TOOL)
+	rm -rf build/installed
+	$(call cli_install,build/installed,/usr)
+	bash tools/dockerfile
 
 # A Debian package. It depends on the packages that the tool's libraries are of, here where it is built.
 CLI_DEB = $(CLI_BUILD)/deb

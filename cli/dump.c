@@ -7,11 +7,14 @@
 #include <string.h>
 #include <unistd.h>
 
-#define WIDTH 80 /* columns of the lines that are broken */
+#define WIDTH 80  /* columns of the lines that are broken */
+#define AROUND 8 /* commands before and after one */
 
 typedef struct {
+    const Arguments *arguments;
     bool colour;
     const List *list;
+    size_t first, last; /* the places that are shown */
 } Dump;
 
 #define RED "\033[1;31m"
@@ -26,24 +29,28 @@ static const char *style(const Dump *dump, const char *code)
     return dump->colour ? code : "";
 }
 
-/* The fields, several to a line. */
+/* The fields, several to a line; with --brief those that are not 0. */
 static void print_fields(const Dump *dump, const Command *command)
 {
-    size_t column = 0;
+    size_t column = 0, at = 0;
+    Shown shown;
     fputs(style(dump, DIM), stdout);
-    for (size_t i = 0; i < command->count; i++) {
-        char value[64], text[128];
-        field_value(command, i, value, sizeof value);
-        int length = snprintf(text, sizeof text, "%s=%s%s", field_name(command->number, i), value, i + 1 < command->count ? "," : "");
-        if (column == 0 || column + (size_t)length + 1 > WIDTH) {
-            printf("%s        %s", column > 0 ? "\n" : "", text);
-            column = 8 + (size_t)length;
-        } else {
-            printf(" %s", text);
-            column += (size_t)length + 1;
-        }
+    while (next_shown(command, &at, &shown)) {
+        size_t length = strlen(shown.name) + strlen(shown.value) + 2;
+        if (dump->arguments->brief && shown.is_zero)
+            continue;
+        bool breaks = column == 0 || column + 1 + length > WIDTH;
+        printf("%s%s", column == 0 ? "" : ",", breaks ? column > 0 ? "\n        " : "        " : " ");
+        printf("%s=%s", shown.name, shown.value);
+        column = (breaks ? 7 : column) + length + 1;
     }
     printf("%s%s", column > 0 ? "\n" : "", style(dump, RESET));
+}
+
+/* Place, byte in the file, and the word there. */
+static void print_word(const Dump *dump, size_t place)
+{
+    printf("%6zu  %06" PRIX64 "  %016" PRIX64, place, dump->arguments->input.offset.value + 8 * place, word_at(dump->list->bytes, place));
 }
 
 /* The further words of a command; those after a triangle's base are named. */
@@ -51,7 +58,7 @@ static void print_further_words(const Dump *dump, const Command *command)
 {
     size_t left = dump->list->length / 8 - command->place;
     for (size_t i = 1; i < command->words && i < left; i++) {
-        printf("%6zu  %016" PRIX64, command->place + i, word_at(dump->list->bytes, command->place + i));
+        print_word(dump, command->place + i);
         if (i >= 4)
             printf("    %s", suffix_name(command, i - 4));
         putchar('\n');
@@ -103,8 +110,8 @@ static void print_command(const Dump *dump, const Command *command, unsigned bef
     bool causes = is_missing_sync(dump->list->verdict) && command->place == dump->list->verdict.third;
     char hazards[64];
     hazards_text(before, hazards, sizeof hazards);
-    printf("%6zu  %016" PRIX64 "  %s%-24s%s  hazards: %s\n", command->place, word_at(dump->list->bytes, command->place),
-           style(dump, refused ? RED : causes ? YELLOW : BOLD), command_name(command->number), style(dump, RESET), hazards);
+    print_word(dump, command->place);
+    printf("  %s%-22s%s  hazards: %s\n", style(dump, refused ? RED : causes ? YELLOW : BOLD), command_name(command->number), style(dump, RESET), hazards);
     if (refused)
         print_refusal(dump);
     if (causes)
@@ -117,16 +124,20 @@ static void print_command(const Dump *dump, const Command *command, unsigned bef
 /* What is left after the last word. */
 static void print_rest(const Dump *dump)
 {
-    if (goes_on(dump->list))
-        printf("        the list goes on after %zu bytes, which is all that is shown\n", dump->list->limit);
-    else if (dump->list->length % 8 != 0) {
-        printf("%6zu  ", dump->list->length / 8);
-        for (size_t i = dump->list->length / 8 * 8; i < dump->list->length; i++)
-            printf("%02X", dump->list->bytes[i]);
+    const List *list = dump->list;
+    if (list->length / 8 > dump->last)
+        return;
+    if (goes_on(list))
+        printf("        the list goes on after %zu bytes, which is all that is shown\n", list->limit);
+    else if (list->length % 8 != 0) {
+        printf("%6zu  %06" PRIX64 "  ", list->length / 8, dump->arguments->input.offset.value + list->length / 8 * 8);
+        for (size_t i = list->length / 8 * 8; i < list->length; i++)
+            printf("%02X", list->bytes[i]);
         printf("  no whole word\n");
     }
 }
 
+/* The hazards go on along the whole list, whatever is shown of it. */
 static void print_list(const Dump *dump)
 {
     Command command;
@@ -135,12 +146,29 @@ static void print_list(const Dump *dump)
     print_answer(stdout, dump->list, dump->list->verdict, FOR_CHECK);
     fputs(style(dump, RESET), stdout);
     if (dump->list->length >= 8)
-        printf("\n place  word              command\n");
+        printf("\n place    byte  word              command\n");
     for (size_t place = 0; command_at(dump->list, place, &command); place += command.words) {
-        print_command(dump, &command, hazards);
+        if (place + command.words > dump->first && place <= dump->last)
+            print_command(dump, &command, hazards);
         hazards = hazards_after(hazards, &command);
     }
     print_rest(dump);
+}
+
+/* The commands around one: so many before it, and as many after. False where no command has a word at the place. */
+static bool find_around(Dump *dump, uint64_t around)
+{
+    Command command;
+    size_t before[AROUND + 1] = { 0 }, count = 0, after = 0;
+    for (size_t place = 0; command_at(dump->list, place, &command) && after <= AROUND; place += command.words) {
+        bool passed = place + command.words > around;
+        if (!passed || after == 0)
+            before[count++ % (AROUND + 1)] = place;
+        dump->last = place;
+        after += passed;
+    }
+    dump->first = before[count > AROUND ? count % (AROUND + 1) : 0];
+    return after > 0;
 }
 
 /* Colour where the output is a terminal that has it, and NO_COLOR is unset or empty, as no-color.org has it. */
@@ -153,11 +181,21 @@ static bool wants_colour(void)
 int run_dump(const Arguments *arguments)
 {
     List list;
+    if (arguments->around.is_given && (arguments->from.is_given || arguments->to.is_given)) {
+        complain("dump has --around, or --from and --to");
+        return usage_error(arguments->command);
+    }
     if (!list_read(arguments->paths[0], &list, &to_show, &arguments->input))
         return STATUS_ERROR;
-    Dump dump = { wants_colour(), &list };
-    print_list(&dump);
-    hint_swapped(arguments->paths[0], &list, &arguments->input);
+    Dump dump = { arguments, wants_colour(), &list, (size_t)arguments->from.value, arguments->to.is_given ? (size_t)arguments->to.value : SIZE_MAX };
+    int status = STATUS_ERROR;
+    if (arguments->around.is_given && !find_around(&dump, arguments->around.value))
+        complain("%s: no command has word %" PRIu64, arguments->paths[0], arguments->around.value);
+    else {
+        print_list(&dump);
+        hint_swapped(arguments->paths[0], &list, &arguments->input);
+        status = status_of(list.verdict);
+    }
     list_free(&list);
-    return status_of(list.verdict);
+    return status;
 }

@@ -76,9 +76,10 @@ void json_tell(const Arguments *arguments, const Checked *checked)
     if (list == NULL)
         tell(json_pack("{s:o, s:s}", "file", json_text(checked->path), "verdict", "unread"));
     else
-        tell(json_pack("{s:o, s:s, s:i, s:I, s:b, s:o}", "file", json_text(checked->path), "verdict",
+        tell(json_pack("{s:o, s:s, s:i, s:I, s:I, s:b, s:o}", "file", json_text(checked->path), "verdict",
                        is_accepted(list->verdict) ? "accepted" : "refused", "number", (int)list->verdict.number, "place",
-                       (json_int_t)list->verdict.place, "empty", list->length == 0, "findings", findings_json(checked)));
+                       (json_int_t)list->verdict.place, "cycles", (json_int_t)cycles_waited(list), "empty", list->length == 0, "findings",
+                       findings_json(checked)));
 }
 
 bool json_end(const Arguments *arguments, const Tally *tally)
@@ -110,7 +111,7 @@ static json_t *uri_json(const char *path)
 static json_t *location_json(const Arguments *arguments, const char *path, size_t place, const char *text)
 {
     json_t *location = json_pack("{s:{s:{s:o}, s:{s:I, s:i}}}", "physicalLocation", "artifactLocation", "uri", uri_json(path), "region", "byteOffset",
-                                 (json_int_t)(arguments->input.offset + 8 * place), "byteLength", 8);
+                                 (json_int_t)(arguments->input.offset.value + 8 * place), "byteLength", 8);
     if (location != NULL && text != NULL)
         json_object_set_new(location, "message", json_pack("{s:s}", "text", text));
     return location;

@@ -5,8 +5,13 @@
 
 /* -- text: `number place`, and what it means ---------------------------- */
 
-/* With several lists each answer has one line, with the list's name. */
-static void print_answer_line(const Arguments *arguments, const Checked *checked, Answer answer)
+static void print_cycles(const List *list)
+{
+    printf(is_accepted(list->verdict) ? "; the list waits %u cycles" : "; the syncs before the refusal wait %u cycles", (unsigned)cycles_waited(list));
+}
+
+/* With several lists each answer has one line, with the list's name. The verdict comes first, and has the cycles. */
+static void print_answer_line(const Arguments *arguments, const Checked *checked, Answer answer, bool first)
 {
     Meaning meaning = meaning_of(checked->list, answer, FOR_CHECK);
     printf("%u %u", answer.number, (unsigned)answer.place);
@@ -16,6 +21,8 @@ static void print_answer_line(const Arguments *arguments, const Checked *checked
     }
     if (!arguments->quiet)
         printf("%s%s", arguments->count > 1 ? ": " : "\n", meaning.text);
+    if (arguments->verbose && first)
+        print_cycles(checked->list);
     putchar('\n');
 }
 
@@ -34,10 +41,10 @@ void text_tell(const Arguments *arguments, const Checked *checked)
     if (checked->list == NULL)
         print_unread(arguments, checked->path);
     else if (is_accepted(checked->list->verdict))
-        print_answer_line(arguments, checked, checked->list->verdict);
+        print_answer_line(arguments, checked, checked->list->verdict, true);
     else
         for (size_t i = 0; i < checked->findings->count; i++)
-            print_answer_line(arguments, checked, checked->findings->answers[i]);
+            print_answer_line(arguments, checked, checked->findings->answers[i], i == 0);
 }
 
 bool text_end(const Arguments *arguments, const Tally *tally)

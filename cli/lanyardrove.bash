@@ -10,10 +10,10 @@ _lanyardrove()
         return
     fi
     case ${COMP_WORDS[1]} in
-    check) options="-q --quiet --failures --all --format $input" ;;
+    check) options="-q --quiet -v --verbose --failures --all --format $input" ;;
     repair) options="--check -i --in-place -o --output $input" ;;
     report) options="-o --output $input" ;;
-    dump) options="$input" ;;
+    dump) options="--brief --from --to --around $input" ;;
     help) mapfile -t COMPREPLY < <(compgen -W "check repair dump draw report" -- "$current"); return ;;
     draw) options="--memory --start --image -o --output $input" ;;
     *) return ;;
@@ -21,7 +21,7 @@ _lanyardrove()
     case $previous in
     --memory) mapfile -t COMPREPLY < <(compgen -W "64K 1M 4M 8M" -- "$current"); return ;;
     --format) mapfile -t COMPREPLY < <(compgen -W "text gcc github json sarif" -- "$current"); return ;;
-    --start|--image|--offset|--length) return ;;
+    --start|--image|--offset|--length|--from|--to|--around) return ;;
     esac
     if [[ $current == -* ]]; then
         mapfile -t COMPREPLY < <(compgen -W "$options" -- "$current")

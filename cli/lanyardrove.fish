@@ -9,12 +9,18 @@ complete -c lanyardrove -n "not __fish_seen_subcommand_from $commands help" -s V
 complete -c lanyardrove -n "__fish_seen_subcommand_from help" -f -a "$commands"
 
 complete -c lanyardrove -n "__fish_seen_subcommand_from check" -s q -l quiet -d "number and place alone"
+complete -c lanyardrove -n "__fish_seen_subcommand_from check" -s v -l verbose -d "the cycles waited too"
 complete -c lanyardrove -n "__fish_seen_subcommand_from check" -l failures -d "leave out accepted lists"
 complete -c lanyardrove -n "__fish_seen_subcommand_from check" -l all -d "every missing sync"
 complete -c lanyardrove -n "__fish_seen_subcommand_from check" -l format -x -a "text gcc github json sarif"
 
 complete -c lanyardrove -n "__fish_seen_subcommand_from repair" -l check -d "write nothing"
 complete -c lanyardrove -n "__fish_seen_subcommand_from repair" -s i -l in-place -d "write each list over itself"
+
+complete -c lanyardrove -n "__fish_seen_subcommand_from dump" -l brief -d "leave out fields that are 0"
+complete -c lanyardrove -n "__fish_seen_subcommand_from dump" -l from -x
+complete -c lanyardrove -n "__fish_seen_subcommand_from dump" -l to -x
+complete -c lanyardrove -n "__fish_seen_subcommand_from dump" -l around -x
 
 complete -c lanyardrove -n "__fish_seen_subcommand_from draw" -l memory -x -a "64K 1M 4M 8M"
 complete -c lanyardrove -n "__fish_seen_subcommand_from draw" -l start -x

@@ -11,9 +11,9 @@ _lanyardrove()
         return
     fi
     case $words[2] in
-    check) options=(-q --quiet --failures --all '--format=:form:(text gcc github json sarif)') ;;
+    check) options=(-q --quiet -v --verbose --failures --all '--format=:form:(text gcc github json sarif)') ;;
     repair) options=(--check -i --in-place '-o:output:_files' '--output=:output:_files') ;;
-    dump) options=() ;;
+    dump) options=(--brief '--from=:place:' '--to=:place:' '--around=:place:') ;;
     draw) options=('--memory=:bytes:(64K 1M 4M 8M)' '--start=:address:' '--image=:image:' '-o:output:_files' '--output=:output:_files') ;;
     report) options=('-o:output:_files' '--output=:output:_files') ;;
     help) compadd -- $commands; return ;;

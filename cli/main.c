@@ -17,13 +17,14 @@ static const Entry entries[] = {
     { OF_REPAIR, "repair", run_repair, INT_MAX,
       "repair FILE [-o OUT], or repair --in-place|--check FILE..\n"
       "Writes the list with the syncs inserted that it misses, at the fewest cycles,\n"
-      "and says which sync stands before which command. Without -o the list goes to\n"
-      "standard output and the text to standard error. Nothing is written where the\n"
-      "list is refused for another reason than a missing sync." },
+      "and says which sync stands before which command, and the cycles that the list\n"
+      "waits before and after. Without -o the list goes to standard output and the\n"
+      "text to standard error. Nothing is written where the list is refused for another\n"
+      "reason than a missing sync." },
     { OF_DUMP, "dump", run_dump, 1,
-      "dump FILE\n"
-      "Shows the verdict, then the list command by command: place, words, name, the\n"
-      "hazards before it (pipe, tile, draw, load) and every field. At the refused\n"
+      "dump [OPTION].. FILE\n"
+      "Shows the verdict, then the list command by command: place, byte, words, name,\n"
+      "the hazards before it (pipe, tile, draw, load) and every field. At the refused\n"
       "command stands why, and the command that it has to wait for is marked. After it\n"
       "the hazards go on as if it had run." },
     { OF_DRAW, "draw", run_draw, 1,
@@ -33,10 +34,10 @@ static const Entry entries[] = {
       "decimal, or hexadecimal after 0x." },
     { OF_REPORT, "report", run_report, 1,
       "report FILE -o OUT\n"
-      "Writes a page in HTML, which needs no other file: the verdict, the hazards\n"
-      "along the list, the syncs that a repair would insert, the picture if it can be\n"
-      "drawn, and the commands, with links to the refused one and to the one that it\n"
-      "has to wait for. It is written for a refused list too." }
+      "Writes a page in HTML, which needs no other file: the verdict with the cycles\n"
+      "waited, the hazards along the list, the syncs that a repair would insert, the\n"
+      "picture if it can be drawn, and the commands, with links to the refused one and\n"
+      "to the one that it has to wait for. It is written for a refused list too." }
 };
 
 static void print_version(void)

@@ -1,20 +1,6 @@
 /* The names of commands and fields as the N64brew wiki (document 000) has them, fields in the order of its bit lists. */
 #include "cli.h"
 
-#include <inttypes.h>
-
-typedef enum {
-    PLAIN,   /* a number */
-    SIGNED,  /* a signed number */
-    QUARTER, /* quarter pixels or texels */
-    SIGNED_QUARTER,
-    HEX,
-    FORMAT, /* of texels or pixels */
-    SIZE,   /* of texels or pixels */
-    CYCLE,  /* the cycle type */
-    LESS_ONE /* one less than the size */
-} Style;
-
 typedef struct {
     const char *name;
     Style style;
@@ -27,17 +13,17 @@ static const Field none[] = { { NULL, PLAIN } };
 static const Field triangle[] = {
     AT(TRIANGLE_SHADE, "shade", PLAIN), AT(TRIANGLE_TEXTURE, "texture", PLAIN), AT(TRIANGLE_ZBUFFER, "zbuffer", PLAIN),
     AT(TRIANGLE_LMAJOR, "lmajor", PLAIN), AT(TRIANGLE_LEVEL, "level", PLAIN), AT(TRIANGLE_TILE, "tile", PLAIN),
-    AT(TRIANGLE_YL, "yl", SIGNED_QUARTER), AT(TRIANGLE_YM, "ym", SIGNED_QUARTER), AT(TRIANGLE_YH, "yh", SIGNED_QUARTER),
-    AT(TRIANGLE_XL_I, "xl.i", SIGNED), AT(TRIANGLE_XL_F, "xl.f", PLAIN), AT(TRIANGLE_DXLDY_I, "dxldy.i", SIGNED),
-    AT(TRIANGLE_DXLDY_F, "dxldy.f", PLAIN), AT(TRIANGLE_XH_I, "xh.i", SIGNED), AT(TRIANGLE_XH_F, "xh.f", PLAIN),
-    AT(TRIANGLE_DXHDY_I, "dxhdy.i", SIGNED), AT(TRIANGLE_DXHDY_F, "dxhdy.f", PLAIN), AT(TRIANGLE_XM_I, "xm.i", SIGNED),
-    AT(TRIANGLE_XM_F, "xm.f", PLAIN), AT(TRIANGLE_DXMDY_I, "dxmdy.i", SIGNED), AT(TRIANGLE_DXMDY_F, "dxmdy.f", PLAIN),
+    AT(TRIANGLE_YL, "yl", QUARTER), AT(TRIANGLE_YM, "ym", QUARTER), AT(TRIANGLE_YH, "yh", QUARTER),
+    AT(TRIANGLE_XL_I, "xl.i", FIXED), AT(TRIANGLE_XL_F, "xl.f", PLAIN), AT(TRIANGLE_DXLDY_I, "dxldy.i", FIXED),
+    AT(TRIANGLE_DXLDY_F, "dxldy.f", PLAIN), AT(TRIANGLE_XH_I, "xh.i", FIXED), AT(TRIANGLE_XH_F, "xh.f", PLAIN),
+    AT(TRIANGLE_DXHDY_I, "dxhdy.i", FIXED), AT(TRIANGLE_DXHDY_F, "dxhdy.f", PLAIN), AT(TRIANGLE_XM_I, "xm.i", FIXED),
+    AT(TRIANGLE_XM_F, "xm.f", PLAIN), AT(TRIANGLE_DXMDY_I, "dxmdy.i", FIXED), AT(TRIANGLE_DXMDY_F, "dxmdy.f", PLAIN),
     AT(TRIANGLE_FIELDS, NULL, PLAIN)
 };
 static const Field texture_rectangle[] = {
     AT(TEXRECT_LRX, "lrx", QUARTER), AT(TEXRECT_LRY, "lry", QUARTER), AT(TEXRECT_TILE, "tile", PLAIN), AT(TEXRECT_ULX, "ulx", QUARTER),
-    AT(TEXRECT_ULY, "uly", QUARTER), AT(TEXRECT_S, "s", SIGNED), AT(TEXRECT_T, "t", SIGNED), AT(TEXRECT_DSDX, "dsdx", SIGNED),
-    AT(TEXRECT_DTDY, "dtdy", SIGNED), AT(TEXRECT_FIELDS, NULL, PLAIN)
+    AT(TEXRECT_ULY, "uly", QUARTER), AT(TEXRECT_S, "s", PARTS_32), AT(TEXRECT_T, "t", PARTS_32), AT(TEXRECT_DSDX, "dsdx", PARTS_1024),
+    AT(TEXRECT_DTDY, "dtdy", PARTS_1024), AT(TEXRECT_FIELDS, NULL, PLAIN)
 };
 static const Field key_gb[] = {
     AT(KEY_GB_WIDTH_G, "width_G", PLAIN), AT(KEY_GB_WIDTH_B, "width_B", PLAIN), AT(KEY_GB_CENTER_G, "center_G", PLAIN),
@@ -105,7 +91,7 @@ static const Field fill_rectangle[] = {
     AT(RECTANGLE_FIELDS, NULL, PLAIN)
 };
 static const Field fill_color[] = {
-    AT(FILL_COLOR_COLOR, "color", HEX), AT(FILL_COLOR_FIELDS, NULL, PLAIN)
+    AT(FILL_COLOR_COLOR, "color", COLOUR), AT(FILL_COLOR_FIELDS, NULL, PLAIN)
 };
 static const Field color[] = {
     AT(COLOR_RED, "red", PLAIN), AT(COLOR_GREEN, "green", PLAIN), AT(COLOR_BLUE, "blue", PLAIN), AT(COLOR_ALPHA, "alpha", PLAIN),
@@ -197,33 +183,9 @@ const char *field_name(unsigned number, size_t field)
     return field_of(number, field).name;
 }
 
-static const char *format_name(uint64_t value)
+Style field_style(unsigned number, size_t field)
 {
-    static const char *const names[] = { "RGBA", "YUV", "CI", "IA" };
-    return value < 4 ? names[value] : "I";
-}
-
-static const char *cycle_name(uint64_t value)
-{
-    static const char *const names[] = { "1-Cycle", "2-Cycle", "COPY", "FILL" };
-    return names[value & 3];
-}
-
-/* The value of a field, with its meaning where the number alone says little. */
-void field_value(const Command *command, size_t field, char *text, size_t room)
-{
-    uint64_t value = command->fields[field];
-    switch (field_of(command->number, field).style) {
-    case PLAIN: snprintf(text, room, "%" PRIu64, value); break;
-    case SIGNED: snprintf(text, room, "%" PRId64, (int64_t)value); break;
-    case QUARTER: snprintf(text, room, "%" PRIu64 " (%.2f)", value, (double)value / 4); break;
-    case SIGNED_QUARTER: snprintf(text, room, "%" PRId64 " (%.2f)", (int64_t)value, (double)(int64_t)value / 4); break;
-    case HEX: snprintf(text, room, "0x%" PRIX64, value); break;
-    case FORMAT: snprintf(text, room, "%" PRIu64 " (%s)", value, format_name(value)); break;
-    case SIZE: snprintf(text, room, "%" PRIu64 " (%d bits)", value, 4 << (value & 3)); break;
-    case CYCLE: snprintf(text, room, "%" PRIu64 " (%s)", value, cycle_name(value)); break;
-    case LESS_ONE: snprintf(text, room, "%" PRIu64 " (%" PRIu64 " pixels)", value, value + 1); break;
-    }
+    return field_of(number, field).style;
 }
 
 /* Which coefficients a word after a triangle's base holds: shade, texture, then z-buffer. */

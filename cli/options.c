@@ -5,113 +5,90 @@
 #include <getopt.h>
 #include <string.h>
 
-static bool set_quiet(Arguments *arguments, const char *value)
+/* What each kind of option does with its value, where the member of the arguments stands that it sets; false where the value is wrong. */
+
+static bool set_flag(void *member, const char *value)
 {
     (void)value;
-    return arguments->quiet = true;
+    return *(bool *)member = true;
 }
 
-static bool set_failures(Arguments *arguments, const char *value)
+static bool set_number(void *member, const char *value)
 {
-    (void)value;
-    return arguments->failures = true;
+    Number *number = member;
+    return number->is_given = take_address(value, &number->value);
 }
 
-static bool set_all(Arguments *arguments, const char *value)
+static bool set_address(void *member, const char *value)
 {
-    (void)value;
-    return arguments->all = true;
+    return take_address(value, member);
 }
 
-static bool set_dry(Arguments *arguments, const char *value)
+static bool set_format(void *member, const char *value)
 {
-    (void)value;
-    return arguments->dry = true;
+    const struct Format **format = member;
+    *format = format_of(value);
+    return *format != NULL;
 }
 
-static bool set_in_place(Arguments *arguments, const char *value)
+static bool set_output(void *member, const char *value)
 {
-    (void)value;
-    return arguments->in_place = true;
-}
-
-static bool set_format(Arguments *arguments, const char *value)
-{
-    arguments->format = format_of(value);
-    return arguments->format != NULL;
-}
-
-static bool set_offset(Arguments *arguments, const char *value)
-{
-    return take_address(value, &arguments->input.offset);
-}
-
-static bool set_length(Arguments *arguments, const char *value)
-{
-    return arguments->input.has_length = take_address(value, &arguments->input.length);
-}
-
-static bool set_swap(Arguments *arguments, const char *value)
-{
-    (void)value;
-    return arguments->input.swap = true;
-}
-
-static bool set_hex(Arguments *arguments, const char *value)
-{
-    (void)value;
-    return arguments->input.hex = true;
-}
-
-static bool set_output(Arguments *arguments, const char *value)
-{
-    arguments->output = strcmp(value, "/dev/stdout") == 0 ? "-" : value; /* so that no text is mixed with it */
+    const char **output = member;
+    *output = strcmp(value, "/dev/stdout") == 0 ? "-" : value; /* so that no text is mixed with it */
     return true;
 }
 
-static bool set_memory(Arguments *arguments, const char *value)
+static bool set_memory(void *member, const char *value)
 {
+    Arguments *arguments = member;
     return arguments->has_memory = take_bytes(value, &arguments->memory);
 }
 
-static bool set_start(Arguments *arguments, const char *value)
+static bool set_image(void *member, const char *value)
 {
-    return take_address(value, &arguments->start);
-}
-
-static bool set_image(Arguments *arguments, const char *value)
-{
+    Arguments *arguments = member;
     return arguments->has_image = take_image(value, &arguments->image);
 }
 
+#define FLAG(member) NULL, set_flag, offsetof(Arguments, member), NULL
+#define NUMBER(value, member) value, set_number, offsetof(Arguments, member), "a number"
+#define OUTPUT "OUT", set_output, offsetof(Arguments, output), NULL
+
 static const Option options[] = {
-    { OF_CHECK, "quiet", 'q', NULL, set_quiet, NULL, "print 'number place' alone; of several files, the name\ntoo" },
-    { OF_CHECK, "failures", 0, NULL, set_failures, NULL, "leave out the lists that are accepted" },
-    { OF_CHECK, "all", 0, NULL, set_all, NULL,
+    { OF_CHECK, "quiet", 'q', FLAG(quiet), "print 'number place' alone; of several files, the name\ntoo" },
+    { OF_CHECK, "verbose", 'v', FLAG(verbose),
+      "say also the cycles that the syncs of a list wait; of a\n"
+      "refused list those before the refusal" },
+    { OF_CHECK, "failures", 0, FLAG(failures), "leave out the lists that are accepted" },
+    { OF_CHECK, "all", 0, FLAG(all),
       "tell every sync that a list misses, as if the commands\n"
       "before ran; the verdict stays the first refusal" },
-    { OF_CHECK, "format", 0, "FORM", set_format, "one of text, gcc, github, json and sarif",
+    { OF_CHECK, "format", 0, "FORM", set_format, offsetof(Arguments, format), "one of text, gcc, github, json and sarif",
       "how lists are told: text, gcc (as compilers do), github\n"
       "(annotations), json or sarif" },
-    { OF_DRAW, "memory", 0, "BYTES", set_memory, "a number of bytes up to 256M", "the length of memory; K and M may follow" },
-    { OF_DRAW, "start", 0, "ADDRESS", set_start, "an address", "the address of its first byte; 0 if not given" },
-    { OF_DRAW, "image", 0, "ADDRESS,WIDTH,HEIGHT,SIZE", set_image,
+    { OF_DUMP, "brief", 0, FLAG(brief), "leave out the fields that are 0" },
+    { OF_DUMP, "from", 0, NUMBER("PLACE", from), "show the commands from this word on" },
+    { OF_DUMP, "to", 0, NUMBER("PLACE", to), "show the commands up to this word" },
+    { OF_DUMP, "around", 0, NUMBER("PLACE", around), "show eight commands before the one of this word, and\neight after" },
+    { OF_DRAW, "memory", 0, "BYTES", set_memory, 0, "a number of bytes up to 256M", "the length of memory; K and M may follow" },
+    { OF_DRAW, "start", 0, "ADDRESS", set_address, offsetof(Arguments, start), "an address", "the address of its first byte; 0 if not given" },
+    { OF_DRAW, "image", 0, "ADDRESS,WIDTH,HEIGHT,SIZE", set_image, 0,
       "ADDRESS,WIDTH,HEIGHT,SIZE with sides of 1 to 4096 and SIZE 8, 16 or 32",
       "the picture, with SIZE bits a pixel (8, 16 or 32); if not\n"
       "given, the colour image of the last Fill Rectangle, as\n"
       "high as the scissor" },
-    { OF_REPAIR, "check", 0, NULL, set_dry, NULL, "write nothing; status 1 where a sync would be inserted" },
-    { OF_REPAIR, "in-place", 'i', NULL, set_in_place, NULL, "write each list over itself, where a sync is inserted" },
-    { OF_REPAIR, "output", 'o', "OUT", set_output, NULL, "the file to write; it may be FILE itself" },
-    { OF_DRAW, "output", 'o', "OUT", set_output, NULL,
+    { OF_REPAIR, "check", 0, FLAG(dry), "write nothing; status 1 where a sync would be inserted" },
+    { OF_REPAIR, "in-place", 'i', FLAG(in_place), "write each list over itself, where a sync is inserted" },
+    { OF_REPAIR, "output", 'o', OUTPUT, "the file to write; it may be FILE itself" },
+    { OF_DRAW, "output", 'o', OUTPUT,
       "the file to write: .png or .ppm for the picture, .bin for\n"
       "all of memory, or with --image for the picture's bytes" },
-    { OF_REPORT, "output", 'o', "OUT", set_output, NULL, "the file to write" },
-    { OF_ALL, "offset", 0, "BYTE", set_offset, "a number", "where the list begins in the file; 0 if not given" },
-    { OF_ALL, "length", 0, "BYTES", set_length, "a number", "the list's length; to the end of the file if not given" },
-    { OF_ALL, "swap", 0, NULL, set_swap, NULL, "the file has its words least significant byte first" },
-    { OF_ALL, "hex", 0, NULL, set_hex, NULL, "the file is text, of hexadecimal digits" },
-    { OF_ALL, "help", 'h', NULL, NULL, NULL, "print this" }
+    { OF_REPORT, "output", 'o', OUTPUT, "the file to write" },
+    { OF_ALL, "offset", 0, NUMBER("BYTE", input.offset), "where the list begins in the file; 0 if not given" },
+    { OF_ALL, "length", 0, NUMBER("BYTES", input.length), "the list's length; to the end of the file if not given" },
+    { OF_ALL, "swap", 0, FLAG(input.swap), "the file has its words least significant byte first" },
+    { OF_ALL, "hex", 0, FLAG(input.hex), "the file is text, of hexadecimal digits" },
+    { OF_ALL, "help", 'h', FLAG(help), "print this" }
 };
 
 #define OPTIONS (sizeof options / sizeof options[0])
@@ -174,9 +151,7 @@ static bool take_option(const Entry *entry, int found, Arguments *arguments)
             complain("%s has no option --%s", entry->name, any->name);
         return false;
     }
-    if (option->set == NULL)
-        return arguments->help = true;
-    bool taken = option->set(arguments, optarg);
+    bool taken = option->set((char *)arguments + option->member, optarg);
     if (!taken)
         complain("--%s %s: not %s", option->name, optarg, option->expected);
     return taken;

@@ -47,7 +47,7 @@ void image_text(const Image *image, char *text, size_t room)
 }
 
 /* One pixel: 32 bits are red, green, blue and alpha; 16 bits are 5, 5, 5 and 1; 8 bits are an intensity. */
-static void pixel_rgb(const uint8_t *pixel, uint32_t bits, uint8_t *rgb)
+void pixel_rgb(const uint8_t *pixel, uint32_t bits, uint8_t *rgb)
 {
     if (bits == 16) {
         unsigned value = (unsigned)pixel[0] << 8 | pixel[1];

@@ -21,14 +21,15 @@ static void print_name(const Repair *repair, const char *path)
 
 static void print_insertions(const Repair *repair, const char *path, const List *list, const Repaired *repaired)
 {
+    char all[160];
     for (size_t i = 0; i < repaired->count; i++) {
         const Insertion *insertion = &repaired->inserted[i];
         print_name(repair, path);
         fprintf(repair->stream, "%s before word %zu, %s\n", command_name(insertion->number), insertion->place, name_at(list, insertion->place));
     }
     print_name(repair, path);
-    fprintf(repair->stream, "%zu %s %sinserted, %u cycles, %u words in all\n", repaired->count, repaired->count == 1 ? "sync" : "syncs",
-            repair->arguments->dry ? "would be " : "", (unsigned)repaired->answer.third, (unsigned)repaired->answer.place);
+    inserted_text(repaired, !repair->arguments->dry, all, sizeof all);
+    fprintf(repair->stream, "%s\n", all);
 }
 
 /* As check tells a refusal. */
@@ -88,7 +89,7 @@ static const char *fault_of(const Arguments *arguments, bool to_output)
         return "repair has one of --check, --in-place and -o";
     if (arguments->count > 1 && !arguments->dry && !arguments->in_place)
         return "repair of several lists needs --in-place or --check";
-    if (arguments->in_place && (input->offset > 0 || input->has_length || input->swap || input->hex))
+    if (arguments->in_place && (input->offset.is_given || input->length.is_given || input->swap || input->hex))
         return "only whole files are repaired in place";
     for (int i = 0; arguments->in_place && i < arguments->count; i++)
         if (strcmp(arguments->paths[i], "-") == 0)

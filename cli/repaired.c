@@ -37,6 +37,8 @@ static bool repair_whole(const List *list, Repaired *repaired)
         repaired->answer = answer_of(lanyardrove_repair(list->bytes, list->length, work, 16 * words, repaired->list.bytes, 16 * words));
         if (is_accepted(repaired->answer)) {
             repaired->list.length = 8 * (size_t)repaired->answer.place;
+            repaired->after = cycles_waited(&repaired->list);
+            repaired->before = repaired->after - repaired->answer.third; /* every given command stands in the repaired list */
             done = find_insertions(list, repaired);
             if (!done)
                 complain("the repaired list cannot be compared with the given one");
@@ -64,6 +66,14 @@ size_t given_place(const Repaired *repaired, size_t place)
     while (before < repaired->count && repaired->inserted[before].place + before < place)
         before++;
     return place - before;
+}
+
+/* What a repair inserted, or would insert, in one line. */
+void inserted_text(const Repaired *repaired, bool done, char *text, size_t room)
+{
+    snprintf(text, room, "%zu %s %sinserted, %u cycles, %u words in all; the list waits %u cycles before, %u after", repaired->count,
+             repaired->count == 1 ? "sync" : "syncs", done ? "" : "would be ", (unsigned)repaired->answer.third, (unsigned)repaired->answer.place,
+             (unsigned)repaired->before, (unsigned)repaired->after);
 }
 
 void repaired_free(Repaired *repaired)

@@ -45,6 +45,14 @@ static void number_as_given(Report *report)
         report->drawing.place = (uint32_t)given_place(&report->repaired, report->drawing.place);
 }
 
+/* A list that is too long for the repair still gets the sync that its refused command misses. */
+static void find_missing(Report *report)
+{
+    static const unsigned syncs[] = { LANYARDROVE_SYNC_LOAD, LANYARDROVE_SYNC_TILE, LANYARDROVE_SYNC_PIPE };
+    if (is_refused(report->repaired.answer) && is_missing_sync(report->answer))
+        report->missing = (Insertion){ report->answer.place, syncs[report->answer.number - LANYARDROVE_SYNC_LOAD_MISSING] };
+}
+
 /* Draws a list and makes the PNG of its picture, if there is one. */
 static bool draw_picture(Report *report, const List *list)
 {
@@ -72,6 +80,7 @@ static bool gather(Report *report)
     report->drawing = report->answer = list->verdict;
     if (!rows_of(list, report->answer, &report->rows) || !repaired_of(list, &report->repaired))
         return false;
+    find_missing(report);
     if (report->repaired.count == 0) /* drawing runs the whole check first */
         return is_refused(report->answer) || draw_picture(report, list);
     bool done = rows_of(&report->repaired.list, report->repaired.answer, &report->repaired_rows) && draw_picture(report, &report->repaired.list);

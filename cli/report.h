@@ -36,6 +36,7 @@ typedef struct {
     Answer answer;
     Rows rows;
     Repaired repaired;  /* its answer says whether the list can be repaired */
+    Insertion missing;  /* the sync that the refused command misses, where it cannot; its number is 0 where there is none */
     Rows repaired_rows; /* of the repaired list, where syncs were inserted */
     Answer drawing;     /* what drawing the list, or the repaired list, answers */
     Image image;
@@ -49,6 +50,7 @@ void style_add(Text *text);
 void page_add(Text *text, const Report *report);
 void meaning_add(Text *text, const Report *report);
 void strip_add(Text *text, const Rows *rows);
+void place_add(Text *text, size_t place);
 void table_add(Text *text, const Report *report);
 
 #endif

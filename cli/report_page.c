@@ -2,7 +2,8 @@
 #include "report.h"
 
 #define OPEN_LIMIT 20     /* insertions that are shown without a click */
-#define PICTURE_WIDTH 480 /* small pictures are shown larger, up to this many pixels */
+#define PICTURE_WIDTH 640 /* small pictures are shown larger, up to this many pixels */
+#define PIXEL_WIDTH 40    /* and up to this many for each of theirs */
 
 static void add_head(Text *text, const Report *report)
 {
@@ -12,9 +13,23 @@ static void add_head(Text *text, const Report *report)
     text_add_escaped(text, report->path);
     text_add(text, "</title>\n");
     style_add(text);
-    text_add(text, "</head>\n<body>\n<p class=\"kind\">Check of an RDP command list</p>\n<h1>");
+    text_add(text, "</head>\n<body>\n<main>\n<p class=\"kind\">Check of an RDP command list</p>\n<h1 id=\"top\">");
     text_add_escaped(text, report->path);
     text_add(text, "</h1>\n");
+}
+
+/* A word of the list, which leads to its row. */
+void place_add(Text *text, size_t place)
+{
+    text_add(text, "<a href=\"#w%zu\">word %zu</a>", place, place);
+}
+
+/* A sync that is or would be inserted, and before what. */
+static void add_insertion(Text *text, const Report *report, const Insertion *insertion)
+{
+    text_add(text, "%s before ", command_name(insertion->number));
+    place_add(text, insertion->place);
+    text_add(text, ", %s", name_at(&report->list, insertion->place));
 }
 
 /* `number place` and what it means, in the middle of a sentence. */
@@ -49,9 +64,10 @@ static void add_verdict(Text *text, const Report *report)
     if (report->rows.refused < report->rows.count)
         text_add(text, "<p class=\"show\"><a href=\"#refused\">Show the command</a></p>\n");
     text_add(text, "</section>\n<dl class=\"facts\"><div><dt>number place</dt><dd><code>%u %u</code></dd></div>"
-                   "<div><dt>bytes</dt><dd>%s%zu</dd></div><div><dt>commands</dt><dd>%zu</dd></div></dl>\n",
+                   "<div><dt>bytes</dt><dd>%s%zu</dd></div><div><dt>commands</dt><dd>%zu</dd></div><div><dt>%s</dt><dd>%u</dd></div></dl>\n",
              report->answer.number, (unsigned)report->answer.place, goes_on(&report->list) ? "over " : "",
-             goes_on(&report->list) ? report->list.limit : report->list.length, report->rows.count);
+             goes_on(&report->list) ? report->list.limit : report->list.length, report->rows.count,
+             accepted ? "cycles waited" : "cycles waited before the refusal", (unsigned)cycles_waited(&report->list));
 }
 
 /* What the lines of a strip mean. */
@@ -88,11 +104,14 @@ static void add_hazards(Text *text, const Report *report)
 static void add_insertions(Text *text, const Report *report)
 {
     const Repaired *repaired = &report->repaired;
-    text_add(text, "<details%s><summary>%zu %s inserted, %u cycles</summary>\n<ul id=\"inserted\">\n", repaired->count <= OPEN_LIMIT ? " open" : "",
-             repaired->count, repaired->count == 1 ? "sync would be" : "syncs would be", (unsigned)repaired->answer.third);
-    for (size_t i = 0; i < repaired->count; i++)
-        text_add(text, "<li>%s before word %zu, %s</li>\n", command_name(repaired->inserted[i].number), repaired->inserted[i].place,
-                 name_at(&report->list, repaired->inserted[i].place));
+    char all[160];
+    inserted_text(repaired, false, all, sizeof all);
+    text_add(text, "<details%s><summary>%s</summary>\n<ul id=\"inserted\">\n", repaired->count <= OPEN_LIMIT ? " open" : "", all);
+    for (size_t i = 0; i < repaired->count; i++) {
+        text_add(text, "<li>");
+        add_insertion(text, report, &repaired->inserted[i]);
+        text_add(text, "</li>\n");
+    }
     text_add(text, "</ul></details>\n");
 }
 
@@ -103,6 +122,11 @@ static void add_repair(Text *text, const Report *report)
         text_add(text, "<p>The list cannot be repaired: ");
         add_answer(text, &report->list, report->repaired.answer, FOR_REPAIR);
         text_add(text, ".</p>\n");
+        if (report->missing.number != 0) {
+            text_add(text, "<p>The first sync that it misses: ");
+            add_insertion(text, report, &report->missing);
+            text_add(text, ".</p>\n");
+        }
     } else if (report->repaired.count == 0)
         text_add(text, "<p>No sync is missing.</p>\n");
     else
@@ -113,7 +137,8 @@ static void add_repair(Text *text, const Report *report)
 static void add_png(Text *text, const Report *report)
 {
     const Image *image = &report->image;
-    unsigned scale = image->width < PICTURE_WIDTH ? PICTURE_WIDTH / image->width : 1;
+    unsigned fits = image->width < PICTURE_WIDTH ? PICTURE_WIDTH / image->width : 1;
+    unsigned scale = fits < PIXEL_WIDTH ? fits : PIXEL_WIDTH;
     char size[128];
     image_text(image, size, sizeof size);
     text_add(text, "<p class=\"note\">%s%s.</p>\n<p class=\"picture\"><img alt=\"what the list draws\" width=\"%u\" height=\"%u\" "
@@ -141,13 +166,13 @@ static void add_picture(Text *text, const Report *report)
 
 void page_add(Text *text, const Report *report)
 {
+    char version[VERSION_ROOM];
+    version_text(version);
     add_head(text, report);
     add_verdict(text, report);
     add_hazards(text, report);
-    text_add(text, "<div class=\"beside\">\n");
     add_repair(text, report);
     add_picture(text, report);
-    text_add(text, "</div>\n");
     table_add(text, report);
-    text_add(text, "</body>\n</html>\n");
+    text_add(text, "</main>\n<footer>Made by lanyardrove %s</footer>\n<p class=\"top\"><a href=\"#top\">Back to top</a></p>\n</body>\n</html>\n", version);
 }

@@ -74,8 +74,8 @@ static bool skip(Source *source)
 {
     uint8_t rest[4096];
     ssize_t count;
-    for (; source->skipped < source->input->offset; source->skipped += (uint64_t)count) {
-        count = read_bytes(source, rest, lesser(source->input->offset - source->skipped, sizeof rest));
+    for (; source->skipped < source->input->offset.value; source->skipped += (uint64_t)count) {
+        count = read_bytes(source, rest, lesser(source->input->offset.value - source->skipped, sizeof rest));
         if (count == 0)
             source->fault = "ends before --offset";
         if (count <= 0)
@@ -89,8 +89,8 @@ static ssize_t read_part(Source *source, uint8_t *to, size_t room)
     const Input *input = source->input;
     if (!skip(source))
         return -1;
-    ssize_t count = read_bytes(source, to, input->has_length ? lesser(input->length - source->taken, room) : room);
-    if (count == 0 && room > 0 && input->has_length && source->taken < input->length) {
+    ssize_t count = read_bytes(source, to, input->length.is_given ? lesser(input->length.value - source->taken, room) : room);
+    if (count == 0 && room > 0 && input->length.is_given && source->taken < input->length.value) {
         source->fault = "ends before --length bytes";
         return -1;
     }

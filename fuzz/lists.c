@@ -41,6 +41,8 @@ size_t words_of(unsigned number) {
     return is_texture_rectangle(number) ? 2 : 1;
 }
 
+unsigned cycles_of(unsigned number) { return number == 0x26 ? 25 : number == 0x28 ? 33 : number == 0x27 ? 50 : 0; }
+
 size_t whole_at(const uint8_t *list, size_t words, size_t place) {
     size_t need = words_of(command_number(list + 8 * place));
     return need <= words - place ? need : 0;

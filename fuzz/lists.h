@@ -31,6 +31,7 @@ bool is_load(unsigned number);
 bool reads_tile(unsigned number);  // a draw with texture or a load
 bool is_attribute(unsigned number);
 size_t words_of(unsigned number);
+unsigned cycles_of(unsigned number);  // that a sync waits; Sync Full and all others none
 // The words of the command at a place; 0 where it runs past the end.
 size_t whole_at(const uint8_t *list, size_t words, size_t place);
 // The commands of a list, all whole.

@@ -45,9 +45,19 @@ static void one_decode(const uint8_t *list, size_t length, size_t count, bool nu
     free(fields);
 }
 
-// A list in portions of a length, each in an exact buffer, closed twice; the record is defined, and stays so when it is damaged
+// All of a record is defined, but the bytes that hold nothing
+static void written_record(const uint8_t *record) {
+    written(record, SPARE);
+    written(record + WAITED, RECORD - WAITED);
+}
+
+// A list in portions of a length, each in an exact buffer, closed again and again; the record is defined, and stays so when it is damaged. The bytes that
+// hold nothing are not: no answer, no other byte and no branch goes by them
 static void one_stream(const uint8_t *list, size_t length, size_t portion, bool null) {
+    static const uint32_t damage[][2] = {{WAITED, MOST_WAITED}, {WAITED, UINT32_MAX}, {WAITED, 0}, {HELD_COUNT, 175}, {HELD_COUNT, UINT32_MAX}};
+    const size_t times = sizeof damage / sizeof *damage;
     struct lanyardrove_stream *stream = calloc(1, sizeof *stream);
+    VALGRIND_MAKE_MEM_UNDEFINED((uint8_t *)stream + SPARE, WAITED - SPARE);
     uint64_t answer = lanyardrove_stream_feed(stream, exact(0, true), 0);
     for (size_t at = 0, here; at < length; at += here) {
         here = length - at < portion ? length - at : portion;
@@ -57,12 +67,12 @@ static void one_stream(const uint8_t *list, size_t length, size_t portion, bool 
         written(&answer, sizeof answer);
         free(bytes);
     }
-    for (int time = 0; time < 3; time++) {
+    for (size_t time = 0; time <= times; time++) {
         answer = lanyardrove_stream_close(stream);
         calls++;
         written(&answer, sizeof answer);
-        written(stream, sizeof *stream);
-        put_number((uint8_t *)stream, HELD_COUNT, time ? UINT32_MAX : 175);
+        written_record((uint8_t *)stream);
+        if (time < times) put_number((uint8_t *)stream, (int)damage[time][0], damage[time][1]);
     }
     free(stream);
 }

@@ -4,8 +4,8 @@
 #include <stdint.h>
 #include <string.h>
 
-enum { HELD = 256, HELD_COUNT = 432, TAKEN = 436, NUMBER = 440, PLACE = 444, HAZARDS = 448, ENDED = 449, RECORD = 456 };
-enum { ROOM = HELD_COUNT - HELD };
+enum { HELD = 256, HELD_COUNT = 432, TAKEN = 436, NUMBER = 440, PLACE = 444, HAZARDS = 448, ENDED = 449, SPARE = 450, WAITED = 452, RECORD = 456 };
+enum { ROOM = HELD_COUNT - HELD, MOST_WAITED = 204800 };
 
 static inline uint32_t number_in(const uint8_t *record, int at) {
     uint32_t number;

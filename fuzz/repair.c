@@ -45,10 +45,11 @@ static void buffers(const uint8_t *list, size_t length, uint64_t answer, size_t 
     DEMAND(same(out_after + written, out_before + written, out_length - written));
 }
 
-static unsigned cycles_of(const uint8_t *word) {
+// The cycles of a sync that is written: no bit is set but those of its number.
+static unsigned written_cycles(const uint8_t *word) {
     for (int i = 1; i < 8; i++)
         if (word[i]) return 0;
-    return word[0] == 0x26 ? 25 : word[0] == 0x28 ? 33 : word[0] == 0x27 ? 50 : 0;
+    return cycles_of(word[0]);
 }
 
 static bool passes(const uint8_t *list, size_t words) {
@@ -81,7 +82,7 @@ static void made_by_adding(const uint8_t *list, size_t length, const uint8_t *ne
             at += here;
             continue;
         }
-        const unsigned wait = cycles_of(new + 8 * at);
+        const unsigned wait = written_cycles(new + 8 * at);
         DEMAND(wait);
         sum += wait;
         added++;

@@ -1,21 +1,34 @@
 // lanyardrove_stream_feed and lanyardrove_stream_close: the input chooses the cuts of the list. Every answer by the check of the commands that are complete
-// by then, the record by what 02 says of it (#103), all its bytes the same for every cutting; 28 for records damaged in each of its ways, and for any bytes.
+// by then and the sum of what their syncs wait, the record by what 02 says of it (#103, #105), all its bytes the same for every cutting; 28 for records
+// damaged in each of its ways, and for any bytes.
 #include "lent.h"
 #include "library.h"
 #include "lists.h"
 #include "record.h"
 
-enum { LIMIT = 32768, DAMAGED = 28, SMALL = 2048 };
+enum { LIMIT = 32768, DAMAGED = 28, SMALL = 2048, WAYS = 10 };
 
 static enum place place_now;
+
+// Fresh but for the bytes that hold nothing.
+static void start(const struct input *in, uint8_t *record) {
+    memset(record, 0, RECORD);
+    memcpy(record + SPARE, in->spare + 1, WAITED - SPARE);
+}
+
+// The record after a call, which leaves the bytes that hold nothing.
+static void take_back(uint8_t *record, struct lent lent) {
+    DEMAND(same(lent.bytes + SPARE, record + SPARE, WAITED - SPARE));
+    memcpy(record, lent.bytes, RECORD);
+    give_back(lent);
+}
 
 // A call on a record that is lent with exactly its length; the portion stays.
 static uint64_t feed(uint8_t *record, const uint8_t *portion, size_t length) {
     struct lent lent = lend_copy(0, place_now, record, RECORD, false), bytes = lend_copy(1, place_now, portion, length, true);
     const uint64_t answer = lanyardrove_stream_feed((void *)lent.bytes, bytes.bytes, length);
     DEMAND(same(bytes.bytes, portion, length));
-    memcpy(record, lent.bytes, RECORD);
-    give_back(lent);
+    take_back(record, lent);
     give_back(bytes);
     return answer;
 }
@@ -23,12 +36,11 @@ static uint64_t feed(uint8_t *record, const uint8_t *portion, size_t length) {
 static uint64_t end(uint8_t *record) {
     struct lent lent = lend_copy(0, place_now, record, RECORD, false);
     const uint64_t answer = lanyardrove_stream_close((void *)lent.bytes);
-    memcpy(record, lent.bytes, RECORD);
-    give_back(lent);
+    take_back(record, lent);
     return answer;
 }
 
-static uint64_t answer_at(unsigned number, size_t place) { return (uint64_t)number << 56 | place; }
+static uint64_t answer_at(unsigned number, uint64_t cycles, size_t place) { return (uint64_t)number << 56 | cycles << 32 | place; }
 
 // Feeding and closing answer this and change nothing.
 static void repeats(const uint8_t *record, uint64_t answer, const struct input *in) {
@@ -46,20 +58,28 @@ static size_t complete(const uint8_t *list, size_t length) {
     return at;
 }
 
+// "The sum over the commands accepted so far."
+static unsigned waited(const uint8_t *list, size_t words) {
+    unsigned sum = 0;
+    for (size_t at = 0; at < words; at += words_of(command_number(list + 8 * at))) sum += cycles_of(command_number(list + 8 * at));
+    return sum;
+}
+
 // "Until then a portion answers 0 and the words of commands accepted so far"; "commands complete within the first 32,768 bytes are judged first, then 1".
 static uint64_t due(const uint8_t *list, size_t taken) {
     const size_t words = complete(list, taken < LIMIT ? taken : LIMIT);
     const uint64_t checked = lanyardrove_check(list, 8 * words);
-    if (number_of(checked)) return answer_at(number_of(checked), place_of(checked));
-    return taken > LIMIT ? answer_at(1, LIMIT / 8) : answer_at(0, words);
+    const unsigned cycles = waited(list, place_of(checked));
+    if (number_of(checked)) return answer_at(number_of(checked), cycles, place_of(checked));
+    return taken > LIMIT ? answer_at(1, cycles, LIMIT / 8) : answer_at(0, cycles, words);
 }
 
 // "At closing, 2, then 3."
 static uint64_t due_at_end(const uint8_t *list, size_t taken) {
     const uint64_t answer = due(list, taken);
     if (number_of(answer)) return answer;
-    if (taken % 8) return answer_at(2, taken / 8);
-    return place_of(answer) < taken / 8 ? answer_at(3, place_of(answer)) : answer;
+    if (taken % 8) return answer_at(2, third_of(answer), taken / 8);
+    return place_of(answer) < taken / 8 ? answer_at(3, third_of(answer), place_of(answer)) : answer;
 }
 
 // The marks after the accepted words, and whether a Sync Full stands last.
@@ -74,7 +94,7 @@ static void marks(const uint8_t *record, const uint8_t *list, size_t words) {
     DEMAND((record[ENDED] != 0) == (number == 0x29));
 }
 
-// What the record holds after so many bytes: the rest of them that is no command, zeros past it, and the refusal.
+// What the record holds after so many bytes: the rest of them that is no command, zeros past it, the cycles and the refusal.
 static void holds(const uint8_t *record, const uint8_t *list, size_t taken, uint64_t answer) {
     const unsigned number = number_of(answer);
     const size_t left = number == 0 ? taken : number == 1 ? LIMIT : 8 * (size_t)place_of(answer);
@@ -83,6 +103,7 @@ static void holds(const uint8_t *record, const uint8_t *list, size_t taken, uint
     DEMAND(held < ROOM && same(record + HELD, list + 8 * words, held));
     for (size_t at = held; at < ROOM; at++) DEMAND(record[HELD + at] == 0);
     DEMAND(number_in(record, NUMBER) == number && number_in(record, PLACE) == (number ? place_of(answer) : 0));
+    DEMAND(number_in(record, WAITED) == third_of(answer));
     marks(record, list, words);
 }
 
@@ -113,7 +134,9 @@ static uint64_t in_portions(const struct input *in, uint8_t *record) {
 
 // Every cutting leaves the record of one portion. A refusal leaves the record before the refused command, the registers with it, but for itself.
 static void against_one_portion(const struct input *in, const uint8_t *record, uint64_t answer) {
-    uint8_t whole[RECORD] = {0}, before[RECORD] = {0};
+    uint8_t whole[RECORD], before[RECORD];
+    start(in, whole);
+    start(in, before);
     DEMAND(feed(whole, in->list, in->length) == answer && same(whole, record, RECORD));
     if (!number_of(answer)) return;
     feed(before, in->list, 8 * (size_t)place_of(answer));
@@ -143,40 +166,59 @@ static bool is_damaged(const uint8_t *record) {
     for (size_t at = held; at < ROOM; at++)
         if (record[HELD + at]) return true;
     if (complete(record + HELD, held)) return true;
-    return taken > LIMIT || taken < held || (taken - held) % 8 || number_in(record, NUMBER) > 9;
+    return taken > LIMIT || taken < held || (taken - held) % 8 || number_in(record, NUMBER) > 9 || number_in(record, WAITED) > MOST_WAITED;
 }
 
 // A record with one of its parts changed, or of any bytes.
 static void damage(const struct input *in, uint8_t *record) {
-    switch (in->ways[1] % 8) {
+    switch (in->ways[1] % WAYS) {
     case 0: put_number(record, HELD_COUNT, in->lengths[1] % 180); break;
     case 1: put_number(record, TAKEN, in->lengths[1]); break;
     case 2: put_number(record, NUMBER, in->lengths[1] % 32); break;
     case 3: record[HELD + in->lengths[1] % ROOM] ^= in->spare[0]; break;
     case 4: record[HELD + ROOM - 1] = in->spare[0]; break;
     case 5: put_number(record, HELD_COUNT + in->lengths[1] % 3 * 4, in->number); break;
-    case 6: record[HELD + in->lengths[1] % (ENDED + 1 - HELD)] = in->spare[0]; break;
+    case 6: record[HELD + in->lengths[1] % (RECORD - HELD)] = in->spare[0]; break;
+    case 7: put_number(record, WAITED, MOST_WAITED - 1 + (in->lengths[1] + 1) % 3); break;
+    case 8: put_number(record, WAITED, in->number); break;
     default: memcpy(record, in->list, in->length < RECORD ? in->length : RECORD); break;
     }
+}
+
+// The place after the accepted commands.
+static size_t accepted(const uint8_t *record) { return (number_in(record, TAKEN) - number_in(record, HELD_COUNT)) / 8; }
+
+// To a sound record, whatever it held, the list adds what the commands wait that are accepted of it. That may lead above the most, and then to 28.
+static void more(const struct input *in, uint8_t *record) {
+    static uint8_t joined[ROOM + LONGEST_LIST];
+    const size_t held = number_in(record, HELD_COUNT), place = accepted(record);
+    const uint32_t before = number_in(record, WAITED);
+    memcpy(joined, record + HELD, held);
+    memcpy(joined + held, in->list, in->length);
+    const uint64_t fed = feed(record, in->list, in->length);
+    const unsigned number = number_of(fed);
+    DEMAND(number == 0 || number == 1 || (number >= 4 && number <= 9));
+    DEMAND(third_of(fed) == number_in(record, WAITED) && third_of(fed) == before + waited(joined, accepted(record) - place));
+    DEMAND(is_damaged(record) == (third_of(fed) > MOST_WAITED));
+    note(5, is_damaged(record));
+    if (is_damaged(record)) repeats(record, answer_at(DAMAGED, 0, 0), in);
+    else DEMAND(number_of(end(record)) <= 9 && !is_damaged(record));
 }
 
 // A record that these calls do not leave is refused first and stays; any other is answered, and its remembered refusal repeated.
 static void after_damage(const struct input *in, uint8_t *record) {
     const bool damaged = is_damaged(record);
     const unsigned number = number_in(record, NUMBER);
-    note(4, (unsigned)(in->ways[1] % 8) * 32 + (damaged ? DAMAGED : number));
-    if (damaged) repeats(record, answer_at(DAMAGED, 0), in);
-    else if (number) repeats(record, answer_at(number, number_in(record, PLACE)), in);
-    else {
-        const unsigned fed = number_of(feed(record, in->list, in->length));
-        DEMAND(fed == 0 || fed == 1 || (fed >= 4 && fed <= 9));
-        DEMAND(!is_damaged(record) && number_of(end(record)) <= 9 && !is_damaged(record));
-    }
+    note(4, (unsigned)(in->ways[1] % WAYS) * 32 + (damaged ? DAMAGED : number));
+    if (damaged) repeats(record, answer_at(DAMAGED, 0, 0), in);
+    else if (number) repeats(record, answer_at(number, number_in(record, WAITED), number_in(record, PLACE)), in);
+    else more(in, record);
 }
 
 int LLVMFuzzerTestOneInput(const uint8_t *data, size_t size) {
     const struct input *in = read_input(data, size);
-    uint8_t record[RECORD] = {0};
+    uint8_t record[RECORD];
+    start(in, record);
     place_now = in->choice % PLACES;
     const uint64_t fed = in_portions(in, record);
     against_one_portion(in, record, fed);

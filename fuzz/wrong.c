@@ -24,8 +24,8 @@ static int wrong(int version) {
     return chosen == version;
 }
 
-// A check's answer with another cause.
-static uint64_t with_cause(uint64_t answer, uint64_t cause) { return (answer & ~(0xFFFFFFull << 32)) | cause << 32; }
+// An answer with another third number: cause or cycles.
+static uint64_t with_third(uint64_t answer, uint64_t third) { return (answer & ~(0xFFFFFFull << 32)) | third << 32; }
 
 // The first or the latest draw before a place.
 static size_t draw_before(const uint8_t *list, size_t place, bool latest) {
@@ -41,13 +41,13 @@ uint64_t lanyardrove_check(const uint8_t *list, size_t length) {
     const uint64_t a = right_check(list, length), number = a >> 56;
     const size_t place = (uint32_t)a;
     if (wrong(3) && number == 7) return a + (1ull << 32);                                    // the word after the cause
-    if (wrong(4) && number == 8) return with_cause(length / 8, length / 8);                  // accepts
+    if (wrong(4) && number == 8) return with_third(length / 8, length / 8);                  // accepts
     if (wrong(5) && number == 6) return a + 1;                                               // place
-    if (wrong(6) && number == 0 && length > 200) return with_cause(9ull << 56 | 3, 2);       // refuses
-    if (wrong(7) && number == 9) return with_cause(a, draw_before(list, place, false));      // the first draw instead of the latest
-    if (wrong(8) && number == 8) return with_cause(a, draw_before(list, place, true));       // a draw for what reads the tile
-    if (wrong(9) && number >= 7) return with_cause(a, place);                                // the refused command's own place
-    if (wrong(10) && number == 0) return with_cause(a, 0);                                   // no words at acceptance
+    if (wrong(6) && number == 0 && length > 200) return with_third(9ull << 56 | 3, 2);       // refuses
+    if (wrong(7) && number == 9) return with_third(a, draw_before(list, place, false));      // the first draw instead of the latest
+    if (wrong(8) && number == 8) return with_third(a, draw_before(list, place, true));       // a draw for what reads the tile
+    if (wrong(9) && number >= 7) return with_third(a, place);                                // the refused command's own place
+    if (wrong(10) && number == 0) return with_third(a, 0);                                   // no words at acceptance
     return a;
 }
 
@@ -141,10 +141,11 @@ static bool overlooked(const uint8_t *record, uint64_t answer) {
     if (answer >> 56 != 28) return false;
     uint8_t other[RECORD];
     memcpy(other, record, RECORD);
-    other[HELD + ROOM - 1] = 0;
     const uint32_t number = number_in(record, NUMBER);
     if (wrong(74)) return number > 0 && number < 10;                                 // 28 after a remembered refusal
-    return wrong(75) && right_stream_feed(other, NULL, 0) >> 56 != 28;               // a byte past the held ones not looked at
+    if (wrong(75)) other[HELD + ROOM - 1] = 0;                                       // a byte past the held ones not looked at
+    if (wrong(84) && number_in(record, WAITED) == MOST_WAITED + 1) put_number(other, WAITED, 0);  // a cycle too many taken
+    return right_stream_feed(other, NULL, 0) >> 56 != 28;
 }
 
 // The command of the held bytes is judged without its last byte.
@@ -155,11 +156,39 @@ static void judge_early(uint8_t *record) {
     if (number_in(record, HELD_COUNT) && number_in(next, HELD_COUNT) == 0) memcpy(record, next, RECORD);
 }
 
+// What a wrong version counts of a command.
+static unsigned miscounted(unsigned number) {
+    if (wrong(81) && number == 0x29) return 50;                                      // Sync Full waits
+    if (wrong(83) && (number == 0x26 || number == 0x28)) return 25 + 33 - cycles_of(number);  // Load and Tile swapped
+    return cycles_of(number);
+}
+
+// The cycles after a portion, as a wrong version counts them.
+static uint32_t miscount(const uint8_t *before, const uint8_t *after, const uint8_t *portion, size_t length, bool refused) {
+    static uint8_t joined[ROOM + LONGEST_LIST];
+    const uint32_t held = number_in(before, HELD_COUNT), start = number_in(before, TAKEN) - held;
+    const size_t accepted = (number_in(after, TAKEN) - number_in(after, HELD_COUNT) - start) / 8;
+    const size_t words = accepted + (wrong(82) && refused && number_in(after, NUMBER) > 3);      // a refused command counts
+    uint32_t sum = number_in(before, WAITED);
+    memcpy(joined, before + HELD, held);
+    if (length) memcpy(joined + held, portion, length);
+    for (size_t at = 0; at < words; at += words_of(command_number(joined + 8 * at))) sum += miscounted(command_number(joined + 8 * at));
+    return sum;
+}
+
 uint64_t lanyardrove_stream_feed(uint8_t *record, const uint8_t *portion, size_t length) {
-    const bool before = number_in(record, NUMBER) != 0;
+    uint8_t before[RECORD];
+    memcpy(before, record, RECORD);
+    if (wrong(85) && number_in(record, WAITED) == MOST_WAITED) return 28ull << 56;   // the most cycles refused
     const uint64_t a = right_stream_feed(record, portion, length), number = a >> 56;
-    const bool refused = !before && number && number != 28;
+    const bool refused = !number_in(before, NUMBER) && number && number != 28;
     if (overlooked(record, a)) return (uint64_t)number_in(record, NUMBER) << 56 | number_in(record, PLACE);
+    if (number != 28 && (wrong(81) || wrong(82) || wrong(83))) {
+        put_number(record, WAITED, miscount(before, record, portion, length, refused));
+        return with_third(a, number_in(record, WAITED));
+    }
+    if (wrong(86) && number == 0 && length) memset(record + SPARE, 0, WAITED - SPARE);  // the spare bytes zeroed
+    if (wrong(87) && refused) return with_third(a, 0);                               // no cycles with a refusal
     if (wrong(71) && number == 0) judge_early(record);                               // a command judged one byte early
     if (wrong(72) && refused) put_number(record, NUMBER, 0);                         // a refusal not remembered
     if (wrong(73) && refused && number > 3) record[HELD] = portion[length - 1];      // held bytes kept at a refusal

@@ -65,11 +65,12 @@ static inline uint32_t lanyardrove_number(uint64_t answer) { return (uint32_t)(a
 static inline uint32_t lanyardrove_place(uint64_t answer) { return (uint32_t)answer; }
 static inline uint32_t lanyardrove_third(uint64_t answer) { return (uint32_t)(answer >> 32) & 0xFFFFFFu; }
 
-/* The third number by its meaning: the cause that the check gives, the cycles that a repair inserted, the number of a decoded
-   command. The last two are 0 at a refusal. In the answers of drawing, encoding and streams the third number is 0.
+/* The third number by its meaning: the cause that the check gives; the cycles, of a repair those that it inserted, of a stream
+   those that its syncs have waited; the number of a decoded command. Those of a repair and of decoding are 0 at a refusal. In
+   the answers of drawing and encoding the third number is 0.
    Of a step's answer the place is the hazards after it, and the third number's low two bits are the sync required. */
 static inline uint32_t lanyardrove_cause(uint64_t checked) { return lanyardrove_third(checked); }
-static inline uint32_t lanyardrove_cycles(uint64_t repaired) { return lanyardrove_third(repaired); }
+static inline uint32_t lanyardrove_cycles(uint64_t repaired_or_fed) { return lanyardrove_third(repaired_or_fed); }
 static inline uint32_t lanyardrove_command(uint64_t decoded) { return lanyardrove_third(decoded); }
 static inline uint32_t lanyardrove_hazards(uint64_t stepped) { return lanyardrove_place(stepped); }
 static inline uint32_t lanyardrove_required(uint64_t stepped) { return lanyardrove_third(stepped) % 4; }
@@ -84,7 +85,8 @@ uint64_t lanyardrove_check(const uint8_t *list, size_t list_length);
 
 /* The record of a list that arrives in portions, through a pipe for example. It is the caller's: all zero before the first
    portion, and the library's own to write after that. It may be copied and kept. It holds the hazards, the registers, the bytes
-   of a command that is not yet complete, and the refusal once there is one. Every setting of its bytes is answered. */
+   of a command that is not yet complete, the cycles waited, and the refusal once there is one. Every setting of its bytes is
+   answered, and all of them are part of what is promised of a call; two hold nothing, and stay as they are. */
 struct lanyardrove_stream {
     uint64_t opaque[57];
 };
@@ -94,14 +96,18 @@ struct lanyardrove_stream {
    first refusal, which the record remembers: 4 to 9 as in the check, and 1 at 4,096 where a byte comes after 32,768.
    At 4 to 9 all else in the record is as before the refused command's first byte, at 1 as after byte 32,768; further bytes of
    the portion are not looked at. Calls after a refusal repeat it and change nothing.
-   Before all others comes 28 at 0, which leaves the record as it is and is not remembered: over 175 bytes are held, a byte
-   past them is not zero, they already make a command, over 32,768 bytes are taken, those taken less those held are below 0
-   or no multiple of 8, or the remembered number is none that these calls give. */
+   The third number, lanyardrove_cycles, is the cycles that the accepted commands' syncs have waited, all since the record was
+   fresh: 25 for each Sync Load, 33 for each Sync Tile, 50 for each Sync Pipe, none for Sync Full. A refused command is not
+   counted, and with a refusal it is the total that the record keeps.
+   Before all others comes 28 at 0, with third number 0, which leaves the record as it is and is not remembered: over 175 bytes
+   are held, a byte past them is not zero, they already make a command, over 32,768 bytes are taken, those taken less those held
+   are below 0 or no multiple of 8, the remembered number is none that these calls give, or the cycles are above 204,800. From
+   a fresh record they never are; where a record was set otherwise, a call may lead above, and the next one is refused. */
 uint64_t lanyardrove_stream_feed(struct lanyardrove_stream *stream, const uint8_t *portion, size_t portion_length);
 
 /* Closes a list after its last portion: 28 as above, then the remembered refusal; 2 at the whole words taken where the bytes
    taken are no multiple of 8; 3 at its first word where a command is not complete; else 0 at the words of the list.
-   It adds a refusal to the record and nothing else, and leaves the record as it is at 0.
+   It adds a refusal to the record and nothing else, and leaves the record as it is at 0. The third number is as in feeding.
    Portions of a list of whole words and at most 32,768 bytes, however they are cut, end in the number and the place that
    lanyardrove_check gives of the whole list. Of any other list the commands complete in its first 32,768 bytes are judged
    first. The cause of a missing sync is asked of lanyardrove_check. */

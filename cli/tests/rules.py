@@ -49,6 +49,11 @@ def misses_sync(hazards, number):
             or (number in LOADS and "draw" in hazards) or (is_draw(number) and "load" in hazards))
 
 
+def cycles_of(given):
+    """The cycles that the syncs of a list's words wait."""
+    return sum({0x26: 25, 0x28: 33, 0x27: 50}.get(number, 0) for _, number in commands_of(given))
+
+
 def commands_of(given):
     """Place and number of each command of a list's words."""
     place = 0

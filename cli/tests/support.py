@@ -15,6 +15,7 @@ TESTS = []
 # 01's examples
 S = [0x2F30000000000000, 0x3F10000700000000, 0x2D00000000020010]
 R, N, C, L = 0x3600800800004004, 0, 0x37000000F801003F, 0x3400000000000000
+BLOCK, SET_TILE = 0x33 << 56, 0x35 << 56
 LOAD, PIPE, TILE, FULL = 0x26 << 56, 0x27 << 56, 0x28 << 56, 0x29 << 56
 ONE_CYCLE = 0x2F00000000000000
 
@@ -65,6 +66,12 @@ def read(name):
 
 def example(name):
     return os.path.join(TOP, "examples", name)
+
+
+def inserted(syncs, cycles, in_all, before=0, done="inserted"):
+    """The line in which a repair says what it inserted."""
+    return (f"{syncs} sync{'' if syncs == 1 else 's'} {done}, {cycles} cycles, {in_all} words in all; "
+            f"the list waits {before} cycles before, {before + cycles} after\n")
 
 
 def files():

@@ -20,6 +20,7 @@ WRONG = {
     "only whole files are repaired in place": [["repair", "-i", "a", *more] for more in (["--offset=8"], ["--length=8"], ["--swap"], ["--hex"])],
     "not a number": [["check", "a", option, text] for option in ("--offset", "--length") for text in ("", "x", "-1", "8K", "1 ")],
     "standard input is not repaired in place": [["repair", "-i", "-"], ["repair", "--in-place", "a", "-"]],
+    "dump has --around, or --from and --to": [["dump", "a", "--around=1", "--from=1"], ["dump", "a", "--around=1", "--to=1"]],
     "takes one list": [["dump", "a", "b"], ["draw", "a", "b"], ["report", "a", "b", "-o", "x.html"]],
     "not one of text, gcc, github, json and sarif": [["check", "--format", "xml", "a"], ["check", "--format=", "a"]],
     "needs a list; - is standard input": [[command] for command in COMMANDS] + [["check", "-q"], ["check", "--"]],

@@ -6,7 +6,7 @@ import re
 import shutil
 import subprocess
 
-from support import C, R, S, png_pixels, read, run, same, test, words, write
+from support import C, L, N, ONE_CYCLE, R, S, png_pixels, read, run, same, test, words, write
 
 # Where the parts of the page are, whether something else covers them, and their text as it is shown.
 PROBE = """<script>
@@ -19,6 +19,19 @@ for (const id of ["verdict", "refused", "cause"]) {
     const top = document.elementFromPoint(box.left + box.width / 2, box.top + box.height / 2);
     parts[id] = { box: [box.left, box.top, box.right, box.bottom].map(Math.round), seen: part.contains(top), text: part.innerText };
 }
+parts.overflow = document.documentElement.scrollWidth - document.documentElement.clientWidth;
+document.body.dataset.parts = JSON.stringify(parts);
+</script>"""
+# Which rows are shown for each choice, and how wide a column of each strip is.
+CHOICES = """<script>
+const parts = { shown: {}, strips: [] };
+for (const choice of document.querySelectorAll("input[name=show]")) {
+    choice.click();
+    const rows = [...document.querySelectorAll("tbody tr")].filter(row => row.getBoundingClientRect().height > 0);
+    parts.shown[choice.id] = rows.map(row => row.querySelector("th").innerText);
+}
+for (const strip of document.querySelectorAll(".strip svg"))
+    parts.strips.push(strip.getBoundingClientRect().width / strip.viewBox.baseVal.width);
 parts.overflow = document.documentElement.scrollWidth - document.documentElement.clientWidth;
 document.body.dataset.parts = JSON.stringify(parts);
 </script>"""
@@ -37,15 +50,15 @@ def browse(page, width, height, *arguments):
     return done.stdout.decode()
 
 
-def parts_of(page, width, height):
-    write("probe.html", read(page).replace(b"</body>", PROBE.encode() + b"</body>"))
+def parts_of(page, width, height, probe=PROBE):
+    write("probe.html", read(page).replace(b"</body>", probe.encode() + b"</body>"))
     shown = browse("probe.html", width, height, "--dump-dom")
     return json.loads(html.unescape(re.search(r'data-parts="([^"]*)"', shown)[1]))
 
 
-def colours_of(page, width, height):
+def colours_of(page, width, height, *arguments):
     """The colours of the page's pixels, row by row, as hexadecimal digits."""
-    browse(page, width, height, f"--screenshot={os.path.abspath('page.png')}")
+    browse(page, width, height, f"--screenshot={os.path.abspath('page.png')}", *arguments)
     found_width, found_height, pixels = png_pixels(read("page.png"))
     same((found_width, found_height), (width, height))
     return [[pixels[i:i + 3].hex() for i in range(3 * width * y, 3 * width * (y + 1), 3)] for y in range(height)]
@@ -69,7 +82,7 @@ def browser_test(function):
 def a_refused_list_is_seen_as_such():
     write("g.rdp", words(*S, R, C))
     same(run("report", "g.rdp", "-o", "g.html")[0], 1)
-    for width, height in ((1000, 1800), (500, 2400)):
+    for width, height in ((1000, 2200), (500, 3000)):
         parts = parts_of("g.html", width, height)
         verdict, refused, cause = parts["verdict"], parts["refused"], parts["cause"]
         same((verdict["seen"], refused["seen"], cause["seen"], parts["overflow"]), (True, True, True, 0), width)
@@ -91,3 +104,35 @@ def an_accepted_list_is_seen_as_such():
     assert not {"refused", "cause"} & set(parts) and parts["verdict"]["text"].startswith("Accepted\n"), parts
     rows = colours_of("i.html", 900, 700)
     assert share(rows, parts["verdict"]["box"], GREEN) > 0.6 and all(RED not in row for row in rows)
+
+
+@browser_test
+def rows_are_chosen_by_kind():
+    write("list.rdp", words(ONE_CYCLE, *S[1:], R, 0x0F << 56, *[0] * 21, C, N, 0x26 << 56, L))
+    same(run("report", "list.rdp", "-o", "list.html")[0], 1)
+    shown = parts_of("list.html", 1000, 1500, CHOICES)["shown"]
+    same(shown.pop("show-all"), ["Set Other Modes", "Set Color Image", "Set Scissor", "Fill Rectangle", "Fill Triangle (STZ)", "+ Sync Pipe", "Set Fill Color",
+                                 "No Operation", "Sync Load", "Load Tile"])
+    same(shown, {"show-marked": ["Fill Triangle (STZ)", "+ Sync Pipe", "Set Fill Color"], "show-draw": ["Fill Rectangle", "Fill Triangle (STZ)"],
+                 "show-load": ["Load Tile"], "show-set": ["Set Other Modes", "Set Color Image", "Set Scissor", "Set Fill Color"], "show-sync": ["Sync Load"],
+                 "show-none": ["No Operation"]})
+
+
+@browser_test
+def the_longest_list_stays_readable():
+    write("long.rdp", words(*S, *[R, L] * 2046, C))
+    same(run("report", "long.rdp", "-o", "long.html")[0], 1)
+    for width, least in ((1000, 1.5), (500, 0.7)):
+        parts = parts_of("long.html", width, 1500, CHOICES)
+        same((parts["overflow"], len(parts["strips"])), (0, 8), width)
+        assert min(parts["strips"]) > least, (width, parts["strips"])  # pixels of a command
+
+
+@browser_test
+def a_page_has_a_dark_form_and_a_printed_one():
+    write("g.rdp", words(*S, R, C))
+    run("report", "g.rdp", "-o", "g.html")
+    rows = colours_of("g.html", 600, 400, "--blink-settings=preferredColorScheme=0")
+    assert share(rows, (0, 0, 600, 20), "14181d") > 0.9, rows[0][:3]
+    browse("g.html", 1000, 1000, f"--print-to-pdf={os.path.abspath('g.pdf')}")
+    assert read("g.pdf").startswith(b"%PDF-") and 0 < len(re.findall(rb"/Type\s*/Page\b", read("g.pdf"))) <= 2

@@ -1,12 +1,13 @@
 """lanyardrove check."""
+import json
 import os
 import random
 import re
 import shutil
 import subprocess
 
-from rules import NAMES, accepted_list, cause_of, hazards_along, misses_sync, words_of
-from support import C, L, LOAD, N, ONE_CYCLE, PIPE, R, S, TILE, TOOL, example, read, run, same, test, words, write
+from rules import NAMES, accepted_list, cause_of, cycles_of, hazards_along, misses_sync, words_of
+from support import BLOCK, C, FULL, L, LOAD, N, ONE_CYCLE, PIPE, R, S, SET_TILE, TILE, TOOL, example, read, run, same, test, words, write
 
 
 def example_table():
@@ -38,7 +39,7 @@ def check_says_what_an_answer_means():
             (words(S[0], 0x3F00000700000000, S[2], R), "6 3\nword 3: Fill Rectangle draws in FILL mode on a 4-bit colour image"),
             (words(*S, R, L), "7 4\nword 4: Load Tile requires Sync Load, for the Fill Rectangle at word 3"),
             (words(*S, L, R), "7 4\nword 4: Fill Rectangle requires Sync Load, for the Load Tile at word 3"),
-            (words(ONE_CYCLE, *S[1:], 0x24 << 56, 0, 0x35 << 56), "8 5\nword 5: Set Tile requires Sync Tile, for the Texture Rectangle at word 3"),
+            (words(ONE_CYCLE, *S[1:], 0x24 << 56, 0, SET_TILE), "8 5\nword 5: Set Tile requires Sync Tile, for the Texture Rectangle at word 3"),
             (words(*S, R, C), "9 4\nword 4: Set Fill Color requires Sync Pipe, for the Fill Rectangle at word 3")):
         same(run("check", "-", stdin=data), (0 if text[0] == "0" else 1, text + "\n", ""))
 
@@ -52,11 +53,19 @@ def check_names_the_latest_command_that_the_sync_has_to_wait_for():
             ([*S, R, *[N] * 4091, C], "word 4095: Set Fill Color requires Sync Pipe, for the Fill Rectangle at word 3"),
             ([*S, *triangle, C], "word 25: Set Fill Color requires Sync Pipe, for the Fill Triangle (STZ) at word 3"),
             ([*S, L, 0x30 << 56, R, R], "word 5: Fill Rectangle requires Sync Load, for the Load TLUT at word 4"),
-            ([*textured, R, 0x08 << 56, 0, 0, 0, 0x35 << 56], "word 10: Set Tile requires Sync Tile, for the Texture Rectangle at word 3"),
+            ([*textured, R, 0x08 << 56, 0, 0, 0, SET_TILE], "word 10: Set Tile requires Sync Tile, for the Texture Rectangle at word 3"),
             ([*textured, R, C], "word 6: Set Fill Color requires Sync Pipe, for the Fill Rectangle at word 5"),
             ([*S, R, PIPE, R, TILE, LOAD, C], "word 8: Set Fill Color requires Sync Pipe, for the Fill Rectangle at word 5")):
         status, out, err = run("check", "-", stdin=words(*given))
         same((status, out.split("\n")[1], err), (1, text, ""))
+
+
+@test
+def check_asks_for_a_sync_between_a_load_and_set_tile():
+    meaning = "Set Tile requires Sync Tile, for the Load Block at word 0"
+    for between, text in (([], f"8 1\nword 1: {meaning}"), ([LOAD], f"8 2\nword 2: {meaning}"), ([TILE], "0 3\naccepted: 3 words"),
+                          ([PIPE], "0 3\naccepted: 3 words")):
+        same(run("check", "-", stdin=words(BLOCK, *between, SET_TILE)), (int(text[0] != "0"), text + "\n", ""))
 
 
 @test
@@ -80,6 +89,35 @@ def check_accepts_what_the_readme_says_that_it_does():
                   [*one_cycle, 0x24 << 56, 0], [0x3400000000FFFFFF], [0x3300000000FFF000], [S[0], 0x3F10000703FFFFFF, S[2], R]):
         same(run("check", "-q", "-", stdin=words(*given)), (0, f"0 {len(given)}\n", ""), given)
     same(run("check", "-q", "-", stdin=words(*one_cycle, 0x24 << 56, 0, 0x3500000007000000)), (1, "8 5\n", ""))  # drawn with tile 0, set is tile 7
+
+
+def told_cycles(*arguments, **more):
+    """The cycles that check tells of each list, in its text and in its document."""
+    text = run("check", "-v", *arguments, **more)[1]
+    return [int(cycles) for cycles in re.findall(r" waits? (\d+) cycles$", text, re.M)], \
+        [one["cycles"] for one in json.loads(run("check", "--format=json", *arguments, **more)[1])["lists"]]
+
+
+@test
+def check_says_the_cycles_that_a_list_waits():
+    meaning = "word 5: Set Fill Color requires Sync Pipe, for the Fill Rectangle at word 3"
+    same(run("check", "-v", example("h-pipe.rdp")), (0, "0 6\naccepted: 6 words; the list waits 50 cycles\n", ""))
+    same(run("check", "--verbose", example("h-tile.rdp")), (1, f"9 5\n{meaning}; the syncs before the refusal wait 33 cycles\n", ""))
+    same(run("check", "-v", "--all", "-", stdin=words(*S, R, TILE, C, PIPE, R, C))[1],
+         f"9 5\n{meaning}; the syncs before the refusal wait 33 cycles\n9 8\n{meaning.replace('5', '8').replace('3', '7')}\n")
+    same(run("check", "-q", "-v", "-"), (2, "", "lanyardrove: check has one of --quiet and --verbose\nTry 'lanyardrove check --help'.\n"))
+    given = [example("h-tile.rdp"), example("h-pipe.rdp"), write("stray.rdp", words(LOAD) + b"x"), write("long.rdp", words(*[PIPE] * 4097))]
+    same(told_cycles(*given), ([33, 50, 25, 204800],) * 2)
+
+
+@test
+def check_counts_the_syncs_of_accepted_commands():
+    rng = random.Random(7)
+    for _ in range(20):
+        given = accepted_list(rng, [ONE_CYCLE, *S[1:]], rng.randrange(4, 200))
+        for more in ([FULL], [FULL, PIPE], [PIPE, FULL, N, TILE]):  # Sync Full waits for nothing that is counted, what comes after it is refused
+            due = cycles_of(given + more[:more.index(FULL)])
+            same(told_cycles("-", stdin=words(*given, *more)), ([due], [due]))
 
 
 @test

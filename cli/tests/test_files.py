@@ -5,7 +5,7 @@ import shutil
 import signal
 import subprocess
 
-from support import L, PIPE, R, S, C, TOOL, example, files, read, run, same, test, words, write
+from support import L, PIPE, R, S, C, TOOL, example, files, inserted, read, run, same, test, words, write
 
 REPAIRED_J = words(*S, R, PIPE, L, C)
 
@@ -28,7 +28,7 @@ def what_is_no_file_is_not_written():
 @test
 def a_device_or_a_pipe_is_written_where_it_stands():
     os.mkfifo("pipe")
-    text = "Sync Pipe before word 4, Load Tile\n1 sync inserted, 50 cycles, 7 words in all\n"
+    text = "Sync Pipe before word 4, Load Tile\n" + inserted(1, 50, 7)
     same(run("repair", example("j.rdp"), "-o", "/dev/null"), (0, text, ""))
     with subprocess.Popen([TOOL, "repair", example("j.rdp"), "-o", "pipe"], stdout=subprocess.PIPE) as tool:
         same((read("pipe"), tool.stdout.read().decode(), tool.wait()), (REPAIRED_J, text, 0))
@@ -43,8 +43,12 @@ def a_device_or_a_pipe_is_written_where_it_stands():
 
 @test
 def memory_that_is_short_is_told_once():
-    for kilobytes, arguments in ((60000, ["report", example("i.rdp"), "-o", "x.html"]), (60000, ["draw", example("i.rdp"), "--memory", "100M", "-o", "x.bin"])):
-        done = subprocess.run(["sh", "-c", f'ulimit -v {kilobytes}; exec "$0" "$@"', TOOL, *arguments], capture_output=True)
+    def limited(*arguments):
+        return subprocess.run(["sh", "-c", 'ulimit -v 60000; exec "$0" "$@"', TOOL, *arguments], capture_output=True)
+    if limited("--version").returncode != 0:
+        return  # with sanitizers it does not even start
+    for arguments in (["report", example("i.rdp"), "-o", "x.html"], ["draw", example("i.rdp"), "--memory", "100M", "-o", "x.bin"]):
+        done = limited(*arguments)
         same((done.returncode, done.stdout, done.stderr.count(b"\n")), (2, b"", 1), arguments)
         assert b"not enough memory" in done.stderr, done.stderr
     same(files(), [])

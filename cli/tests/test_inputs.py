@@ -32,7 +32,8 @@ def a_list_is_found_inside_a_file():
     same(both("check", "-q", "-", "--offset=0xBBB", "--length=0x20", data=rom), (0, "0 4\n", ""))
     same(both("check", "-q", "-", "--offset=3003", data=rom[:-4]), (1, "9 4\n", ""))
     same(both("check", "-q", "-", "--length=0", data=rom), (0, "0 0\n", ""))
-    same(both("dump", "-", "--offset", "3003", "--length", "40", data=rom)[1], run("dump", "-", stdin=G)[1])
+    shown = both("dump", "-", "--offset", "3003", "--length", "40", data=rom)[1]
+    same(re.sub(r"(?m)^( *\d+)  [0-9A-F]{6}", lambda m: f"{m[1]}  {8 * int(m[1]):06X}", shown), run("dump", "-", stdin=G)[1])
     same(run("repair", write("rom.bin", rom), "--offset", "3003", "--length", "40", "-o", "out.rdp")[0], 0)
     same((read("out.rdp"), read("rom.bin")), (words(*S, R, PIPE, C), rom))
     same(run("draw", "rom.bin", "--offset", "3003", "--length", "32", "--memory", "64", "-o", "out.bin")[0], 0)

@@ -41,6 +41,13 @@ def make_makes_archive_and_tool():
 
 
 @test
+def make_names_the_libraries_that_are_missing():
+    for goal in ("cli-libraries", "cli", "all"):
+        make("-s", "-B", "-o", "build/liblanyardrove.a", "PKG_CONFIG=false", goal, status=2,
+             errors=b"The tool needs libpng and jansson: apt-get install libpng-dev libjansson-dev pkg-config\n")
+
+
+@test
 def install_and_uninstall():
     root = os.path.abspath("a root")
     make_built("install", f"DESTDIR={root}", "PREFIX=/usr")
@@ -51,6 +58,20 @@ def install_and_uninstall():
     write(f"{root}/usr/lib/other", b"")
     make_built("uninstall", f"DESTDIR={root}", "PREFIX=/usr")
     same(files_below(root), ["usr/lib/other"])
+
+
+@test
+def the_dockerfile_has_only_steps_that_are_run():
+    """make dockerfile runs them; here is only seen that it knows them all, and that what is copied is made."""
+    text = read(os.path.join(TOP, "Dockerfile")).decode()
+    steps = re.findall(r"^([A-Z]+) (.*)$", text.replace("\\\n", ""), re.M)
+    same({step for step, _ in steps}, {"FROM", "RUN", "COPY"})
+    known = re.findall(r"^    ([A-Z]+)\)", read(os.path.join(TOP, "tools", "dockerfile")).decode(), re.M)
+    same(set(known), {"FROM", "RUN", "COPY"})
+    plan = make("-n", "-o", "build/liblanyardrove.a", "dockerfile")
+    assert "bash tools/dockerfile" in plan and 'install -D -m $mode "${pair#*=}" "build/installed/usr/' in plan, plan
+    for name in (rest.split()[0] for step, rest in steps if step == "COPY"):
+        assert name == "build/installed/usr" or os.path.exists(os.path.join(TOP, name)), name
 
 
 @test
@@ -145,16 +166,16 @@ def lists_are_checked_by_the_sample_for_make():
         assert done.returncode == 2 and b"list.rdp:4: error: Set Fill Color requires Sync Pipe [9]\n" in done.stdout, done
 
 
+def cmake(*arguments):
+    assert shutil.which("cmake"), "CMake is not installed: apt-get install cmake"
+    return subprocess.run(["cmake", *arguments], capture_output=True, env={**os.environ, "CC": "cc"})
+
+
 @test
 def a_program_and_lists_are_built_by_the_sample_for_cmake():
-    assert shutil.which("cmake"), "CMake is not installed: apt-get install cmake"
     prefix = os.path.abspath("a prefix")
     make_built("install", f"PREFIX={prefix}")
     sample("CMakeLists.txt")
-    version = run("--version")[1].split()[1]
-
-    def cmake(*arguments):
-        return subprocess.run(["cmake", *arguments], capture_output=True, env={**os.environ, "CC": "cc"})
     same(cmake("-S", "game", "-B", "made", f"-DCMAKE_PREFIX_PATH={prefix}").stderr, b"")
     same((cmake("--build", "made").returncode, os.path.exists("made/a list.rdp.checked")), (0, True))
     done = subprocess.run(["made/check"], input=read(example("g.rdp")), capture_output=True)
@@ -163,10 +184,20 @@ def a_program_and_lists_are_built_by_the_sample_for_cmake():
     os.utime("game/a list.rdp", (2e9, 2e9))
     done = cmake("--build", "made")
     assert done.returncode != 0 and b"a list.rdp:4: error: Set Fill Color requires Sync Pipe [9]\n" in done.stdout, done
-    for asked, found in ((version, True), ("99.0", False), (f"{int(version.split('.')[0]) - 1}.0", False)):
-        write("game/CMakeLists.txt", f"cmake_minimum_required(VERSION 3.16)\nproject(lists C)\nfind_package(lanyardrove {asked} REQUIRED)\n".encode())
-        same(cmake("-S", "game", "-B", "other", f"-DCMAKE_PREFIX_PATH={prefix}").returncode == 0, found, asked)
-        shutil.rmtree("other")
+
+
+@test
+def cmake_takes_no_other_major_version():
+    prefix = os.path.abspath("prefix")
+    make_built("install", f"PREFIX={prefix}")
+    sample("CMakeLists.txt")
+    version, text = run("--version")[1].split()[1], read("game/CMakeLists.txt")
+    major = int(version.split(".")[0])
+    for asked, found in ((version, True), (f"{major}", True), (f"{major}.255", False), (f"{major + 1}.0", False), (f"{major - 1}.0", False)):
+        write("game/CMakeLists.txt", text.replace(b"find_package(lanyardrove", f"find_package(lanyardrove {asked}".encode()))
+        done = cmake("-S", "game", "-B", "made", f"-DCMAKE_PREFIX_PATH={prefix}")
+        same((done.returncode == 0, b"compatible" in done.stderr), (found, not found), asked)
+        shutil.rmtree("made")
 
 
 def shell(name, line):

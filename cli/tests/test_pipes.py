@@ -3,7 +3,7 @@ import os
 import re
 import subprocess
 
-from support import C, FULL, L, N, PIPE, R, S, TOOL, arriving, example, files, read, run, same, test, words, write
+from support import C, FULL, L, N, PIPE, R, S, TOOL, arriving, example, files, inserted, read, run, same, test, words, write
 
 CHECK, DUMP, REPORT = ["check", "-"], ["dump", "-"], ["report", "-", "-o", "-"]
 DRAW = ["draw", "-", "--memory", "64", "-o", "out.bin"]
@@ -43,7 +43,7 @@ def repair_reads_on_after_a_missing_sync_and_ends_at_other_refusals():
     same(arriving(REPAIR, words(*S, R, C), bytes(16384 - 40), b"x"), (1, too_long))
     same(arriving(REPAIR, bytes(16376), words(R)), (1, "5 2047\n" + not_set.split("\n")[1].replace("word 0", "word 2047") + "\n"))
     same(files(), [])
-    text = "Sync Pipe before word 4, Load Tile\n1 sync inserted, 50 cycles, 7 words in all\n"
+    text = "Sync Pipe before word 4, Load Tile\n" + inserted(1, 50, 7)
     same(run(*REPAIR, stdin=words(*S, R, L, C)), (0, text, ""))
     same((read("out.rdp"), files()), (words(*S, R, PIPE, L, C), ["out.rdp"]))
     # after a missing sync the repair judges the whole list, as from a file
@@ -58,15 +58,15 @@ def dump_and_report_show_what_comes_after_a_refusal():
     for data in (words(*given), words(*given) + b"\xAB"):  # the refused command comes before the stray byte
         status, out, err = run(*DUMP, stdin=data)
         same((status, out.startswith(MISSING), err), (1, True, ""))
-        same([int(place) for place in re.findall(r"^ *(\d+)  [0-9A-F]{16}  ", out, re.M)], list(range(8)))
-        same("     8  AB  no whole word\n" in out, len(data) % 8 == 1)
-        same(run(*REPORT, stdin=data)[1].count('<td class="place">'), 8)
+        same([int(place) for place in re.findall(r"^ *(\d+)  [0-9A-F]{6}  [0-9A-F]{16}  ", out, re.M)], list(range(8)))
+        same("     8  000040  AB  no whole word\n" in out, len(data) % 8 == 1)
+        same(run(*REPORT, stdin=data)[1].count('<td class="place" '), 8)
     same(arriving(DUMP, words(*given), bytes(32768 - 64), b"x")[1].count("hazards:"), 4096)
     status, out = arriving(DUMP, words(*given), bytes(40000))
     same((status, out.startswith(MISSING), out.count("hazards:")), (1, True, 4096))
     assert out.endswith("\n        the list goes on after 32768 bytes, which is all that is shown\n"), out[-200:]
     status, out = arriving(REPORT, words(*given), bytes(40000))
-    same((status, out.count('<td class="place">')), (1, 4096))
+    same((status, out.count('<td class="place" ')), (1, 4096))
     assert "<dd>over 32768</dd>" in out and "the commands of its first 32,768 bytes are shown" in out
     assert "<code>9 4</code>" in out and "The list cannot be repaired: <code>1 2048</code>" in out, out
 

@@ -3,6 +3,7 @@ import os
 import re
 import shlex
 import shutil
+import subprocess
 
 from support import TOP, read, run, same, test
 
@@ -34,3 +35,20 @@ def the_readme_shows_what_the_commands_print():
     assert {shlex.split(command)[1] for command, _ in commands} >= {"check", "dump", "repair", "draw"}, commands
     for command, output in commands:
         same(run(*shlex.split(command)[1:])[1:], (output, ""), command)
+
+
+@test
+def the_readme_names_the_toolchain():
+    if shutil.which("rt"):
+        version = subprocess.run(["rt", "--version"], capture_output=True, check=True).stdout.decode().strip()
+        assert f"(`rt --version`: {version})" in README, version
+
+
+@test
+def the_readme_says_why_check_and_repair_differ_at_example_j():
+    assert "`check` refuses examples/j.rdp for a Sync Load (`7 4`)" in README and "at 50 cycles in place of 75" in README
+    same(run("check", "-q", os.path.join(TOP, "examples", "j.rdp"))[1], "7 4\n")
+    same(run("repair", "--check", os.path.join(TOP, "examples", "j.rdp"))[1], "Sync Pipe before word 4, Load Tile\n"
+                                                                             "1 sync would be inserted, 50 cycles, 7 words in all; the list waits 0 cycles before, 50 after\n")
+    apart = run("check", "--all", "-q", os.path.join(TOP, "examples", "j.rdp"))[1].split()[::2]
+    same(sum({"7": 25, "8": 33, "9": 50}[number] for number in apart), 75)

@@ -6,7 +6,8 @@ import re
 import struct
 
 from rules import commands_of, hazards_along
-from support import C, L, N, ONE_CYCLE, R, S, example, memory_of_i, png_pixels, read, rgb_of, run, same, test, words, write
+from support import (C, FULL, L, N, ONE_CYCLE, PIPE, R, S, SET_TILE, TILE, example, inserted, memory_of_i,
+                     png_pixels, read, rgb_of, run, same, test, words, write)
 
 
 class Page(html.parser.HTMLParser):
@@ -26,7 +27,7 @@ class Page(html.parser.HTMLParser):
             self.rows.append([dict(attributes), ""])
         if tag == "img":
             self.images.append(dict(attributes)["src"])
-        if tag not in ("meta", "br", "img"):
+        if tag not in ("meta", "br", "img", "input"):
             self.open.append(tag)
 
     def handle_endtag(self, tag):
@@ -38,7 +39,7 @@ class Page(html.parser.HTMLParser):
             self.rows[-1][1] += data + " "
 
     def rows_of(self, kind):
-        return [text for attributes, text in self.rows if attributes.get("class") == kind]
+        return [text for attributes, text in self.rows if kind in attributes.get("class", "").split()]
 
     def picture(self):
         same(len(self.images), 1)
@@ -53,6 +54,8 @@ def reported(data, status, name="list.rdp"):
     page = Page(read("out.html").decode())
     assert not page.tags & {"script", "link", "iframe"}, page.tags
     assert not re.search(r"https?:|@import|url\(|\033", page.source), "the page needs another file"
+    ids = re.findall(r'id="([^"]+)"', page.source)
+    assert len(ids) == len(set(ids)) and set(re.findall(r'href="#([^"]+)"', page.source)) <= set(ids), "a link leads nowhere"
     os.remove("out.html")
     os.remove(name)
     return page
@@ -69,10 +72,19 @@ def report_of_a_refused_list():
     same(len(refused), 1)
     assert "37000000F801003F" in refused[0] and "Refused, 9 4: word 4: Set Fill Color requires Sync Pipe, for the" in refused[0], refused
     same(len([row for row in page.rows_of("inserted") if "+ Sync Pipe" in row]), 1)
-    assert "1 sync would be inserted, 50 cycles" in page.text and "Sync Pipe before word 4, Set Fill Color" in page.text
+    assert inserted(1, 50, 6, done="would be inserted").strip() in page.text and "Sync Pipe before word 4, Set Fill Color" in page.text
+    assert '<li>Sync Pipe before <a href="#w4">word 4</a>, Set Fill Color</li>' in page.source
     same(page.source.count('class="strip"'), 2)  # the list and the repaired list
     assert "drawn by the repaired list" in page.text
     same(page.picture(), (8, 4, bytes(96)))  # the colour is set after the rectangle
+
+
+@test
+def report_shows_the_cycles_with_the_verdict():
+    for given, status, fact in (([*S, R, PIPE, C, TILE, FULL], 0, ("cycles waited", "83")), ([], 0, ("cycles waited", "0")),
+                                ([*S, R, TILE, C, PIPE], 1, ("cycles waited before the refusal", "33"))):
+        facts = re.findall(r"<dt>(.*?)</dt><dd>(.*?)</dd>", reported(words(*given), status).source)
+        same(facts[-1], fact, given)
 
 
 @test
@@ -93,7 +105,7 @@ def report_names_links_and_marks_the_cause():
 def report_of_other_refusals_names_no_cause():
     for name in ("b.rdp", "c1.rdp", "d.rdp", "e.rdp", "f.rdp", "i.rdp"):
         page = reported(read(example(name)), 0 if name == "i.rdp" else 1)
-        assert 'href="#cause"' not in page.source and 'class="cause"' not in page.source and 'class="h-cause"' not in page.source, name
+        assert 'href="#cause"' not in page.source and ' cause">' not in page.source and 'class="h-cause"' not in page.source, name
     page = reported(words(*S, R, C, 0x24 << 56), 1)  # a missing sync, and later a command that is cut: no repair, and the check's refusal in drawing
     assert "The list cannot be repaired: 3 5" in page.text, page.text
     assert "The list cannot be drawn: 9 4, word 4: Set Fill Color requires Sync Pipe, for the Fill Rectangle at word 3." in page.text, page.text
@@ -135,7 +147,7 @@ def report_knows_the_places_of_the_given_list_only():
 @test
 def report_gives_a_reason_for_each_refusal():
     lists = [bytes(32776), bytes(7), words(0x24 << 56), words(0x29 << 56, N), words(R), words(S[0], 0x3F00000700000000, S[2], R),
-             words(*S, R, L), words(ONE_CYCLE, *S[1:], 0x24 << 56, 0, 0x35 << 56), words(*S, R, C)]
+             words(*S, R, L), words(ONE_CYCLE, *S[1:], 0x24 << 56, 0, SET_TILE), words(*S, R, C)]
     reasons = [re.search('<p class="why">(.+)</p>', reported(data, 1).source)[1] for data in lists]
     same(len(set(reasons)), 9)
 
@@ -143,14 +155,14 @@ def report_gives_a_reason_for_each_refusal():
 @test
 def report_of_a_file_with_an_odd_name():
     page = reported(words(N), 0, "<b>&'\"\n\033[1m.rdp")
-    assert "<h1>&#60;b&#62;&#38;&#39;&#34;??[1m.rdp</h1>" in page.source, page.source
+    assert '<h1 id="top">&#60;b&#62;&#38;&#39;&#34;??[1m.rdp</h1>' in page.source, page.source
 
 
 @test
 def report_of_standard_input_and_to_standard_output():
     status, out, err = run("report", "-", "-o", "-", stdin=words(*S, R, C))
     same((status, err), (1, ""))
-    assert "<h1>standard input</h1>" in Page(out).source
+    assert '<h1 id="top">standard input</h1>' in Page(out).source
 
 
 @test
@@ -159,11 +171,11 @@ def report_shows_hazards_along_the_list():
     strips = re.findall(r'<svg viewBox="0 0 (\d+) 72".*?>(.*?)</svg>', page.source, re.S)
     bars = [re.findall(r'<rect class="h-(\w+)" x="(\d+)" y="(\d+)" width="(\d+)" height="(\d+)"', strip) for _, strip in strips]
     same([columns for columns, _ in strips], ["7", "8"])
-    # from word 4 on pipe and draw, after the refused command at word 5 too, and then load; it is refused for the draw at word 3
-    same(bars[0], [("pipe", "4", "2", "3", "14"), ("draw", "4", "38", "3", "14"), ("load", "6", "56", "1", "14"), ("cause", "3", "0", "1", "72"),
-                   ("refused", "5", "0", "1", "72")])
+    # from word 4 on pipe and draw, after the refused command at word 5 too, and then tile and load; it is refused for the draw at word 3
+    same(bars[0], [("pipe", "4", "2", "3", "14"), ("tile", "6", "20", "1", "14"), ("draw", "4", "38", "3", "14"), ("load", "6", "56", "1", "14"),
+                   ("cause", "3", "0", "1", "72"), ("refused", "5", "0", "1", "72")])
     # repaired: S R N Pipe L C
-    same(bars[1], [("pipe", "4", "2", "2", "14"), ("draw", "4", "38", "2", "14"), ("load", "7", "56", "1", "14")])
+    same(bars[1], [("pipe", "4", "2", "2", "14"), ("tile", "7", "20", "1", "14"), ("draw", "4", "38", "2", "14"), ("load", "7", "56", "1", "14")])
     assert "pipe: before the commands at words 4 to 6" in page.text
     assert "After it the hazards go on as if it had run." in page.text and "unknown" not in page.source
 
@@ -176,3 +188,60 @@ def report_shows_the_hazards_to_the_end():
         shown = [text for (place, _), text in zip(commands_of(given), hazards_along(given)) if place < 4096]
         same(page.hazards, [" ".join(name for name in ("pipe", "tile", "draw", "load") if name in hazards) or "none" for hazards in shown])
     assert "Red marks" not in reported(bytes(7), 1).text and "Red marks" not in reported(bytes(32776), 1).text
+
+
+@test
+def report_has_an_anchor_for_each_word():
+    given = [*S, 0x0F << 56, *range(21), 0x24 << 56, 0, R]
+    page = reported(words(*given), 0)
+    same(sorted(map(int, re.findall(r'id="w(\d+)"', page.source))), list(range(len(given))))
+    assert '<details><summary>0F00000000000000<br><span class="more">and 21 more</span></summary><span id="w4">0000000000000000</span><br>' in page.source
+    assert '2400000000000000<br><span id="w26">0000000000000000</span></td>' in page.source  # two words are not folded
+    same(len(re.findall(r'<a href="#w(\d+)">\1</a>', page.source)), 6)
+
+
+@test
+def report_can_be_read_by_all():
+    page = reported(words(*S, R, C), 1)
+    for part in ("<main>", "<caption>", '<th scope="col">Command</th>', '<th scope="row" class="name">Fill Rectangle</th>', '<a href="#top">Back to top</a>'):
+        assert part in page.source, part
+    assert "Made by " + run("--version")[1].strip() in page.text
+    # what the bars say to a mouse stands in words too, with links
+    runs = re.findall(r'<li>(\w+), at <a href="#w(\d+)">word \2</a> to <a href="#w(\d+)">word \3</a></li>', page.source)
+    titles = re.findall(r"<title>(\w+): before the commands at words (\d+) to (\d+)</title>", page.source)
+    same((sorted(runs), len(runs)), (sorted(titles), 4))
+    same(len(re.findall(r'<a href="#(?:w4|refused|cause)" tabindex="-1"><rect', page.source)), 6)
+
+
+@test
+def report_of_a_list_too_long_for_the_repair_names_the_first_sync():
+    for given, text in (([*S, R, *[N] * 3000, C], "Sync Pipe before word 3004, Set Fill Color"), ([*S, R, L, *[N] * 3000], "Sync Load before word 4, Load Tile"),
+                        ([ONE_CYCLE, *S[1:], 0x24 << 56, 0, 0x35 << 56, *[N] * 3000], "Sync Tile before word 5, Set Tile")):
+        page = reported(words(*given), 1)
+        assert f"The list cannot be repaired: 1 2048, the list is over 16,384 bytes.\nThe first sync that it misses: {text}." in page.text, page.text[:2000]
+        same([row.split() for row in page.rows_of("inserted")], [["+", *text.split()[:2], "this", "sync", "is", "missing"]])
+    assert "The first sync" not in reported(words(*S, R, C), 1).text and "The first sync" not in reported(words(0x24 << 56), 1).text
+
+
+@test
+def report_shows_long_lists_in_several_strips():
+    page = reported(words(L, *[N] * 4095), 0)
+    same(re.findall(r'<div style="width:(\d+)%">\n<svg viewBox="0 0 (\d+) 72"', page.source), [("100", "512")] * 8)
+    same(re.findall(r"<span>word (\d+)</span><span>word (\d+)</span>", page.source), [(str(i), str(i + 511)) for i in range(0, 4096, 512)])
+    page = reported(words(L, *[N] * 599), 0)
+    same(re.findall(r'<div style="width:(\d+)%">\n<svg viewBox="0 0 (\d+) 72"', page.source), [("100", "512"), ("18", "88")])
+
+
+@test
+def report_shows_colours():
+    page = reported(words(0x37000000F801003F, 0x3800000012345678, 0x3A00000080FF0040, N), 0)
+    same(re.findall(r'<span class="swatch" style="background:#(\w+)">', page.source),
+         ["F80100", rgb_of(0xF801).hex().upper(), rgb_of(0x003F).hex().upper(), "123456", "80FF00"])
+
+
+@test
+def report_shows_a_picture_at_a_useful_size():
+    for width, height, shown in ((320, 240, (640, 480)), (8, 4, (320, 160)), (1024, 2, (1024, 2))):
+        image = 0x3F10000000000000 | width - 1 << 32
+        page = reported(words(S[0], image, 0x2D00000000000000 | width * 4 << 12 | height * 4, R), 0)
+        same(re.search(r'<img alt="[^"]+" width="(\d+)" height="(\d+)"', page.source).groups(), tuple(map(str, shown)))

@@ -1,7 +1,7 @@
 /*
  * Calls every function of include/lanyardrove.h through the archive: empty, short, cut and longest lists, null pointers where
  * a length is 0, document 01's examples, guard bytes around every buffer, every command number there and back, its length,
- * its step from each of the sixteen hazards, and lists in portions.
+ * its step from each of the sixteen hazards, and lists in portions with the cycles that their syncs wait.
  * It compiles as C11 and as C++17. The last line counts the checks; the exit status says whether all passed.
  */
 #include "lanyardrove.h"
@@ -796,7 +796,9 @@ typedef struct {
 static Guarded a_stream;
 
 /* The record's own layout, for records that are looked into and damaged on purpose. */
-enum { HELD = 256, HELD_COUNT = 432, TAKEN = 436, NUMBER = 440, PLACE = 444, HAZARDS = 448, ENDED = 449, RECORD = 456 };
+enum { HELD = 256, HELD_COUNT = 432, TAKEN = 436, NUMBER = 440, PLACE = 444, HAZARDS = 448, ENDED = 449, SPARE = 450, WAITED = 452, RECORD = 456 };
+
+#define MOST_WAITED 204800 /* the most cycles of a record: 4,096 times 50 */
 
 static uint8_t *record_bytes(void) { return (uint8_t *)&a_stream.record; }
 
@@ -820,25 +822,46 @@ static uint64_t end_stream(void) { return lanyardrove_stream_close(&a_stream.rec
 static int record_is(const struct lanyardrove_stream *record) { return memcmp(&a_stream.record, record, sizeof *record) == 0; }
 
 /* Feeding and closing answer this and leave the record. */
-static void repeats(unsigned number, unsigned place, int line) {
+static void repeats(unsigned number, unsigned cycles, unsigned place, int line) {
     const struct lanyardrove_stream kept = a_stream.record;
-    expect_answer(feed(a_list.bytes, 8), number, 0, place, line);
-    expect_answer(feed(NULL, 0), number, 0, place, line);
-    expect_answer(end_stream(), number, 0, place, line);
+    expect_answer(feed(a_list.bytes, 8), number, cycles, place, line);
+    expect_answer(feed(NULL, 0), number, cycles, place, line);
+    expect_answer(end_stream(), number, cycles, place, line);
     expect(record_is(&kept), "the record stays", line);
 }
-#define REPEATS(number, place) repeats((number), (place), __LINE__)
+#define REPEATS(number, cycles, place) repeats((number), (cycles), (place), __LINE__)
+
+static unsigned cycles_of(unsigned number) {
+    return number == LANYARDROVE_SYNC_LOAD ? 25 : number == LANYARDROVE_SYNC_TILE ? 33 : number == LANYARDROVE_SYNC_PIPE ? 50 : 0;
+}
+
+/* What the commands of a_list before a place wait; the sum goes on from an earlier place. */
+typedef struct {
+    size_t place;
+    unsigned cycles;
+} Waits;
+
+static void wait_to(Waits *waits, size_t place) {
+    while (waits->place < place) {
+        const unsigned number = a_list.bytes[8 * waits->place] & 63;
+        waits->cycles += cycles_of(number);
+        waits->place += words_of(number);
+    }
+}
 
 /* A list in portions of a length, with an empty one before each, which changes nothing; what closing answers. */
 static uint64_t in_portions(size_t length, size_t portion, int line) {
+    Waits waits = {0, 0};
     size_t at;
-    uint64_t answer;
+    uint64_t answer, told;
     fresh_stream();
     for (at = 0; at < length; at += portion) {
         const struct lanyardrove_stream kept = a_stream.record;
         answer = feed(NULL, 0);
         expect(record_is(&kept), "an empty portion leaves the record", line);
-        feed(a_list.bytes + at, length - at < portion ? length - at : portion);
+        told = feed(a_list.bytes + at, length - at < portion ? length - at : portion);
+        wait_to(&waits, lanyardrove_place(told));
+        expect(lanyardrove_cycles(told) == waits.cycles && number_in(WAITED) == waits.cycles, "the cycles of the accepted commands", line);
         if (lanyardrove_number(answer)) expect(feed(NULL, 0) == answer && record_is(&kept), "a refusal is repeated", line);
     }
     answer = end_stream();
@@ -847,21 +870,21 @@ static uint64_t in_portions(size_t length, size_t portion, int line) {
 }
 
 /* However a list is cut, closing answers this and the record is the same; closing again repeats it, after a refusal feeding too. */
-static void stream_ends(size_t length, unsigned number, unsigned place, int line) {
+static void stream_ends(size_t length, unsigned number, unsigned cycles, unsigned place, int line) {
     static const size_t cuts[] = {1, 2, 3, 5, 7, 8, 9, 12, 16, 63, 64, 175, 176, 177};
     struct lanyardrove_stream whole;
     size_t i;
-    expect_answer(in_portions(length, ROOM, line), number, 0, place, line);
+    expect_answer(in_portions(length, ROOM, line), number, cycles, place, line);
     whole = a_stream.record;
-    expect_answer(end_stream(), number, 0, place, line);
+    expect_answer(end_stream(), number, cycles, place, line);
     expect(record_is(&whole), "closing twice leaves the record", line);
-    if (number) repeats(number, place, line);
+    if (number) repeats(number, cycles, place, line);
     for (i = 0; i < sizeof cuts / sizeof cuts[0]; i++) {
-        expect_answer(in_portions(length, cuts[i], line), number, 0, place, line);
+        expect_answer(in_portions(length, cuts[i], line), number, cycles, place, line);
         expect(record_is(&whole), "every cutting leaves the same record", line);
     }
 }
-#define STREAM_ENDS(length, number, place) stream_ends((length), (number), (place), __LINE__)
+#define STREAM_ENDS(length, number, cycles, place) stream_ends((length), (number), (cycles), (place), __LINE__)
 
 /* Examples A to O: closing answers as the check does. */
 static void stream_examples(void) {
@@ -871,23 +894,23 @@ static void stream_examples(void) {
 
     fresh(&a_list);
     memset(a_list.bytes, 0, 22 * 8);
-    STREAM_ENDS(0, 0, 0); /* A */
-    STREAM_ENDS(7, 2, 0); /* B */
+    STREAM_ENDS(0, 0, 0, 0); /* A */
+    STREAM_ENDS(7, 2, 0, 0); /* B */
     put(a_list.bytes, 0x0F00000000000000u);
-    STREAM_ENDS(21 * 8, 3, 0); /* D */
-    STREAM_ENDS(22 * 8, 5, 0); /* E */
-    STREAM_ENDS(LIST(c1), 3, 0);
-    STREAM_ENDS(LIST(f), 4, 1);
-    STREAM_ENDS(LIST(g), 9, 4);
-    STREAM_ENDS(LIST(h_tile), 9, 5);
-    STREAM_ENDS(LIST(h_pipe), 0, 6);
-    STREAM_ENDS(LIST(i), 0, 5);
-    STREAM_ENDS(LIST(j), 7, 4);
-    STREAM_ENDS(LIST(k), 7, 4);
-    STREAM_ENDS(LIST(m), 9, 5);
-    STREAM_ENDS(LIST(o), 0, 5);
-    STREAM_ENDS(LIST(g) - 1, 2, 4);  /* a command that is not complete is not judged */
-    STREAM_ENDS(LIST(c1) - 1, 2, 0); /* 2 comes before 3 */
+    STREAM_ENDS(21 * 8, 3, 0, 0); /* D */
+    STREAM_ENDS(22 * 8, 5, 0, 0); /* E */
+    STREAM_ENDS(LIST(c1), 3, 0, 0);
+    STREAM_ENDS(LIST(f), 4, 0, 1);
+    STREAM_ENDS(LIST(g), 9, 0, 4);
+    STREAM_ENDS(LIST(h_tile), 9, 33, 5);
+    STREAM_ENDS(LIST(h_pipe), 0, 50, 6);
+    STREAM_ENDS(LIST(i), 0, 0, 5);
+    STREAM_ENDS(LIST(j), 7, 0, 4);
+    STREAM_ENDS(LIST(k), 7, 0, 4);
+    STREAM_ENDS(LIST(m), 9, 0, 5);
+    STREAM_ENDS(LIST(o), 0, 0, 5);
+    STREAM_ENDS(LIST(g) - 1, 2, 0, 4);  /* a command that is not complete is not judged */
+    STREAM_ENDS(LIST(c1) - 1, 2, 0, 0); /* 2 comes before 3 */
     CHECK(begins(a_list.bytes, c1, 1) && untouched_from(&a_list, 8));
 }
 
@@ -907,7 +930,7 @@ static void stream_refusal(void) {
     CHECK(number_in(HELD_COUNT) == 7 && number_in(TAKEN) == 47 && memcmp(record_bytes() + HELD, a_list.bytes + 40, 7) == 0);
     ANSWERS(feed(a_list.bytes + 47, 9), 9, 0, 5);
     CHECK(number_in(NUMBER) == 9 && number_in(PLACE) == 5 && number_in(TAKEN) == 40 && number_in(HELD_COUNT) == 0);
-    REPEATS(9, 5);
+    REPEATS(9, 0, 5);
     put_number(NUMBER, 0);
     put_number(PLACE, 0);
     CHECK(record_is(&before));
@@ -925,17 +948,17 @@ static void stream_over_limit(void) {
     CHECK(record_is(&full));
     ANSWERS(feed(a_list.bytes, 1), 1, 0, 4096);
     CHECK(number_in(NUMBER) == 1 && number_in(PLACE) == 4096);
-    REPEATS(1, 4096);
+    REPEATS(1, 0, 4096);
     put_number(NUMBER, 0);
     put_number(PLACE, 0);
     CHECK(record_is(&full));
-    STREAM_ENDS(32768, 0, 4096);
-    STREAM_ENDS(32769, 1, 4096);
+    STREAM_ENDS(32768, 0, 0, 4096);
+    STREAM_ENDS(32769, 1, 0, 4096);
     put(a_list.bytes + 32760, TEXTURED); /* a command across the limit is never complete */
-    STREAM_ENDS(32768, 3, 4095);
-    STREAM_ENDS(32784, 1, 4096);
+    STREAM_ENDS(32768, 3, 0, 4095);
+    STREAM_ENDS(32784, 1, 0, 4096);
     put(a_list.bytes + 32752, R);
-    STREAM_ENDS(32784, 5, 4094);
+    STREAM_ENDS(32784, 5, 0, 4094);
 }
 
 /* 28 at 0 by one reason, whatever is remembered; and not after the reason is gone. */
@@ -950,7 +973,7 @@ static void damaged(int at, uint32_t number, int line) {
             record_bytes()[at] = (uint8_t)number;
         else
             put_number(at, number);
-        repeats(28, 0, line);
+        repeats(28, 0, 0, line);
     }
     a_stream.record = sound;
 }
@@ -975,17 +998,56 @@ static void stream_damage(void) {
     for (number = 10; number < 256; number++) DAMAGED(NUMBER, number); /* a remembered number that these calls do not give */
     DAMAGED(NUMBER, 0x100);
     DAMAGED(NUMBER, 0x80000000u);
+    DAMAGED(WAITED, MOST_WAITED + 1);
+    DAMAGED(WAITED, 0xFFFFFFFFu);
     for (number = 1; number < 10; number++) {
         put_number(NUMBER, number);
         put_number(PLACE, 0xFFFFFFFFu); /* the remembered place is not judged */
-        REPEATS(number, 0xFFFFFFFFu);
+        REPEATS(number, 0, 0xFFFFFFFFu);
     }
     put_number(NUMBER, 0);
     put_number(TAKEN, 175); /* nothing but the held bytes */
     ANSWERS(end_stream(), 2, 0, 21);
     fresh_stream();
     record_bytes()[HELD] = 1;
-    REPEATS(28, 0);
+    REPEATS(28, 0, 0);
+}
+
+/* The syncs of accepted commands are counted, by their kind; Sync Full is not, nor is a command that is refused. */
+static void stream_cycles(void) {
+    const uint64_t words[] = {LOAD, TILE, PIPE, N, LOAD, FULL}, after_full[] = {TILE, FULL, PIPE}, missing[] = {S, R, TILE, L, R, PIPE};
+    static const unsigned cycles[] = {0, 25, 58, 108, 108, 133, 133};
+    size_t at;
+    LIST(words);
+    fresh_stream();
+    for (at = 0; at < sizeof words; at++) ANSWERS(feed(a_list.bytes + at, 1), 0, cycles[(at + 1) / 8], (unsigned)(at + 1) / 8);
+    STREAM_ENDS(LIST(words), 0, 133, 6);
+    STREAM_ENDS(LIST(words) - 1, 2, 133, 5);
+    STREAM_ENDS(LIST(after_full), 4, 33, 2);
+    STREAM_ENDS(LIST(missing), 7, 33, 6);
+    fresh(&a_list);
+    for (at = 0; at < 4097; at++) put(a_list.bytes + 8 * at, PIPE);
+    STREAM_ENDS(32768, 0, MOST_WAITED, 4096);
+    STREAM_ENDS(32769, 1, MOST_WAITED, 4096);
+}
+
+/* A record at the most cycles is taken, and one call leads it above; then it is refused. Its spare bytes stay through all. */
+static void stream_most_cycles(void) {
+    const uint64_t words[] = {PIPE, FULL, PIPE};
+    LIST(words);
+    fresh_stream();
+    memset(record_bytes() + SPARE, OLD, 2);
+    put_number(WAITED, MOST_WAITED);
+    ANSWERS(feed(NULL, 0), 0, MOST_WAITED, 0);
+    ANSWERS(end_stream(), 0, MOST_WAITED, 0);
+    ANSWERS(feed(a_list.bytes, 8), 0, MOST_WAITED + 50, 1);
+    REPEATS(28, 0, 0);
+    put_number(WAITED, MOST_WAITED - 7);
+    ANSWERS(feed(a_list.bytes + 8, 16), 4, MOST_WAITED - 7, 2);
+    REPEATS(4, MOST_WAITED - 7, 2);
+    put_number(WAITED, MOST_WAITED + 1);
+    REPEATS(28, 0, 0);
+    CHECK(all_are(record_bytes() + SPARE, 2, OLD) && number_in(WAITED) == MOST_WAITED + 1);
 }
 
 /* Every setting of the bytes is answered, with no byte beside them touched; of the hazards the low four bits count. */
@@ -994,14 +1056,19 @@ static void stream_any_bytes(void) {
     size_t round, i;
     LIST(words);
     for (round = 0; round < 2000; round++) {
+        const uint32_t waited = (uint32_t)(random_word() % (MOST_WAITED + 1));
+        uint8_t spare[WAITED - SPARE];
         unsigned number;
         fresh_stream();
         for (i = 0; i < RECORD / 8; i++) a_stream.record.opaque[i] = random_word();
-        REPEATS(28, 0);
+        memcpy(spare, record_bytes() + SPARE, sizeof spare);
+        REPEATS(28, 0, 0);
         memset(record_bytes() + HELD, 0, PLACE - HELD);
+        put_number(WAITED, waited);
         if (round % 2) record_bytes()[ENDED] = 0;
         number = record_bytes()[ENDED] ? 4 : record_bytes()[HAZARDS] & LANYARDROVE_HAZARD_DRAW ? 7 : 0;
-        ANSWERS(feed(a_list.bytes, 8), number, 0, number ? 0 : 1);
+        ANSWERS(feed(a_list.bytes, 8), number, waited, number ? 0 : 1);
+        CHECK(memcmp(record_bytes() + SPARE, spare, sizeof spare) == 0 && number_in(WAITED) == waited);
         CHECK(all_are(a_stream.before, GUARD, OLD) && all_are(a_stream.after, GUARD, OLD));
     }
 }
@@ -1024,6 +1091,8 @@ int main(void) {
     stream_refusal();
     stream_over_limit();
     stream_damage();
+    stream_cycles();
+    stream_most_cycles();
     stream_any_bytes();
     if (failures)
         printf("test_boundary: %lu checks, %lu FAILED\n", checks, failures);
