@@ -367,7 +367,8 @@ fn one(number: u8, n: u64) -> Numbers
 fn is_unassigned(number: u8) -> bool
     ensures { λ r. ⌜ r ≡ isUnassigned number ⌝ }
 {
-    (((0x01 <= number) & (number <= 0x07)) | ((0x10 <= number) & (number <= 0x23))) | (number == 0x31)
+    (((0x01 <= number) & (number <= 0x07)) | ((0x10 <= number) & (number <= 0x23)))
+        | (number == 0x31)
 }
 
 // A command's number with the numbers of its fields.
