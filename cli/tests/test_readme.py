@@ -48,7 +48,16 @@ def the_readme_names_the_toolchain():
 def the_readme_says_why_check_and_repair_differ_at_example_j():
     assert "`check` refuses examples/j.rdp for a Sync Load (`7 4`)" in README and "at 50 cycles in place of 75" in README
     same(run("check", "-q", os.path.join(TOP, "examples", "j.rdp"))[1], "7 4\n")
-    same(run("repair", "--check", os.path.join(TOP, "examples", "j.rdp"))[1], "Sync Pipe before word 4, Load Tile\n"
-                                                                             "1 sync would be inserted, 50 cycles, 7 words in all; the list waits 0 cycles before, 50 after\n")
+    repaired = run("repair", "--check", os.path.join(TOP, "examples", "j.rdp"))[1]
+    assert repaired.startswith("Sync Pipe before word 4, Load Tile\n1 sync would be inserted, 50 cycles, 7 words in all"), repaired
     apart = run("check", "--all", "-q", os.path.join(TOP, "examples", "j.rdp"))[1].split()[::2]
     same(sum({"7": 25, "8": 33, "9": 50}[number] for number in apart), 75)
+
+
+@test
+def the_readme_leads_to_the_pages_that_it_names():
+    named = set(re.findall(r"(?<![\w/])(?:docs|cli|fuzz|examples|tools|reference|include)/[\w./-]*\w", README))
+    missing = [name for name in named if not os.path.exists(os.path.join(TOP, name))]
+    assert {"docs/PROOFS.md", "docs/DESIGN.md", "docs/EVIDENCE.md"} <= named and not missing, missing
+    proved = README[README.index("## What is proved"):README.index("## What is assumed")]
+    assert len(proved.strip().split("\n")) <= 16 and "|" not in proved, proved  # its tables are in docs/PROOFS.md
