@@ -220,10 +220,11 @@ SET_COLOR_IMAGE = lines('''
 0 25:0 dramAddress
 ''')
 
-NO_OPERATIONS = [*range(0x00, 0x08), *range(0x10, 0x24), 0x31]
+NO_OPERATIONS = [0x00]
+UNASSIGNED = [*range(0x01, 0x08), *range(0x10, 0x24), 0x31]  # 02, #107
 
 LAYOUT = {
-    **{number: [] for number in NO_OPERATIONS},
+    **{number: [] for number in NO_OPERATIONS + UNASSIGNED},
     **{number: TRIANGLE for number in range(0x08, 0x10)},
     0x24: TEXTURE_RECTANGLE,
     0x25: TEXTURE_RECTANGLE,
@@ -295,9 +296,9 @@ def encoded(number, values, suffix):
     return words + suffix
 
 
-def encoding(number, values, suffix_bytes, room, no_operation=False):
+def encoding(number, values, suffix_bytes, room, named=None):
     """What encoding answers: 15 at 0, then 14 at the words needed, else 0 and the words."""
-    if no_operation and number not in NO_OPERATIONS:
+    if named is not None and number not in named:
         return 15, 0
     if not all(map(fits, LAYOUT[number], values)) or suffix_bytes != 8 * suffix_words(number):
         return 15, 0
@@ -356,15 +357,28 @@ REFUSALS = [
     encoding(0x08, triangle(dxldy_i=8192), 0, LONG),
     encoding(0x08, triangle(dxldy_i=-8192), 0, LONG),
     encoding(0x08, triangle(dxldy_i=-8193), 0, LONG),
-    # no operations
-    encoding(0x23, [], 0, LONG, no_operation=True),
-    encoding(0x24, [], 0, LONG, no_operation=True),
-    encoding(0x08, [], 0, LONG, no_operation=True),
-    encoding(0x26, [], 0, LONG, no_operation=True),
-    encoding(0x29, [], 0, LONG, no_operation=True),
-    encoding(0x30, [], 0, LONG, no_operation=True),
-    encoding(0x40, [], 0, LONG, no_operation=True),
-    encoding(0xFF, [], 0, LONG, no_operation=True),
+    # no operations and unassigned numbers, each name by its own numbers
+    encoding(0x00, [], 0, LONG, named=NO_OPERATIONS),
+    encoding(0x01, [], 0, LONG, named=NO_OPERATIONS),
+    encoding(0x23, [], 0, LONG, named=NO_OPERATIONS),
+    encoding(0x24, [], 0, LONG, named=NO_OPERATIONS),
+    encoding(0x08, [], 0, LONG, named=NO_OPERATIONS),
+    encoding(0x26, [], 0, LONG, named=NO_OPERATIONS),
+    encoding(0x29, [], 0, LONG, named=NO_OPERATIONS),
+    encoding(0x30, [], 0, LONG, named=NO_OPERATIONS),
+    encoding(0x40, [], 0, LONG, named=NO_OPERATIONS),
+    encoding(0xFF, [], 0, LONG, named=NO_OPERATIONS),
+    encoding(0x00, [], 0, LONG, named=UNASSIGNED),
+    encoding(0x01, [], 0, LONG, named=UNASSIGNED),
+    encoding(0x07, [], 0, LONG, named=UNASSIGNED),
+    encoding(0x08, [], 0, LONG, named=UNASSIGNED),
+    encoding(0x0F, [], 0, LONG, named=UNASSIGNED),
+    encoding(0x10, [], 0, LONG, named=UNASSIGNED),
+    encoding(0x23, [], 0, LONG, named=UNASSIGNED),
+    encoding(0x24, [], 0, LONG, named=UNASSIGNED),
+    encoding(0x31, [], 0, LONG, named=UNASSIGNED),
+    encoding(0x41, [], 0, LONG, named=UNASSIGNED),
+    encoding(0xFF, [], 0, LONG, named=UNASSIGNED),
     # suffixes of a wrong length
     encoding(0x08, triangle((0, 0, 0)), 8, LONG),
     encoding(0x0C, triangle((1, 0, 0)), 64, LONG),
@@ -386,7 +400,7 @@ REFUSALS = [
     # 15 comes before 14
     encoding(0x36, [4096, 0, 0, 0], 0, SHORT),
     encoding(0x27, [], 8, SHORT),
-    encoding(0x24, [], 0, SHORT, no_operation=True),
+    encoding(0x24, [], 0, SHORT, named=NO_OPERATIONS),
     # fields into too few numbers
     fields_answer(0x36, 3),
     fields_answer(0x36, 4),
@@ -523,7 +537,7 @@ def unused(number):
 
 
 def check_lists():
-    """Every command has a list, a no operation of each row's ends too, and a list has the bits that its comment says."""
+    """Every command has a list, an unassigned number of each row's ends too, and a list has the bits that its comment says."""
     seen = set()
     for comment, words, length in vectors():
         if length >= 8:
@@ -531,7 +545,7 @@ def check_lists():
             seen.add(number)
             if 'every unused bit' in comment:
                 assert all(word & mask == mask for word, mask in zip(words, unused(number))), comment
-    assert seen >= set(range(64)) - set(NO_OPERATIONS) | {0x00, 0x07, 0x10, 0x23, 0x31}
+    assert seen >= set(range(64)) - set(UNASSIGNED) | {0x00, 0x07, 0x10, 0x23, 0x31}
 
 
 def main():

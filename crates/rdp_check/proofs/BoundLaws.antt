@@ -28,10 +28,10 @@ use Rattle.rdp_check.proofs.RepairLaws.{commands-few, answered, repair-
 
 -- the numbers of the check's answers, and of the repair's
 abbrev pub checkNumbers : List ℕ
-checkNumbers = 0 ∷ 1 ∷ 2 ∷ 3 ∷ 4 ∷ 5 ∷ 6 ∷ 7 ∷ 8 ∷ 9 ∷ []
+checkNumbers = 0 ∷ 1 ∷ 2 ∷ 3 ∷ 4 ∷ 5 ∷ 6 ∷ 7 ∷ 8 ∷ 9 ∷ 19 ∷ []
 
 abbrev pub repairNumbers : List ℕ
-repairNumbers = 0 ∷ 1 ∷ 2 ∷ 3 ∷ 4 ∷ 5 ∷ 6 ∷ 13 ∷ 14 ∷ []
+repairNumbers = 0 ∷ 1 ∷ 2 ∷ 3 ∷ 4 ∷ 5 ∷ 6 ∷ 13 ∷ 14 ∷ 19 ∷ []
 
 pub check-known : (s : State) (c : List ℕ) → T (allGive (λ n. among n checkNumbers) (checkRefusals s c))
 unfolding ownRefusals syncRefusals

@@ -238,7 +238,8 @@ unfolding ownRefusals
 own-none s c n t (inl h) = subst (λ (k : ℕ). T (between 7 9 k)) (sym (h .1)) t
 own-none s c n t (inr (inl h)) = subst (λ (k : ℕ). T (between 7 9 k)) (sym (h .1)) t
 own-none s c n t (inr (inr (inl h))) = subst (λ (k : ℕ). T (between 7 9 k)) (sym (h .1)) t
-own-none s c n t (inr (inr (inr h))) = h
+own-none s c n t (inr (inr (inr (inl h)))) = subst (λ (k : ℕ). T (between 7 9 k)) (sym (h .1)) t
+own-none s c n t (inr (inr (inr (inr h)))) = h
 
 sync-ground : (s : State) (c : List ℕ) (n : ℕ) → Among n (syncRefusals s c) → T (not (eqb (requiredOf (s .hazards) (firstNumber c)) 0))
 unfolding syncRefusals

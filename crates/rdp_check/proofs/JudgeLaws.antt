@@ -20,7 +20,7 @@ use Rattle.rdp_check.specs.Syncs.{Sync, loadSync, tileSync, pipeSync, sy
 use Rattle.rdp_check.specs.Plan.{syncAt, withOption, applied}
 use Rattle.rdp_words.proofs.PlaceLaws.{number-small}
 use Rattle.rdp_check.proofs.HazardLaws.{required-most}
-use Rattle.rdp_check.proofs.SyncLaws.{syncCommand, sync-word, sync-number, sync-draws}
+use Rattle.rdp_check.proofs.SyncLaws.{syncCommand, sync-word, sync-number, sync-draws, sync-assigned}
 use Rattle.rdp_check.proofs.OrderLaws.{none-parts, none-both, none-first, first-none}
 use Rattle.rdp_check.proofs.FirstLaws.{Numbered}
 use Rattle.rdp_check.proofs.LeastLaws.{Passes}
@@ -119,7 +119,7 @@ any-hazards m s (c ∷ cs) h = (h .0, any-hazards (nextOf m (firstNumber c)) (af
 -- where a command is not refused, a sync is not refused either
 sync-fits : (y : Sync) (s : State) (c : List ℕ) → None (ownRefusals s c) → None (ownRefusals s (syncWord y))
 unfolding ownRefusals
-sync-fits y s c h = rw (sync-draws y) (h .0, (tt, (tt, tt)))
+sync-fits y s c h = rw (sync-draws y, sync-assigned y) (h .0, (tt, (tt, (tt, tt))))
 
 with-accepted : (a : ℕ) (s : State) (c : List ℕ) (cs : List (List ℕ)) → Accepted repairRefusals s (c ∷ cs) → Accepted repairRefusals s (withOption a c cs)
 unfolding withOption

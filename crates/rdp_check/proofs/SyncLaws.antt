@@ -7,7 +7,7 @@ use Prim.Native.Nat.{ℕ, zero, suc, max, _+_, _*_, _%_, _≤_}
 use native.Mathlib.Nat.{mod-lt}
 use native.Mathlib.Omega.{arith}
 use lib.Dec.{eqb, eqb→eq, lit<, lit≤}
-use Rattle.rdp_words.specs.Kinds.{Kind, isDraw, noOperation, triangle, textureRectangle, fillRectangle, syncLoad, syncTile, syncPipe, syncFull, load, setTile, attribute, free, kindOf}
+use Rattle.rdp_words.specs.Kinds.{Kind, isDraw, isUnassigned, noOperation, unassigned, triangle, textureRectangle, fillRectangle, syncLoad, syncTile, syncPipe, syncFull, load, setTile, attribute, free, kindOf}
 use Rattle.rdp_words.specs.Lengths.{firstNumber}
 use Rattle.rdp_command.specs.declared.Command.{Command}
 use Rattle.rdp_command.specs.declared.Command.the-variants.{SyncLoad, SyncTile, SyncPipe}
@@ -24,6 +24,7 @@ use Rattle.rdp_check.proofs.JoinLaws.{command-some}
 
 idle-requires-none : (k : Kind) → requiredBy k (hazardsOf 0) ≡ 0
 idle-requires-none noOperation = refl
+idle-requires-none unassigned = refl
 idle-requires-none triangle = refl
 idle-requires-none textureRectangle = refl
 idle-requires-none fillRectangle = refl
@@ -77,6 +78,14 @@ kind-draws pipeSync = refl
 
 pub sync-draws : (s : Sync) → draws (firstNumber (syncWord s)) ≡ false
 sync-draws s = ap draws (sync-number s) ∙ ap isDraw (sync-word s .kind) ∙ kind-draws s
+
+pub sync-assigned : (s : Sync) → isUnassigned (firstNumber (syncWord s)) ≡ false
+sync-assigned s = ap isUnassigned (sync-number s) ∙ by-sync s
+  where
+    by-sync : (s : Sync) → isUnassigned (syncNumber s) ≡ false
+    by-sync loadSync = refl
+    by-sync tileSync = refl
+    by-sync pipeSync = refl
 
 -- the hazards after a sync, by its kind
 sync-next : (s : Sync) (m : ℕ) → nextOf m (syncNumber s) ≡ codeOf (hazardsAfter (syncKind s) (syncNumber s) (hazardsOf m))

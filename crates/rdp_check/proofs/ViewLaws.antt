@@ -7,7 +7,7 @@ use native.Mathlib.Omega.{arith}
 use borrow.Author.Tests.{ne-eqb, eqb-true, eqb-false}
 use lib.Dec.{eqb}
 use Rattle.rdp_words.specs.Words.{wordAt}
-use Rattle.rdp_words.specs.Kinds.{kindOf, isAmong, wordsOf}
+use Rattle.rdp_words.specs.Kinds.{kindOf, isAmong, isUnassigned, wordsOf}
 use Rattle.rdp_command.specs.Commands.{numberOf}
 use Rattle.rdp_words.specs.Lengths.{firstNumber, wholeWords}
 use Rattle.rdp_command.specs.Decode.{decodeOf}
@@ -19,7 +19,7 @@ use Rattle.rdp_check.specs.Registers.{registersAfter, afterDecoded}
 use Rattle.rdp_check.specs.Marks.{draws}
 use Rattle.rdp_check.specs.Check.{State, afterCommand, ready, fourBitFill, ownRefusals, syncRefusals, refusalAt}
 use Rattle.rdp_check.specs.Order.{ground, firstOf}
-use Rattle.rdp_check.specs.View.{code, codeRefusal, view, viewOf, restAfter, viewAfter, orElse, missing, refusalWith, refusalsBy, restRefusal, viewRefusal, setsRest, isWatched, Watches, AdvancedIs}
+use Rattle.rdp_check.specs.View.{code, codeRefusal, view, viewOf, restAfter, viewAfter, orElse, missing, refusalWith, refusalsBy, restRefusal, ownRefusal, viewRefusal, setsRest, isWatched, Watches, AdvancedIs}
 use Rattle.rdp_check.specs.declared.Registers.{Registers}
 use Rattle.rdp_command.specs.declared.Head.{Head}
 use Rattle.rdp_check.specs.declared.walk.Rest.{Rest}
@@ -33,22 +33,22 @@ use Rattle.rdp_command.proofs.ReadLaws.{decoded, decodes, decoded-number, reads
 -- ---- command numbers as bits
 
 -- the constants of the code
-abbrev pub setterBits : ℕ
-setterBits = 0x8000_A200_0000_0000
+abbrev pub watchedBits : ℕ
+watchedBits = 0x8002_A20F_FFFF_00FE
 
-abbrev pub setterAndDrawBits : ℕ
-setterAndDrawBits = 0x8040_A230_0000_FF00
+abbrev pub watchedAndDrawBits : ℕ
+watchedAndDrawBits = 0x8042_A23F_FFFF_FFFE
 
 abbrev pub allBits : ℕ
 allBits = 0xFFFF_FFFF_FFFF_FFFF
 
-pub setters-by : (n : ℕ) → n < 64 → isAmong setterBits n ≡ setsRest n
+watched-by : (n : ℕ) → n < 64 → isAmong watchedBits n ≡ setsRest n || isUnassigned n
 unfolding setsRest
-setters-by = among-by _ setsRest tt
+watched-by = among-by _ (λ n. setsRest n || isUnassigned n) tt
 
-setters-and-draws-by : (n : ℕ) → n < 64 → isAmong setterAndDrawBits n ≡ setsRest n || draws n
+watched-and-draws-by : (n : ℕ) → n < 64 → isAmong watchedAndDrawBits n ≡ (setsRest n || isUnassigned n) || draws n
 unfolding setsRest kindOf
-setters-and-draws-by = among-by _ (λ n. setsRest n || draws n) tt
+watched-and-draws-by = among-by _ (λ n. (setsRest n || isUnassigned n) || draws n) tt
 
 all-by : (n : ℕ) → n < 64 → isAmong allBits n ≡ true
 all-by = among-by _ (λ n. true) tt
@@ -74,23 +74,24 @@ sets-none n e =
 pub watches-all : (r : Rest) → r .ended ≡ true → Watches allBits r
 watches-all r e n h = rw e (all-by n h)
 
-pub watches-setters : (r : Rest) → r .ended ≡ false → restRefusal r ≡ 0 → Watches setterBits r
-watches-setters r e z n h = rw (e, z, and-false (draws n), or-false (setsRest n)) (setters-by n h)
+pub watches-setters : (r : Rest) → r .ended ≡ false → restRefusal r ≡ 0 → Watches watchedBits r
+watches-setters r e z n h = rw (e, z, and-false (draws n), or-false (setsRest n || isUnassigned n)) (watched-by n h)
 
-pub watches-draws : (r : Rest) → r .ended ≡ false → (restRefusal r ≡ 0 → ⊥) → Watches setterAndDrawBits r
-watches-draws r e ne n h = rw (e, ne-eqb _ _ ne, and-true (draws n)) (setters-and-draws-by n h)
+pub watches-draws : (r : Rest) → r .ended ≡ false → (restRefusal r ≡ 0 → ⊥) → Watches watchedAndDrawBits r
+watches-draws r e ne n h = rw (e, ne-eqb _ _ ne, and-true (draws n)) (watched-and-draws-by n h)
 
 -- a command that is not watched is refused by a missing sync alone, and changes the hazards alone
 pub record Unwatched (r : Rest) (n : ℕ) : Type 0 where
   pub before-end : r .ended ≡ false
   pub keeps : setsRest n ≡ false
-  pub drawable : cond (draws n) (restRefusal r) 0 ≡ 0
+  pub fits : ownRefusal r n ≡ 0
 
 pub unwatched : (r : Rest) (n : ℕ) → isWatched r n ≡ false → Unwatched r n
 unwatched r n e =
     let a = neither (r .ended) _ e in
-    let b = neither (setsRest n) _ (a .1) in
-    record { before-end = a .0; keeps = b .0; drawable = none (draws n) (restRefusal r) (eqb (restRefusal r) 0) refl (b .1) }
+    let b = neither (setsRest n || isUnassigned n) _ (a .1) in
+    let s = neither (setsRest n) (isUnassigned n) (b .0) in
+    record { before-end = a .0; keeps = s .0; fits = rw (s .1) (none (draws n) (restRefusal r) (eqb (restRefusal r) 0) refl (b .1)) }
   where
     none : (d : Bool) (f : ℕ) (t : Bool) → eqb f 0 ≡ t → d && not t ≡ false → cond d f 0 ≡ 0
     none true f true z e = eqb-true f 0 z
@@ -123,7 +124,7 @@ module _ (strict : Bool) (v : View) (h : Head) (small : h .number < 64) (e : ℕ
   required-fits = rw required-is (fits strict)
 
   pub advanced :
-      (d r n : ℕ) → d ≡ cond (draws (h .number)) (restRefusal (v .rest)) 0 → r ≡ refusalWith (v .rest .ended) d q → n ≡ wordsOf (h .number) →
+      (d r n : ℕ) → d ≡ ownRefusal (v .rest) (h .number) → r ≡ refusalWith (v .rest .ended) d q → n ≡ wordsOf (h .number) →
       (after : Rest) → after ≡ restAfter (v .rest) h → AdvancedIs strict v h (record { refusal = r; words = n; view = record { hazards = e % 16; rest = after } })
   advanced d r n is-d is-r is-n after is-after =
       record { refusal = is-r ∙ rw (is-d, required-is); words = is-n; after = λ i. record { hazards = parts .next i; rest = is-after i } }
@@ -138,42 +139,43 @@ missing-is (suc (suc zero)) h = refl
 missing-is (suc (suc (suc zero))) h = refl
 missing-is (suc (suc (suc (suc q)))) h = absurd (omega arith)
 
--- 4 to 6, and g where none of them holds
-abbrev ownFirst : Bool → Bool → Bool → Bool → ℕ → ℕ
-ownFirst ended draw ready fill g = cond ended 4 (cond (draw && not ready) 5 (cond (draw && fill) 6 g))
+-- 4, 19, 5 and 6, and g where none of them holds
+abbrev ownFirst : Bool → Bool → Bool → Bool → Bool → ℕ → ℕ
+ownFirst ended stray draw ready fill g = cond ended 4 (cond stray 19 (cond (draw && not ready) 5 (cond (draw && fill) 6 g)))
 
 -- modes, image and scissor set (m, i, s), FILL mode (f) and an image of 4 bits (b)
 refused :
-    (ended draw m f i b s : Bool) (g : ℕ) →
-    cond ended 4 (orElse (cond draw (codeRefusal (code m f) (code i b) s) 0) g) ≡ ownFirst ended draw ((m && i) && s) (f && b) g
-refused true draw m f i b s g = refl
-refused false false m f i b s g = refl
-refused false true false f i b s g = refl
-refused false true true false false b s g = refl
-refused false true true true false b s g = refl
-refused false true true false true false false g = refl
-refused false true true false true false true g = refl
-refused false true true false true true false g = refl
-refused false true true false true true true g = refl
-refused false true true true true false false g = refl
-refused false true true true true false true g = refl
-refused false true true true true true false g = refl
-refused false true true true true true true g = refl
+    (ended stray draw m f i b s : Bool) (g : ℕ) →
+    cond ended 4 (orElse (cond stray 19 (cond draw (codeRefusal (code m f) (code i b) s) 0)) g) ≡ ownFirst ended stray draw ((m && i) && s) (f && b) g
+refused true stray draw m f i b s g = refl
+refused false true draw m f i b s g = refl
+refused false false false m f i b s g = refl
+refused false false true false f i b s g = refl
+refused false false true true false false b s g = refl
+refused false false true true true false b s g = refl
+refused false false true true false true false false g = refl
+refused false false true true false true false true g = refl
+refused false false true true false true true false g = refl
+refused false false true true false true true true g = refl
+refused false false true true true true false false g = refl
+refused false false true true true true false true g = refl
+refused false false true true true true true false g = refl
+refused false false true true true true true true g = refl
 
 module _ (s : State) (c : List ℕ) where
   seen-with : (g : ℕ) →
-      cond (s .ended) 4 (orElse (cond (draws (firstNumber c)) (restRefusal (viewOf s .rest)) 0) g) ≡
-      ownFirst (s .ended) (draws (firstNumber c)) (ready (s .registers)) (fourBitFill (s .registers)) g
+      cond (s .ended) 4 (orElse (ownRefusal (viewOf s .rest) (firstNumber c)) g) ≡
+      ownFirst (s .ended) (isUnassigned (firstNumber c)) (draws (firstNumber c)) (ready (s .registers)) (fourBitFill (s .registers)) g
   unfolding viewOf
   seen-with g =
       let r = s .registers in
-      refused (s .ended) (draws (firstNumber c)) (r .modes .other .set) (eqb (r .modes .other .modes .«cycle_type») 3) (r .images .color .set)
+      refused (s .ended) (isUnassigned (firstNumber c)) (draws (firstNumber c)) (r .modes .other .set) (eqb (r .modes .other .modes .«cycle_type») 3) (r .images .color .set)
       (eqb (r .images .color .image .size) 0) (r .modes .scissor .set) g
 
   pub refusal-seen : (strict : Bool) → viewRefusal strict (viewOf s) (firstNumber c) ≡ refusalAt (refusalsBy strict) s c
   unfolding viewOf refusalWith ownRefusals syncRefusals
   refusal-seen true =
-      ap (λ (g : ℕ). cond (s .ended) 4 (orElse (cond (draws (firstNumber c)) (restRefusal (viewOf s .rest)) 0) g))
+      ap (λ (g : ℕ). cond (s .ended) 4 (orElse (ownRefusal (viewOf s .rest) (firstNumber c)) g))
       (missing-is (requiredOf (s .hazards) (firstNumber c)) (required-most (s .hazards) (firstNumber c) (number-small (wordAt c 0)))) ∙
       seen-with _
   refusal-seen false = seen-with 0

@@ -148,7 +148,7 @@ module _ {strict : Bool} {list : List ℕ} {words : ℕ} {goal : Stop} {v : View
     unfolding refusalWith
     unrefused =
         let none : requiredOf (v .hazards) (h .number) ≡ 0 = sym (parts .required) ∙ div-of-lt e (omega (arith, q .low)) in
-        rw (q .still .before-end, q .still .drawable, none, no-required strict)
+        rw (q .still .before-end, q .still .fits, none, no-required strict)
 
     -- the hazards stay where the entry is no other
     pub stays : e ≡ v .hazards → v .hazards ≡ nextOf (v .hazards) (h .number)

@@ -4,7 +4,7 @@ use mathlib.Core.Bool.{Bool, false, cond, _&&_, _||_, not}
 use mathlib.Core.List.{List, [], _∷_, _++_}
 use lib.Dec.{ltb, eqb}
 use lib.ListN.{length}
-use Rattle.rdp_words.specs.Kinds.{wordsOf}
+use Rattle.rdp_words.specs.Kinds.{wordsOf, isUnassigned}
 use Rattle.rdp_words.specs.Lengths.{firstNumber}
 use Rattle.rdp_command.specs.Decode.{decodeOf}
 use Rattle.rdp_check.specs.Hazards.{nextOf, requiredOf}
@@ -47,11 +47,13 @@ fourBitFill r = eqb (r .modes .other .modes .«cycle_type») 3 && eqb (r .images
 abbrev pub Refusals : Type 0
 Refusals = State → List ℕ → List (Ground ℕ)
 
--- 4: a command after Sync Full. 5: a draw with modes, colour image or scissor not set in this list. 6: a draw in FILL mode on a 4-bit image
+-- 4: a command after Sync Full. 19: an unassigned number, "after 4 and before 5" (#107). 5: a draw with modes, colour image or scissor not set in this list.
+-- 6: a draw in FILL mode on a 4-bit image
 unfoldable pub ownRefusals : Refusals
 ownRefusals s c =
     let draw = draws (firstNumber c) in
     ground 4 (s .ended)
+    ∷ ground 19 (isUnassigned (firstNumber c))
     ∷ ground 5 (draw && not (ready (s .registers)))
     ∷ ground 6 (draw && fourBitFill (s .registers))
     ∷ []
@@ -62,7 +64,7 @@ syncRefusals s c =
     let required = requiredOf (s .hazards) (firstNumber c) in
     ground 7 (eqb required 1) ∷ ground 8 (eqb required 2) ∷ ground 9 (eqb required 3) ∷ []
 
--- "at one command 3, 4, 5, 6, then 7 to 9"; the repair passes over 7 to 9; and no refusal of a command is left where only 1 to 3 count
+-- "at one command 3, 4, 5, 6, then 7 to 9", with 19 after 4; the repair passes over 7 to 9; and no refusal of a command is left where only 1 to 3 count
 abbrev pub checkRefusals : Refusals
 checkRefusals s c = ownRefusals s c ++ syncRefusals s c
 

@@ -5,7 +5,7 @@ use mathlib.Core.List.{List}
 use mathlib.Core.Path.{_≡_}
 use lib.Dec.{eqb}
 use lib.ListN.{getD}
-use Rattle.rdp_words.specs.Kinds.{Kind, noOperation, triangle, textureRectangle, fillRectangle, syncLoad, syncTile, syncPipe, syncFull, load, setTile, attribute, free, kindOf, hasBit}
+use Rattle.rdp_words.specs.Kinds.{Kind, noOperation, unassigned, triangle, textureRectangle, fillRectangle, syncLoad, syncTile, syncPipe, syncFull, load, setTile, attribute, free, kindOf, hasBit}
 use Rattle.rdp_check.specs.declared.Transition.{Transition}
 
 -- the marks P, T, D and G
@@ -32,6 +32,7 @@ afterDraw textured h = record { pipe = true; tile = textured || h .tile; drawn =
 -- the hazards after a command, by its kind and number; bit 57 of a triangle's first word, bit 1 of its number, says that it is textured
 abbrev pub hazardsAfter : Kind → ℕ → Hazards → Hazards
 hazardsAfter noOperation n h = h
+hazardsAfter unassigned n h = h
 hazardsAfter triangle n h = afterDraw (hasBit 2 n) h
 hazardsAfter textureRectangle n h = afterDraw true h
 hazardsAfter fillRectangle n h = afterDraw false h
@@ -47,6 +48,7 @@ hazardsAfter free n h = h
 -- the sync that a command needs: 0 none, 1 any of the three (Load), 2 Tile or Pipe (Tile), 3 Pipe
 abbrev pub requiredBy : Kind → Hazards → ℕ
 requiredBy noOperation h = 0
+requiredBy unassigned h = 0
 requiredBy triangle h = cond (h .loaded) 1 0
 requiredBy textureRectangle h = cond (h .loaded) 1 0
 requiredBy fillRectangle h = cond (h .loaded) 1 0

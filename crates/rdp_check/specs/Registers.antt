@@ -10,7 +10,7 @@ use Rattle.rdp_command.specs.declared.TexelCorner.{TexelCorner}
 use Rattle.rdp_command.specs.declared.Decoded.{Decoded}
 use Rattle.rdp_command.specs.declared.Decoded.the-variants.{Whole, Refused}
 use Rattle.rdp_command.specs.declared.Command.{Command}
-use Rattle.rdp_command.specs.declared.Command.the-variants.{NoOperation, FillTriangle, TextureRectangle, TextureRectangleFlip, SyncLoad, SyncPipe, SyncTile, SyncFull, SetKeyGb, SetKeyR, SetConvert, SetScissor, SetPrimitiveDepth, SetOtherModes, LoadTlut, SetTileSize, LoadBlock, LoadTile, SetTile, FillRectangle, SetFillColor, SetFogColor, SetBlendColor, SetPrimitiveColor, SetEnvironmentColor, SetCombineMode, SetTextureImage, SetDepthImage, SetColorImage}
+use Rattle.rdp_command.specs.declared.Command.the-variants.{NoOperation, FillTriangle, TextureRectangle, TextureRectangleFlip, SyncLoad, SyncPipe, SyncTile, SyncFull, SetKeyGb, SetKeyR, SetConvert, SetScissor, SetPrimitiveDepth, SetOtherModes, LoadTlut, SetTileSize, LoadBlock, LoadTile, SetTile, FillRectangle, SetFillColor, SetFogColor, SetBlendColor, SetPrimitiveColor, SetEnvironmentColor, SetCombineMode, SetTextureImage, SetDepthImage, SetColorImage, Unassigned}
 use Rattle.rdp_check.specs.declared.FillColorRegister.{FillColorRegister}
 use Rattle.rdp_check.specs.declared.ColorRegister.{ColorRegister}
 use Rattle.rdp_check.specs.declared.PrimitiveColorRegister.{PrimitiveColorRegister}
@@ -222,6 +222,7 @@ registersAfter r (SetCombineMode n) = withCombiner r (combinerOf (record { set =
 registersAfter r (SetTextureImage g) = withImages r (imagesOf (r .images .color) (record { set = true; image = g }) (r .images .depth))
 registersAfter r (SetDepthImage n) = withImages r (imagesOf (r .images .color) (r .images .texture) (record { set = true; address = n }))
 registersAfter r (SetColorImage g) = withImages r (imagesOf (record { set = true; image = g }) (r .images .texture) (r .images .depth))
+registersAfter r (Unassigned n) = r
 
 -- after what decoding answers
 abbrev pub afterDecoded : Registers → Decoded → Registers

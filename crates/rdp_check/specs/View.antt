@@ -6,7 +6,7 @@ use mathlib.Core.Path.{_≡_}
 use lib.Dec.{eqb}
 use lib.ListN.{length}
 use Rattle.rdp_words.specs.Words.{wordAt}
-use Rattle.rdp_words.specs.Kinds.{among, isAmong, wordsOf}
+use Rattle.rdp_words.specs.Kinds.{among, isAmong, isUnassigned, wordsOf}
 use Rattle.rdp_command.specs.declared.Head.{Head}
 use Rattle.rdp_command.specs.Reads.{headOf}
 use Rattle.rdp_check.specs.Hazards.{nextOf, requiredOf}
@@ -69,9 +69,9 @@ orElse (suc f) g = suc f
 abbrev pub missing : ℕ → ℕ
 missing required = cond (eqb required 0) 0 (6 + required)
 
--- the refusal of a command: 4, then the refusal of a draw where it is one, then a missing sync
+-- the refusal of a command: 4, then 19 or its refusal as a draw, then a missing sync
 unfoldable pub refusalWith : Bool → ℕ → ℕ → ℕ
-refusalWith ended draw required = cond ended 4 (orElse draw (missing required))
+refusalWith ended own required = cond ended 4 (orElse own (missing required))
 
 -- the refusals of a strict walk are those of the check, of another those of the repair
 abbrev pub refusalsBy : Bool → Refusals
@@ -88,8 +88,12 @@ pub record IsJudged (list : List ℕ) (number place : ℕ) : Type 0 where
 abbrev pub restRefusal : Rest → ℕ
 restRefusal r = codeRefusal (r .modes) (r .image) (r .scissor)
 
+-- 19 of an unassigned number, that of a draw, or 0
+abbrev pub ownRefusal : Rest → ℕ → ℕ
+ownRefusal r n = cond (isUnassigned n) 19 (cond (draws n) (restRefusal r) 0)
+
 abbrev pub viewRefusal : Bool → View → ℕ → ℕ
-viewRefusal strict v n = refusalWith (v .rest .ended) (cond (draws n) (restRefusal (v .rest)) 0) (cond strict (requiredOf (v .hazards) n) 0)
+viewRefusal strict v n = refusalWith (v .rest .ended) (ownRefusal (v .rest) n) (cond strict (requiredOf (v .hazards) n) 0)
 
 -- a Sync Full, or a command that sets a register of which something is carried
 unfoldable pub setsRest : ℕ → Bool
@@ -97,7 +101,7 @@ setsRest n = among n (0x29 ∷ 0x2D ∷ 0x2F ∷ 0x3F ∷ [])
 
 -- a command that the walk has to look into: it changes more than the hazards, or something but a missing sync refuses it
 abbrev pub isWatched : Rest → ℕ → Bool
-isWatched r n = r .ended || (setsRest n || (draws n && not (eqb (restRefusal r) 0)))
+isWatched r n = r .ended || ((setsRest n || isUnassigned n) || (draws n && not (eqb (restRefusal r) 0)))
 
 -- the bits of a number are these command numbers
 abbrev pub Numbers : ℕ → (ℕ → Bool) → Type 0

@@ -6,8 +6,7 @@ ghost use lib.ListN.{length};
 ghost use Rattle.rdp_words.specs.Words.{wordAt, numberIn};
 ghost use Rattle.rdp_check.specs.Hazards.{Agrees, entryOf};
 ghost use Rattle.rdp_check.specs.Check.{start, outcomeWithin, checked};
-ghost use Rattle.rdp_check.specs.Marks.{draws};
-ghost use Rattle.rdp_check.specs.View.{refusalsBy, code, viewOf, restAfter, restRefusal, refusalWith, Watches, AdvancedIs, stopAt, judgedView, causedBy};
+ghost use Rattle.rdp_check.specs.View.{refusalsBy, code, viewOf, restAfter, restRefusal, ownRefusal, refusalWith, Watches, AdvancedIs, stopAt, judgedView, causedBy};
 use crate::Checked;
 use crate::cause;
 use crate::hazards;
@@ -15,10 +14,10 @@ use crate::table;
 use rdp_command::Head;
 
 // Command numbers, a bit for each: the commands that set what the walk carries beside the hazards (Sync Full, Set Scissor, Set Other Modes, Set Color
-// Image), these and the draws, and all commands.
-const SETTERS: u64 = 0x8000_A200_0000_0000;
+// Image) with the unassigned numbers, these and the draws, and all commands.
+const WATCHED: u64 = 0x8000_A200_0000_0000 | rdp_words::UNASSIGNED;
 
-const SETTERS_AND_DRAWS: u64 = SETTERS | rdp_words::DRAWS;
+const WATCHED_AND_DRAWS: u64 = WATCHED | rdp_words::DRAWS;
 
 const ALL: u64 = 0xFFFF_FFFF_FFFF_FFFF;
 
@@ -64,16 +63,16 @@ pub struct Caused {
     pub cause: usize,
 }
 
-// The first refusal of a command, or 0: 4, then its refusal as a draw, then a missing sync.
-fn refusal(ended: bool, draw: u8, required: u8) -> u32
+// The first refusal of a command, or 0: 4, then 19 or its refusal as a draw, then a missing sync.
+fn refusal(ended: bool, own: u8, required: u8) -> u32
     requires { ⌜ required ≤ 3 ⌝ }
-    ensures { λ r. ⌜ r ≡ refusalWith ended draw required ⌝ }
+    ensures { λ r. ⌜ r ≡ refusalWith ended own required ⌝ }
 {
     if ended {
         return 4;
     }
-    if draw != 0 {
-        return draw as u32;
+    if own != 0 {
+        return own as u32;
     }
     if required == 0 {
         return 0;
@@ -116,7 +115,8 @@ fn draw_refusal(rest: Rest) -> u8
     0
 }
 
-// The numbers of the commands that the walk has to look into: those that set what it carries, draws where they are refused, and all after a Sync Full.
+// The numbers of the commands that the walk has to look into: those that set what it carries, unassigned ones, draws where they are refused, and all after a
+// Sync Full.
 fn watched_of(rest: Rest) -> u64
     ensures { λ r. ⌜ Watches r rest ⌝ }
 {
@@ -124,9 +124,9 @@ fn watched_of(rest: Rest) -> u64
         return ALL;
     }
     if draw_refusal(rest) == 0 {
-        return SETTERS;
+        return WATCHED;
     }
-    SETTERS_AND_DRAWS
+    WATCHED_AND_DRAWS
 }
 
 // The rest after a command.
@@ -166,11 +166,14 @@ fn required_if(strict: bool, required: u8) -> u8
     0
 }
 
-// The refusal of a command as a draw, or 0.
+// 19 of an unassigned number; the refusal of a command as a draw; or 0.
 fn own_refusal(rest: Rest, number: u8) -> u8
     requires { ⌜ number < 64 ⌝ }
-    ensures { λ r. ⌜ r ≡ cond (draws number) (restRefusal rest) 0 ⌝ }
+    ensures { λ r. ⌜ r ≡ ownRefusal rest number ⌝ }
 {
+    if rdp_words::is_among(rdp_words::UNASSIGNED, number) {
+        return 19;
+    }
     if rdp_words::is_among(rdp_words::DRAWS, number) {
         return draw_refusal(rest);
     }

@@ -10,7 +10,7 @@ use Rattle.rdp_command.specs.Groups.{natAt, triangleBaseOf, keyGbOf, key
 use Rattle.rdp_command.specs.Commands.{commandOf}
 use Rattle.rdp_command.specs.Decode.{commandIn}
 use Rattle.rdp_command.specs.declared.Command.{Command}
-use Rattle.rdp_command.specs.declared.Command.the-variants.{NoOperation, FillTriangle, SetKeyGb, SetKeyR, SetConvert, SetScissor, SetPrimitiveDepth, SetOtherModes, LoadTlut, SetTileSize, LoadBlock, LoadTile, SetTile, FillRectangle, SetFillColor, SetFogColor, SetBlendColor, SetPrimitiveColor, SetEnvironmentColor, SetCombineMode, SetTextureImage, SetDepthImage, SetColorImage}
+use Rattle.rdp_command.specs.declared.Command.the-variants.{Unassigned, FillTriangle, SetKeyGb, SetKeyR, SetConvert, SetScissor, SetPrimitiveDepth, SetOtherModes, LoadTlut, SetTileSize, LoadBlock, LoadTile, SetTile, FillRectangle, SetFillColor, SetFogColor, SetBlendColor, SetPrimitiveColor, SetEnvironmentColor, SetCombineMode, SetTextureImage, SetDepthImage, SetColorImage, Unassigned}
 use Rattle.rdp_command.proofs.Triangles.{layout-at}
 
 -- what is shown at a numeral holds at a number that equals it
@@ -26,9 +26,9 @@ at-triangle n ws e =
     sym (triangle-command n (fieldsOf triangleBaseLines ws) e) ∙ ap (λ (ls : List Line). commandOf n (fieldsOf ls ws)) (sym (layout-at n e))
 
 -- a number below those with names of their own
-pub low-command : (n : ℕ) (vs : List Value) → n < 0x24 → (n / 8 ≡ 1 → ⊥) → commandOf n vs ≡ NoOperation n
+pub low-command : (n : ℕ) (vs : List Value) → n < 0x24 → (n / 8 ≡ 1 → ⊥) → (n ≡ 0x00 → ⊥) → commandOf n vs ≡ Unassigned n
 unfolding commandOf
-low-command n vs h t =
+low-command n vs h t z =
     simp (
       ne-eqb (n / 8) 1 t,
       ne-eqb n 0x24 (λ e. omega arith),
@@ -58,6 +58,7 @@ low-command n vs h t =
       ne-eqb n 0x3D (λ e. omega arith),
       ne-eqb n 0x3E (λ e. omega arith),
       ne-eqb n 0x3F (λ e. omega arith),
+      ne-eqb n 0x00 z,
     )
 
 -- the commands of one word that have fields, by their numbers, out of their words

@@ -8,7 +8,7 @@ use lib.Dec.{eqb, ltb}
 use lib.ListN.{length, getD, drop}
 use mir.Val.{boolByte}
 use borrow.Author.Tests.{eqb-true, eqb-false, ltb-true, not-true}
-use Rattle.rdp_words.specs.Kinds.{among, isNoOperation}
+use Rattle.rdp_words.specs.Kinds.{among, isNoOperation, isUnassigned}
 use Rattle.rdp_command.specs.Layout.{Line, layout, bit, bits, signedBits, otherModesLines, scissorLines, tileDescriptorLines, triangleBaseLines}
 use Rattle.rdp_command.specs.Fields.{Value, unsigned, flag, shiftRight, bitsAt, fieldAt, fieldsOf}
 use Rattle.rdp_command.specs.Groups.{scissorOf, scissorValues, otherModesOf, otherModesValues, tileDescriptorOf, tileDescriptorValues, triangleBaseOf, triangleBaseValues}
@@ -20,10 +20,10 @@ use Rattle.rdp_command.specs.declared.OtherModes.{OtherModes}
 use Rattle.rdp_command.specs.declared.TileDescriptor.{TileDescriptor}
 use Rattle.rdp_command.specs.declared.TriangleBase.{TriangleBase}
 use Rattle.rdp_command.specs.declared.Command.{Command}
-use Rattle.rdp_command.specs.declared.Command.the-variants.{NoOperation, FillTriangle, TextureRectangle, TextureRectangleFlip, SyncLoad, SyncPipe, SyncTile, SyncFull, SetKeyGb, SetKeyR, SetConvert, SetScissor, SetPrimitiveDepth, SetOtherModes, LoadTlut, SetTileSize, LoadBlock, LoadTile, SetTile, FillRectangle, SetFillColor, SetFogColor, SetBlendColor, SetPrimitiveColor, SetEnvironmentColor, SetCombineMode, SetTextureImage, SetDepthImage, SetColorImage}
+use Rattle.rdp_command.specs.declared.Command.the-variants.{NoOperation, FillTriangle, TextureRectangle, TextureRectangleFlip, SyncLoad, SyncPipe, SyncTile, SyncFull, SetKeyGb, SetKeyR, SetConvert, SetScissor, SetPrimitiveDepth, SetOtherModes, LoadTlut, SetTileSize, LoadBlock, LoadTile, SetTile, FillRectangle, SetFillColor, SetFogColor, SetBlendColor, SetPrimitiveColor, SetEnvironmentColor, SetCombineMode, SetTextureImage, SetDepthImage, SetColorImage, Unassigned}
 use Rattle.rdp_words.proofs.Tests.{below, by-test, true-of, and-true, or-cases}
-use Rattle.rdp_words.proofs.KindLaws.{no-operation-small}
-use Rattle.rdp_command.proofs.LayoutLaws.{no-operation-lines}
+use Rattle.rdp_words.proofs.KindLaws.{unassigned-small}
+use Rattle.rdp_command.proofs.LayoutLaws.{unassigned-lines}
 use Rattle.rdp_command.proofs.Triangles.{layout-at, triangle-eighth}
 use Rattle.rdp_command.proofs.CommandLaws.{triangle-command, low-command}
 
@@ -42,35 +42,42 @@ pick P [] ps n e = absurd (false≢true e)
 pick P (k ∷ ks) ps n e =
     or-cases (eqb n k) (among n ks) e (λ f. subst P (sym (eqb-true n k f)) (ps .0)) (λ f. pick P ks (ps .1) n f)
 
-cases-of : (n : ℕ) → n < 64 → (eqb (n / 8) 1 || among n named) || isNoOperation n ≡ true
-cases-of n h = true-of _ (below 64 (λ k. (eqb (k / 8) 1 || among k named) || isNoOperation k) tt n h)
+cases-of : (n : ℕ) → n < 64 → (eqb (n / 8) 1 || among n (0x00 ∷ named)) || isUnassigned n ≡ true
+cases-of n h = true-of _ (below 64 (λ k. (eqb (k / 8) 1 || among k (0x00 ∷ named)) || isUnassigned k) tt n h)
 
+-- the triangles, 0x00, the numbers with names of their own, and the unassigned
 pub by-number :
-    (P : ℕ → Type 0) → ((n : ℕ) → n / 8 ≡ 1 → P n) → Each P named → ((n : ℕ) → isNoOperation n ≡ true → P n) → (n : ℕ) → n < 64 → P n
-by-number P tri ps none n h =
-    or-cases (eqb (n / 8) 1 || among n named) (isNoOperation n) (cases-of n h)
-    (λ e. or-cases (eqb (n / 8) 1) (among n named) e (λ f. tri n (eqb-true (n / 8) 1 f)) (pick P named ps n))
+    (P : ℕ → Type 0) → ((n : ℕ) → n / 8 ≡ 1 → P n) → P 0x00 → Each P named → ((n : ℕ) → isUnassigned n ≡ true → P n) → (n : ℕ) → n < 64 → P n
+unfolding Each
+by-number P tri zero ps none n h =
+    or-cases (eqb (n / 8) 1 || among n (0x00 ∷ named)) (isUnassigned n) (cases-of n h)
+    (λ e. or-cases (eqb (n / 8) 1) (among n (0x00 ∷ named)) e (λ f. tri n (eqb-true (n / 8) 1 f)) (pick P (0x00 ∷ named) (zero, ps) n))
     (none n)
 
--- ---- no operations
-
-noneTest : ℕ → Bool
-noneTest n = eqb n 0x31 || (ltb n 0x24 && not (eqb (n / 8) 1))
-
-none-cases : (n : ℕ) → isNoOperation n ≡ true → noneTest n ≡ true
-unfolding noneTest
-none-cases n e =
-    let t = below 64 (λ k. not (isNoOperation k) || noneTest k) tt n (no-operation-small n e) in
-    true-of (noneTest n) (rw e at t)
+-- ---- no operations and unassigned numbers
 
 pub none-command : (n : ℕ) (vs : List Value) → isNoOperation n ≡ true → commandOf n vs ≡ NoOperation n
-unfolding commandOf noneTest
-none-command n vs e =
-    or-cases (eqb n 0x31) (ltb n 0x24 && not (eqb (n / 8) 1)) (none-cases n e)
-    (λ f. let g = eqb-true n 0x31 f in ap (λ (k : ℕ). commandOf k vs) g ∙ ap NoOperation (sym g))
+unfolding commandOf
+none-command n vs e = let g = eqb-true n 0x00 e in ap (λ (k : ℕ). commandOf k vs) g ∙ ap NoOperation (sym g)
+
+lowTest : ℕ → Bool
+lowTest n = eqb n 0x31 || (ltb n 0x24 && (not (eqb (n / 8) 1) && not (eqb n 0x00)))
+
+low-cases : (n : ℕ) → isUnassigned n ≡ true → lowTest n ≡ true
+unfolding lowTest
+low-cases n e =
+    let t = below 64 (λ k. not (isUnassigned k) || lowTest k) tt n (unassigned-small n e) in
+    true-of (lowTest n) (rw e at t)
+
+pub unassigned-command : (n : ℕ) (vs : List Value) → isUnassigned n ≡ true → commandOf n vs ≡ Unassigned n
+unfolding commandOf lowTest
+unassigned-command n vs e =
+    or-cases (eqb n 0x31) (ltb n 0x24 && (not (eqb (n / 8) 1) && not (eqb n 0x00))) (low-cases n e)
+    (λ f. let g = eqb-true n 0x31 f in ap (λ (k : ℕ). commandOf k vs) g ∙ ap Unassigned (sym g))
     (λ f.
-    let r = and-true (ltb n 0x24) (not (eqb (n / 8) 1)) f in
-    low-command n vs (ltb-true n 0x24 (r .0)) (eqb-false (n / 8) 1 (not-true _ (r .1))))
+    let r = and-true (ltb n 0x24) (not (eqb (n / 8) 1) && not (eqb n 0x00)) f in
+    let s = and-true (not (eqb (n / 8) 1)) (not (eqb n 0x00)) (r .1) in
+    low-command n vs (ltb-true n 0x24 (r .0)) (eqb-false (n / 8) 1 (not-true _ (s .0))) (eqb-false n 0x00 (not-true _ (s .1))))
 
 -- ---- flags
 
@@ -196,6 +203,7 @@ command-back (SetCombineMode g) e = refl
 command-back (SetTextureImage g) e = refl
 command-back (SetDepthImage g) e = refl
 command-back (SetColorImage g) e = refl
+command-back (Unassigned n) e = unassigned-command n [] e
 
 -- the flags of what was read
 pub flag-kept-bits : (w k : ℕ) → boolByte (eqb (bitsAt (bit 0 k) w) 1) ≡ bitsAt (bit 0 k) w
@@ -301,15 +309,15 @@ no-lines : (ls : List Line) (ws : List ℕ) → length ls ≡ 0 → [] ≡ field
 no-lines [] ws e = refl
 no-lines (l ∷ ls) ws e = absurd (omega arith)
 
-none-read : (n : ℕ) (ws : List ℕ) → isNoOperation n ≡ true → valuesOf (commandIn n ws) ≡ fieldsOf (layout n) ws
-none-read n ws e =
-    ap valuesOf (none-command n (fieldsOf (layout n) ws) e) ∙ no-lines (layout n) ws (no-operation-lines n e)
+unassigned-read : (n : ℕ) (ws : List ℕ) → isUnassigned n ≡ true → valuesOf (commandIn n ws) ≡ fieldsOf (layout n) ws
+unassigned-read n ws e =
+    ap valuesOf (unassigned-command n (fieldsOf (layout n) ws) e) ∙ no-lines (layout n) ws (unassigned-lines n e)
 
 -- the values of a command that was read
 pub values-read : (n : ℕ) → n < 64 → (ws : List ℕ) → valuesOf (commandIn n ws) ≡ fieldsOf (layout n) ws
 unfolding commandOf layout Each
 values-read =
-    by-number (λ (n : ℕ). (ws : List ℕ) → valuesOf (commandIn n ws) ≡ fieldsOf (layout n) ws) (λ n e ws. triangle-read n ws e) (
+    by-number (λ (n : ℕ). (ws : List ℕ) → valuesOf (commandIn n ws) ≡ fieldsOf (layout n) ws) (λ n e ws. triangle-read n ws e) (λ ws. refl) (
       λ ws. refl,
       (
         λ ws. refl,
@@ -391,4 +399,4 @@ values-read =
         ),
       ),
     )
-    (λ n e ws. none-read n ws e)
+    (λ n e ws. unassigned-read n ws e)

@@ -11,10 +11,11 @@ use Rattle.rdp_command.specs.Layout.{Line, width, layout, bits}
 use Rattle.rdp_command.specs.Table.{AllReadable}
 use Rattle.rdp_command.specs.Fields.{Value, bitsAt, valueOf, fieldsOf, numberOfValue, fitsLine, allFit, packed}
 use Rattle.rdp_command.specs.Encode.{fixedBits, packedWord, baseWords}
-use Rattle.rdp_words.specs.Kinds.{kindOf, isNoOperation, wordsOf}
+use Rattle.rdp_words.specs.Kinds.{kindOf, isNoOperation, isUnassigned, wordsOf}
 use Rattle.rdp_command.specs.Numbers.{valueFrom, valuesFrom}
+use borrow.Author.Tests.{eqb-true}
 use Rattle.rdp_words.proofs.Tests.{below, both, both-of, by-test, and-true}
-use Rattle.rdp_words.proofs.KindLaws.{no-operation-small}
+use Rattle.rdp_words.proofs.KindLaws.{unassigned-small}
 use Rattle.rdp_command.proofs.BitLaws.{falling, packed-lt, read-at}
 use Rattle.rdp_command.proofs.ValueLaws.{signIs, sign-from, number-from, value-back}
 
@@ -181,12 +182,16 @@ fields-back n ns h r e g a =
     words-back n (valuesFrom (layout n) ns) (packedWords n ns) h r (f .0) a
     (λ i s. word-of n ns i (omega arith) ∙ ap (λ (x : List ℕ). packedWord n x i) (sym (f .1)))
 
--- a no operation has no bit line
-abbrev emptyTest : ℕ → Bool
-emptyTest n = not (isNoOperation n) || eqb (length (layout n)) 0
-
+-- a no operation and an unassigned command have no bit line
 pub no-operation-lines : (n : ℕ) → isNoOperation n ≡ true → length (layout n) ≡ 0
 unfolding layout
-no-operation-lines n e =
-    let t = below 64 emptyTest tt n (no-operation-small n e) in
+no-operation-lines n e = ap (λ (k : ℕ). length (layout k)) (eqb-true n 0x00 e)
+
+abbrev emptyTest : ℕ → Bool
+emptyTest n = not (isUnassigned n) || eqb (length (layout n)) 0
+
+pub unassigned-lines : (n : ℕ) → isUnassigned n ≡ true → length (layout n) ≡ 0
+unfolding layout
+unassigned-lines n e =
+    let t = below 64 emptyTest tt n (unassigned-small n e) in
     eqb→eq (length (layout n)) 0 (rw e at t)

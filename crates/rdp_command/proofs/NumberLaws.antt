@@ -21,17 +21,17 @@ use Rattle.rdp_command.specs.Encode.{packedWord, numbersOf, numberInRow}
 use Rattle.rdp_command.specs.Kept.{bitsKept}
 use Rattle.rdp_command.specs.declared.TriangleBase.{TriangleBase}
 use Rattle.rdp_command.specs.declared.Command.{Command}
-use Rattle.rdp_command.specs.declared.Command.the-variants.{NoOperation, FillTriangle, TextureRectangle, TextureRectangleFlip, SyncLoad, SyncPipe, SyncTile, SyncFull, SetKeyGb, SetKeyR, SetConvert, SetScissor, SetPrimitiveDepth, SetOtherModes, LoadTlut, SetTileSize, LoadBlock, LoadTile, SetTile, FillRectangle, SetFillColor, SetFogColor, SetBlendColor, SetPrimitiveColor, SetEnvironmentColor, SetCombineMode, SetTextureImage, SetDepthImage, SetColorImage}
+use Rattle.rdp_command.specs.declared.Command.the-variants.{NoOperation, FillTriangle, TextureRectangle, TextureRectangleFlip, SyncLoad, SyncPipe, SyncTile, SyncFull, SetKeyGb, SetKeyR, SetConvert, SetScissor, SetPrimitiveDepth, SetOtherModes, LoadTlut, SetTileSize, LoadBlock, LoadTile, SetTile, FillRectangle, SetFillColor, SetFogColor, SetBlendColor, SetPrimitiveColor, SetEnvironmentColor, SetCombineMode, SetTextureImage, SetDepthImage, SetColorImage, Unassigned}
 use Rattle.rdp_words.proofs.Tests.{below, by-test}
 use Rattle.rdp_command.proofs.Signed.{bool-le}
-use Rattle.rdp_words.proofs.KindLaws.{no-operation-small}
-use Rattle.rdp_command.proofs.LayoutLaws.{no-operation-lines}
+use Rattle.rdp_words.proofs.KindLaws.{no-operation-small, unassigned-small}
+use Rattle.rdp_command.proofs.LayoutLaws.{no-operation-lines, unassigned-lines}
 use Rattle.rdp_command.proofs.Triangles.{triangle-eighth, triangle-layout, triangle-small}
 use Rattle.rdp_command.proofs.CommandLaws.{triangle-command, at-triangle}
 use Rattle.rdp_command.proofs.BitLaws.{packed-lt, bits-are}
 use Rattle.rdp_command.proofs.ValueLaws.{value-fits, value-low}
 use Rattle.rdp_command.proofs.LayoutLaws.{matched, first-rest}
-use Rattle.rdp_command.proofs.GroupLaws.{Each, by-number, none-command, command-back, flag-kept-bits}
+use Rattle.rdp_command.proofs.GroupLaws.{Each, by-number, unassigned-command, command-back, flag-kept-bits}
 
 -- ---- a command whose number is one that it can have
 
@@ -71,6 +71,7 @@ standing (SetCombineMode g) e = (tt, lit< tt)
 standing (SetTextureImage g) e = (tt, lit< tt)
 standing (SetDepthImage g) e = (tt, lit< tt)
 standing (SetColorImage g) e = (tt, lit< tt)
+standing (Unassigned n) e = (no-values (layout n) (unassigned-lines n e), unassigned-small n e)
 
 -- ---- the number in the first word
 
@@ -148,7 +149,7 @@ triangle-number-read n ws e h =
 pub number-read : (n : ℕ) → n < 64 → (ws : List ℕ) → numberIn (getD ws 0 0) ≡ n → numberOf (commandIn n ws) ≡ n
 unfolding commandOf Each
 number-read =
-    by-number (λ (n : ℕ). (ws : List ℕ) → numberIn (getD ws 0 0) ≡ n → numberOf (commandIn n ws) ≡ n) (λ n e ws h. triangle-number-read n ws e h) (
+    by-number (λ (n : ℕ). (ws : List ℕ) → numberIn (getD ws 0 0) ≡ n → numberOf (commandIn n ws) ≡ n) (λ n e ws h. triangle-number-read n ws e h) (λ ws h. refl) (
       λ ws h. refl,
       (
         λ ws h. refl,
@@ -230,13 +231,13 @@ number-read =
         ),
       ),
     )
-    (λ n e ws h. ap numberOf (none-command n (fieldsOf (layout n) ws) e))
+    (λ n e ws h. ap numberOf (unassigned-command n (fieldsOf (layout n) ws) e))
 
 -- and to one that can be encoded
 pub number-in-row-read : (n : ℕ) → n < 64 → (ws : List ℕ) → numberInRow (commandIn n ws) ≡ true
 unfolding commandOf Each
 number-in-row-read =
-    by-number (λ (n : ℕ). (ws : List ℕ) → numberInRow (commandIn n ws) ≡ true) (λ n e ws. ap numberInRow (sym (at-triangle n ws e))) (
+    by-number (λ (n : ℕ). (ws : List ℕ) → numberInRow (commandIn n ws) ≡ true) (λ n e ws. ap numberInRow (sym (at-triangle n ws e))) (λ ws. refl) (
       λ ws. refl,
       (
         λ ws. refl,
@@ -318,7 +319,7 @@ number-in-row-read =
         ),
       ),
     )
-    (λ n e ws. ap numberInRow (none-command n (fieldsOf (layout n) ws) e) ∙ e)
+    (λ n e ws. ap numberInRow (unassigned-command n (fieldsOf (layout n) ws) e) ∙ e)
 
 pub fits-read : (ls : List Line) (ws : List ℕ) → AllReadable ls → allFit ls (fieldsOf ls ws) ≡ true
 fits-read [] ws r = refl

@@ -7,9 +7,9 @@ use mir.Val.{boolByte}
 use Rattle.rdp_command.specs.Fields.{Value, unsigned}
 use Rattle.rdp_command.specs.Groups.{natAt, triangleBaseOf, triangleBaseValues, texturedRectangleOf, texturedRectangleValues, keyGbOf, keyGbValues, keyROf, keyRValues, convertOf, convertValues, scissorOf, scissorValues, primitiveDepthOf, primitiveDepthValues, otherModesOf, otherModesValues, tileAreaOf, tileAreaValues, blockOf, blockValues, tileDescriptorOf, tileDescriptorValues, rectangleOf, rectangleValues, colorOf, colorValues, primitiveColorOf, primitiveColorValues, imageOf, imageValues}
 use Rattle.rdp_command.specs.declared.Command.{Command}
-use Rattle.rdp_command.specs.declared.Command.the-variants.{NoOperation, FillTriangle, TextureRectangle, TextureRectangleFlip, SyncLoad, SyncPipe, SyncTile, SyncFull, SetKeyGb, SetKeyR, SetConvert, SetScissor, SetPrimitiveDepth, SetOtherModes, LoadTlut, SetTileSize, LoadBlock, LoadTile, SetTile, FillRectangle, SetFillColor, SetFogColor, SetBlendColor, SetPrimitiveColor, SetEnvironmentColor, SetCombineMode, SetTextureImage, SetDepthImage, SetColorImage}
+use Rattle.rdp_command.specs.declared.Command.the-variants.{NoOperation, FillTriangle, TextureRectangle, TextureRectangleFlip, SyncLoad, SyncPipe, SyncTile, SyncFull, SetKeyGb, SetKeyR, SetConvert, SetScissor, SetPrimitiveDepth, SetOtherModes, LoadTlut, SetTileSize, LoadBlock, LoadTile, SetTile, FillRectangle, SetFillColor, SetFogColor, SetBlendColor, SetPrimitiveColor, SetEnvironmentColor, SetCombineMode, SetTextureImage, SetDepthImage, SetColorImage, Unassigned}
 
--- the command of a number from the values of its fields; a number with no name of its own is a no operation
+-- the command of a number from the values of its fields; a number with no name of its own is unassigned (#107)
 unfoldable pub commandOf : ℕ → List Value → Command
 commandOf n vs =
     cond (eqb (n / 8) 1) (FillTriangle (triangleBaseOf vs))
@@ -40,7 +40,8 @@ commandOf n vs =
     (cond (eqb n 0x3D) (SetTextureImage (imageOf vs))
     (cond (eqb n 0x3E) (SetDepthImage (natAt vs 0))
     (cond (eqb n 0x3F) (SetColorImage (imageOf vs))
-    (NoOperation n))))))))))))))))))))))))))))
+    (cond (eqb n 0x00) (NoOperation n)
+    (Unassigned n)))))))))))))))))))))))))))))
 
 -- the values of a command's fields, in the order of its bit lines
 abbrev pub valuesOf : Command → List Value
@@ -73,6 +74,7 @@ valuesOf (SetCombineMode n) = unsigned n ∷ []
 valuesOf (SetTextureImage g) = imageValues g
 valuesOf (SetDepthImage n) = unsigned n ∷ []
 valuesOf (SetColorImage g) = imageValues g
+valuesOf (Unassigned n) = []
 
 -- the number of a command; a triangle's flags are its low three bits
 abbrev pub numberOf : Command → ℕ
@@ -105,3 +107,4 @@ numberOf (SetCombineMode n) = 0x3C
 numberOf (SetTextureImage g) = 0x3D
 numberOf (SetDepthImage n) = 0x3E
 numberOf (SetColorImage g) = 0x3F
+numberOf (Unassigned n) = n

@@ -5,14 +5,14 @@ use Prim.Native.Nat.{ℕ, zero, suc, _+_, _*_, _/_, _^_, min}
 use lib.Dec.{eqb, leb}
 use lib.ListN.{length}
 use Rattle.rdp_words.specs.Words.{bytesOf, overwrite}
-use Rattle.rdp_words.specs.Kinds.{wordsOf, isNoOperation}
+use Rattle.rdp_words.specs.Kinds.{wordsOf, isNoOperation, isUnassigned}
 use Rattle.rdp_command.specs.Layout.{layout}
 use Rattle.rdp_command.specs.Fields.{numberOfValue, allFit, packed}
 use Rattle.rdp_command.specs.Commands.{valuesOf, numberOf}
 use Rattle.rdp_words.specs.Lengths.{suffixWords}
 use Rattle.rdp_command.specs.declared.Answer.{Answer}
 use Rattle.rdp_command.specs.declared.Command.{Command}
-use Rattle.rdp_command.specs.declared.Command.the-variants.{NoOperation, FillTriangle, TextureRectangle, TextureRectangleFlip, SyncLoad, SyncPipe, SyncTile, SyncFull, SetKeyGb, SetKeyR, SetConvert, SetScissor, SetPrimitiveDepth, SetOtherModes, LoadTlut, SetTileSize, LoadBlock, LoadTile, SetTile, FillRectangle, SetFillColor, SetFogColor, SetBlendColor, SetPrimitiveColor, SetEnvironmentColor, SetCombineMode, SetTextureImage, SetDepthImage, SetColorImage}
+use Rattle.rdp_command.specs.declared.Command.the-variants.{NoOperation, FillTriangle, TextureRectangle, TextureRectangleFlip, SyncLoad, SyncPipe, SyncTile, SyncFull, SetKeyGb, SetKeyR, SetConvert, SetScissor, SetPrimitiveDepth, SetOtherModes, LoadTlut, SetTileSize, LoadBlock, LoadTile, SetTile, FillRectangle, SetFillColor, SetFogColor, SetBlendColor, SetPrimitiveColor, SetEnvironmentColor, SetCombineMode, SetTextureImage, SetDepthImage, SetColorImage, Unassigned}
 
 -- the bits of a number that no bit line holds: all of it, but for a triangle's three flags
 abbrev pub fixedBits : ℕ → ℕ
@@ -41,7 +41,7 @@ bytesWith n ns suffix = packedBytes n ns (baseWords n) ++ suffix
 abbrev pub encodedBytes : Command → List ℕ → List ℕ
 encodedBytes c suffix = bytesWith (numberOf c) (numbersOf c) suffix
 
--- refusal 15 for a no operation whose number is not in its row
+-- refusal 15 for a no operation or an unassigned command whose number is not in its row: each name is judged by its own numbers (#107)
 abbrev pub numberInRow : Command → Bool
 numberInRow (NoOperation n) = isNoOperation n
 numberInRow (FillTriangle g) = true
@@ -72,6 +72,7 @@ numberInRow (SetCombineMode g) = true
 numberInRow (SetTextureImage g) = true
 numberInRow (SetDepthImage g) = true
 numberInRow (SetColorImage g) = true
+numberInRow (Unassigned n) = isUnassigned n
 
 -- none of the parts of refusal 15 holds
 unfoldable pub encodable : Command → List ℕ → Bool

@@ -69,7 +69,8 @@ fn command_in(base: Base) -> Command
         0x3D => return Command::SetTextureImage(read::image(base.w0)),
         0x3E => return Command::SetDepthImage(read::depth_image(base.w0)),
         0x3F => return Command::SetColorImage(read::color_image(base.w0)),
-        _ => return Command::NoOperation(number),
+        0x00 => return Command::NoOperation(number),
+        _ => return Command::Unassigned(number),
     }
 }
 

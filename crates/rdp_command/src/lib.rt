@@ -399,7 +399,7 @@ pub struct TileFields {
 
 // A decoded command.
 pub enum Command {
-    // A no operation keeps its number.
+    // A no operation keeps its number, 0x00 where it was decoded.
     NoOperation(u8),
     FillTriangle(TriangleBase),
     TextureRectangle(TexturedRectangle),
@@ -429,6 +429,8 @@ pub enum Command {
     SetTextureImage(Image),
     SetDepthImage(u32),
     SetColorImage(Image),
+    // A number that document 02 (#107) leaves unassigned; it keeps it.
+    Unassigned(u8),
 }
 
 // The number of a refusal, 0 for acceptance, and its place in words.

@@ -7,7 +7,7 @@ ghost use lib.ListN.{length};
 ghost use mir.Syntax.{w64};
 ghost use mir.Val.{boolByte, ofZ, toZ};
 ghost use Rattle.rdp_words.specs.Words.{overwrite};
-ghost use Rattle.rdp_words.specs.Kinds.{isNoOperation};
+ghost use Rattle.rdp_words.specs.Kinds.{isUnassigned};
 ghost use Rattle.rdp_command.specs.Layout.{edgeLines, textureStepLines, texturedRectangleLines};
 ghost use Rattle.rdp_command.specs.Fields.{numberOfValue};
 ghost use Rattle.rdp_command.specs.declared.Command.the-variants.{FillTriangle};
@@ -363,11 +363,12 @@ fn one(number: u8, n: u64) -> Numbers
     padded(number, &values)
 }
 
-// Whether a number is in the row of no operations.
-fn is_no_operation(number: u8) -> bool
-    ensures { λ r. ⌜ r ≡ isNoOperation number ⌝ }
+// Whether a number is unassigned.
+fn is_unassigned(number: u8) -> bool
+    ensures { λ r. ⌜ r ≡ isUnassigned number ⌝ }
 {
-    (number <= 0x07) | ((0x10 <= number) & (number <= 0x23)) | (number == 0x31)
+    (((0x01 <= number) & (number <= 0x07)) | ((0x10 <= number) & (number <= 0x23)))
+        | (number == 0x31)
 }
 
 // A command's number with the numbers of its fields.
@@ -375,7 +376,7 @@ pub fn spread(command: Command) -> Numbers
     ensures { λ r. ⌜ Spread command r ⌝ }
 {
     match command {
-        Command::NoOperation(number) => none(number, is_no_operation(number)),
+        Command::NoOperation(number) => none(number, number == 0x00),
         Command::FillTriangle(g) => triangle_base(g),
         Command::TextureRectangle(g) => textured_rectangle(0x24, g),
         Command::TextureRectangleFlip(g) => textured_rectangle(0x25, g),
@@ -404,6 +405,7 @@ pub fn spread(command: Command) -> Numbers
         Command::SetTextureImage(g) => image(0x3D, g),
         Command::SetDepthImage(n) => one(0x3E, n as u64),
         Command::SetColorImage(g) => image(0x3F, g),
+        Command::Unassigned(number) => none(number, is_unassigned(number)),
     }
 }
 

@@ -22,7 +22,7 @@ use Rattle.rdp_command.specs.declared.LoadFields.{LoadFields}
 use Rattle.rdp_command.specs.declared.LoadWords.{LoadWords}
 use Rattle.rdp_command.specs.declared.Image.{Image}
 use Rattle.rdp_command.specs.declared.Command.{Command}
-use Rattle.rdp_command.specs.declared.Command.the-variants.{NoOperation, FillTriangle, TextureRectangle, TextureRectangleFlip, SyncLoad, SyncPipe, SyncTile, SyncFull, SetKeyGb, SetKeyR, SetConvert, SetScissor, SetPrimitiveDepth, SetOtherModes, LoadTlut, SetTileSize, LoadBlock, LoadTile, SetTile, FillRectangle, SetFillColor, SetFogColor, SetBlendColor, SetPrimitiveColor, SetEnvironmentColor, SetCombineMode, SetTextureImage, SetDepthImage, SetColorImage}
+use Rattle.rdp_command.specs.declared.Command.the-variants.{NoOperation, FillTriangle, TextureRectangle, TextureRectangleFlip, SyncLoad, SyncPipe, SyncTile, SyncFull, SetKeyGb, SetKeyR, SetConvert, SetScissor, SetPrimitiveDepth, SetOtherModes, LoadTlut, SetTileSize, LoadBlock, LoadTile, SetTile, FillRectangle, SetFillColor, SetFogColor, SetBlendColor, SetPrimitiveColor, SetEnvironmentColor, SetCombineMode, SetTextureImage, SetDepthImage, SetColorImage, Unassigned}
 use Rattle.rdp_words.proofs.Tests.{below, by-test, false-of}
 use Rattle.rdp_words.proofs.KindLaws.{among-by, draws-among, draw-numbers, by-kinds, words-of-kind}
 use Rattle.rdp_words.proofs.PlaceLaws.{number-small, some-words, is-whole, word-drop}
@@ -123,6 +123,7 @@ other-by :
     actBy file n w v ≡ otherDraw (colorImageIn (word file 14))
 unfolding actBy
 other-by file n w v a b c d e = rw (ne-eqb _ _ a, ne-eqb _ _ b, ne-eqb _ _ c, ne-eqb _ _ d, ne-eqb _ _ e)
+no-act r (Unassigned g) e h = refl
 
 module _ (file c : List ℕ) (there : wholeWords c ≡ 0 → ⊥) where
   abbrev n : ℕ

@@ -2,9 +2,9 @@
 //
 // List n starts from the state n xor SEED, from which four steps of the generator are taken. Each step more gives a word, whose command number is
 // changed by n mod 8:
-//   0, 1, 2, 7  no draw and no Sync Full: bit 61 set, then 24 becomes 30, 25 33, 29 35 and 36 32;
+//   0, 1, 2, 7  no draw, no Sync Full, no unassigned number: bit 61 set, then 20 to 23 become 28, 24 30, 25 33, 29 35, 31 00 and 36 32;
 //   3, 4, 5     Set Other Modes, Set Color Image and Set Scissor first; then more syncs, loads and Set Tile: 00 to 07 become 35, 10 to 17 27,
-//               18 and 19 26, 1A and 1B 28, 1C to 1F 34;
+//               18 and 19 26, 1A, 1B and 20 to 23 28, 1C to 1F 34, 31 00;
 //   6           none is changed.
 // All other bits are as they came. With w = n mod 49 list n has w words; for 7, w words and 1 + w mod 7 bytes, which are zero.
 ghost use mathlib.Core.Path.{_≡_};
@@ -27,9 +27,11 @@ fn start(n: u64) -> u64 {
 // The command number in lists with no draw and no Sync Full.
 fn quiet(number: u64) -> u64 {
     match number | 0x20 {
+        0x20..=0x23 => 0x28,
         0x24 => 0x30,
         0x25 => 0x33,
         0x29 => 0x35,
+        0x31 => 0x00,
         0x36 => 0x32,
         other => other,
     }
@@ -47,8 +49,9 @@ fn drawing(place: usize, number: u64) -> u64 {
         0x00..=0x07 => 0x35,
         0x10..=0x17 => 0x27,
         0x18 | 0x19 => 0x26,
-        0x1A | 0x1B => 0x28,
+        0x1A | 0x1B | 0x20..=0x23 => 0x28,
         0x1C..=0x1F => 0x34,
+        0x31 => 0x00,
         _ => number,
     }
 }

@@ -20,7 +20,7 @@ use Rattle.rdp_command.specs.Decode.{ownWords, commandIn, decodeOf}
 use Rattle.rdp_command.specs.declared.TileDescriptor.{TileDescriptor}
 use Rattle.rdp_command.specs.declared.TexelCorner.{TexelCorner}
 use Rattle.rdp_command.specs.declared.Command.{Command}
-use Rattle.rdp_command.specs.declared.Command.the-variants.{NoOperation, FillTriangle, TextureRectangle, TextureRectangleFlip, SyncLoad, SyncPipe, SyncTile, SyncFull, SetKeyGb, SetKeyR, SetConvert, SetScissor, SetPrimitiveDepth, SetOtherModes, LoadTlut, SetTileSize, LoadBlock, LoadTile, SetTile, FillRectangle, SetFillColor, SetFogColor, SetBlendColor, SetPrimitiveColor, SetEnvironmentColor, SetCombineMode, SetTextureImage, SetDepthImage, SetColorImage}
+use Rattle.rdp_command.specs.declared.Command.the-variants.{NoOperation, FillTriangle, TextureRectangle, TextureRectangleFlip, SyncLoad, SyncPipe, SyncTile, SyncFull, SetKeyGb, SetKeyR, SetConvert, SetScissor, SetPrimitiveDepth, SetOtherModes, LoadTlut, SetTileSize, LoadBlock, LoadTile, SetTile, FillRectangle, SetFillColor, SetFogColor, SetBlendColor, SetPrimitiveColor, SetEnvironmentColor, SetCombineMode, SetTextureImage, SetDepthImage, SetColorImage, Unassigned}
 use Rattle.rdp_words.proofs.Tests.{each, below, true-of, by-test}
 use Rattle.rdp_words.proofs.PlaceLaws.{number-small, is-whole}
 use Rattle.rdp_command.proofs.CommandLaws.{one-word}
@@ -202,6 +202,7 @@ kept r (SetCombineMode x) k = absurd k
 kept r (SetTextureImage x) k = absurd k
 kept r (SetDepthImage x) k = absurd k
 kept r (SetColorImage x) k = absurd k
+kept r (Unassigned x) k = refl
 
 module _ (ws : List ℕ) (long : length ws ≡ 32) (c : List ℕ) (there : wholeWords c ≡ 0 → ⊥) where
   abbrev n : ℕ

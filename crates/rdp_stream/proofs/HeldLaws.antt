@@ -6,14 +6,14 @@ use Prim.Native.Nat.{ℕ, zero, suc, _+_, _*_, _-_, _/_, _%_, _≤_, _<_}
 use native.Mathlib.Nat.{sub-zero, zero-sub, suc-sub-suc}
 use native.Mathlib.Omega.{arith}
 use native.Mathlib.Numerals.{add-one}
-use borrow.Author.Tests.{eq-eqb, ne-eqb, eqb-true, le-ltb, ltb-true, ltb-false}
+use borrow.Author.Tests.{eq-eqb, ne-eqb, eqb-true, lt-ltb, le-ltb, ltb-true, ltb-false}
 use lib.Dec.{eqb, ltb}
 use lib.ListN.{length, getD, take, drop, replicate, drop-of-length-le, length-drop}
 use lib.Seq.{drop-cons, drop-drop, take-all, length-take-le, paste}
 use Rattle.rdp_words.specs.Words.{halfOf, wordOf, wordAt, pasted}
 use Rattle.rdp_words.specs.Kinds.{among}
 use Rattle.rdp_words.specs.Lengths.{wholeWords}
-use Rattle.rdp_words.proofs.Tests.{and-true, true-of, neither, below, by-test}
+use Rattle.rdp_words.proofs.Tests.{and-true, true-of, neither, below, by-test, same, same-bool}
 use Rattle.rdp_words.proofs.WordLaws.{word-whole}
 use Rattle.rdp_words.proofs.OverwriteLaws.{pasted-is}
 use Rattle.rdp_check.specs.Order.{ground, firstOf}
@@ -132,16 +132,14 @@ paste-is held bytes at count h =
 
 -- ---- 28
 
--- the numbers that these calls remember are those to 9
-pub unknown : (n : ℕ) → ltb 9 n ≡ not (among n remembered)
+-- the numbers that these calls remember are those to 9, and 19
+pub unknown : (n : ℕ) → ltb 9 n && not (eqb n 19) ≡ not (among n remembered)
 unknown n =
-    by-test (ltb 9 n)
-    (λ t.
-    let over : 9 < n = ltb-true 9 n t in
-    by-test (among n remembered) (λ m. let few : n < 10 = among-below 10 n remembered tt (rw m tt) in absurd (omega arith)) (λ f. rw (t, f)))
+    by-test (ltb n 20) (λ t. same-bool _ _ (below 20 (λ k. same (ltb 9 k && not (eqb k 19)) (not (among k remembered))) tt n (ltb-true n 20 t)))
     (λ f.
-    let few : n ≤ 9 = ltb-false 9 n f in
-    rw (f, true-of (among n remembered) (below 10 (λ k. among k remembered) tt n (omega arith))))
+    let over : 20 ≤ n = ltb-false n 20 f in
+    by-test (among n remembered) (λ m. let few : n < 20 = among-below 20 n remembered tt (rw m tt) in absurd (omega arith))
+    (λ m. rw (m, lt-ltb 9 n (omega arith), ne-eqb n 19 (λ e. omega arith))))
 
 -- the reasons in their order: the count, the bytes, the numbers
 any-of : (a b c d e f g h : Bool) → eqb (firstOf (ground 28 a ∷ ground 28 b ∷ ground 28 c ∷ ground 28 d ∷ ground 28 e ∷ ground 28 f ∷ ground 28 g ∷ ground 28 h ∷ []) 0) 28 ≡ a || ((b || c) || (d || (e || (f || (g || h)))))
@@ -187,7 +185,7 @@ sound held count taken number waited e =
     let d = neither (ltb 32768 taken) _ (b .1) in
     let f = neither (ltb taken count) _ (d .1) in
     let g = neither (not (eqb ((taken - count) % 8) 0)) _ (f .1) in
-    let h = neither (ltb 9 number) _ (g .1) in
+    let h = neither (ltb 9 number && not (eqb number 19)) _ (g .1) in
     record {
       few = ltb-false _ _ (a .0);
       clear = not-not _ (c .0);

@@ -103,7 +103,7 @@ near-place false h k = k
 answer-near : (f : Feeding) → Fit f → Near (answerOf f)
 answer-near f k =
     let words : (f .taken - length (f .held)) / 8 < 2 ^ 32 = omega (arith, k .most) in
-    record { number = omega (arith, among-below 10 (f .number) remembered tt (k .known)); place = near-place (eqb (f .number) 0) words (k .near) }
+    record { number = omega (arith, among-below 20 (f .number) remembered tt (k .known)); place = near-place (eqb (f .number) 0) words (k .near) }
 
 answered-near : (r : Stream) (f : Feeding) → (isDamaged r ≡ false → Fit f) → Near (answered r f .answer)
 unfolding answered

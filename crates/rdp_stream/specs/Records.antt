@@ -23,7 +23,7 @@ allZero (b ∷ bs) = eqb b 0 && allZero bs
 
 -- the numbers that these calls remember: none, those of the bytes that come, and those of closing
 abbrev pub remembered : List ℕ
-remembered = 0 ∷ 1 ∷ 2 ∷ 3 ∷ 4 ∷ 5 ∷ 6 ∷ 7 ∷ 8 ∷ 9 ∷ []
+remembered = 0 ∷ 1 ∷ 2 ∷ 3 ∷ 4 ∷ 5 ∷ 6 ∷ 7 ∷ 8 ∷ 9 ∷ 19 ∷ []
 
 -- 28, a line for each reason: "over 175 held bytes, a byte past them not zero, held bytes that already make a command, over 32,768 taken, taken less held
 -- below 0 or no multiple of 8, or a remembered number these calls don't give"; by #105 "also for a record whose total is above 204,800"

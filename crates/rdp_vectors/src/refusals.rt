@@ -8,7 +8,8 @@ pub fn show_refusals() {
     images_beyond_their_bits();
     heights_beyond_their_bits();
     edges_beyond_their_bits();
-    wrong_no_operations();
+    numbers_of_names();
+    unassigned_numbers();
     wrong_suffixes();
     short_outputs();
     order_of_refusals();
@@ -140,7 +141,9 @@ fn edges_beyond_their_bits() {
     show_encoding(triangle(false, false, false, 0, 0, -8193), 0, 184);
 }
 
-fn wrong_no_operations() {
+fn numbers_of_names() {
+    show_encoding(Command::NoOperation(0x00), 0, 184);
+    show_encoding(Command::NoOperation(0x01), 0, 184);
     show_encoding(Command::NoOperation(0x23), 0, 184);
     show_encoding(Command::NoOperation(0x24), 0, 184);
     show_encoding(Command::NoOperation(0x08), 0, 184);
@@ -149,6 +152,20 @@ fn wrong_no_operations() {
     show_encoding(Command::NoOperation(0x30), 0, 184);
     show_encoding(Command::NoOperation(0x40), 0, 184);
     show_encoding(Command::NoOperation(0xFF), 0, 184);
+}
+
+fn unassigned_numbers() {
+    show_encoding(Command::Unassigned(0x00), 0, 184);
+    show_encoding(Command::Unassigned(0x01), 0, 184);
+    show_encoding(Command::Unassigned(0x07), 0, 184);
+    show_encoding(Command::Unassigned(0x08), 0, 184);
+    show_encoding(Command::Unassigned(0x0F), 0, 184);
+    show_encoding(Command::Unassigned(0x10), 0, 184);
+    show_encoding(Command::Unassigned(0x23), 0, 184);
+    show_encoding(Command::Unassigned(0x24), 0, 184);
+    show_encoding(Command::Unassigned(0x31), 0, 184);
+    show_encoding(Command::Unassigned(0x41), 0, 184);
+    show_encoding(Command::Unassigned(0xFF), 0, 184);
 }
 
 fn wrong_suffixes() {

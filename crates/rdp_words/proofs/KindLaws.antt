@@ -8,8 +8,8 @@ use native.Mathlib.Omega.{arith}
 use lib.ListN.{getD, replicate}
 use borrow.Author.Tests.{leb-true, eqb-true}
 use lib.Dec.{T, eqb, leb, eqb→eq, leb→le}
-use Rattle.rdp_words.specs.Kinds.{Kind, noOperation, triangle, textureRectangle, fillRectangle, syncLoad, syncTile, syncPipe, syncFull, load, setTile, attribute, free, between, among, kindOf, isNoOperation, isDraw, hasBit, isAmong, wordsOfKind, wordsOf}
-use Rattle.rdp_words.proofs.Tests.{each, below, both, and-true, or-cases, same, same-bool}
+use Rattle.rdp_words.specs.Kinds.{Kind, noOperation, unassigned, triangle, textureRectangle, fillRectangle, syncLoad, syncTile, syncPipe, syncFull, load, setTile, attribute, free, between, among, kindOf, isNoOperation, isUnassigned, isDraw, hasBit, isAmong, wordsOfKind, wordsOf}
+use Rattle.rdp_words.proofs.Tests.{each, below, both, and-true, or-cases, same, same-bool, false-of}
 
 -- command numbers as the bits of a number
 pub bits-by : (numbers : ℕ) (f : ℕ → Bool) → T (each (λ k. same (hasBit (2 ^ k) numbers) (f k)) 64) → (n : ℕ) → n < 64 → hasBit (2 ^ n) numbers ≡ f n
@@ -44,12 +44,12 @@ kinds-from n (suc k) (suc i) h = let e : suc n + i ≡ n + suc i = omega arith i
 -- the kinds of the 64 numbers in their order
 abbrev pub kinds : List Kind
 kinds =
-    replicate 8 noOperation ++
+    noOperation ∷ replicate 7 unassigned ++
     (replicate 8 triangle ++
-    (replicate 20 noOperation ++
+    (replicate 20 unassigned ++
     textureRectangle ∷ textureRectangle ∷ syncLoad ∷ syncPipe ∷ syncTile ∷ syncFull ∷  -- 0x24
     attribute ∷ attribute ∷ attribute ∷ free ∷ free ∷ attribute ∷  -- 0x2A
-    load ∷ noOperation ∷ free ∷ load ∷ load ∷ setTile ∷ fillRectangle ∷  -- 0x30
+    load ∷ unassigned ∷ free ∷ load ∷ load ∷ setTile ∷ fillRectangle ∷  -- 0x30
     attribute ∷ attribute ∷ attribute ∷ free ∷ attribute ∷ attribute ∷ free ∷ attribute ∷ attribute ∷ []))  -- 0x37
 
 abbrev pub kindAt : ℕ → Kind
@@ -70,19 +70,32 @@ pub words-of-kind : (n : ℕ) → wordsOf n ≡ wordsOfKind (kindOf n) n
 unfolding wordsOf
 words-of-kind n = refl
 
--- ---- no operations and words
+-- ---- unassigned numbers and words
 
--- a number of the row of no operations is a command number
+-- a number of these two rows is a command number
+pub no-operation-small : (n : ℕ) → isNoOperation n ≡ true → n < 64
+no-operation-small n e = omega (arith, eqb-true n 0x00 e)
+
 between-small : (low high n : ℕ) → between low high n ≡ true → n ≤ high
 between-small low high n e = leb-true n high (and-true (leb low n) (leb n high) e .1)
 
-pub no-operation-small : (n : ℕ) → isNoOperation n ≡ true → n < 64
-no-operation-small n e =
-    or-cases (between 0x00 0x07 n || between 0x10 0x23 n) (eqb n 0x31) e
+pub unassigned-small : (n : ℕ) → isUnassigned n ≡ true → n < 64
+unassigned-small n e =
+    or-cases (between 0x01 0x07 n || between 0x10 0x23 n) (eqb n 0x31) e
     (λ f.
-    or-cases (between 0x00 0x07 n) (between 0x10 0x23 n) f (λ g. omega (arith, between-small 0x00 0x07 n g))
+    or-cases (between 0x01 0x07 n) (between 0x10 0x23 n) f (λ g. omega (arith, between-small 0x01 0x07 n g))
     (λ g. omega (arith, between-small 0x10 0x23 n g)))
     (λ f. omega (arith, eqb-true n 0x31 f))
+
+-- the unassigned numbers as the code has them
+pub unassigned-among : (n : ℕ) → n < 64 → isAmong 0x0002_000F_FFFF_00FE n ≡ isUnassigned n
+unassigned-among = among-by _ isUnassigned tt
+
+-- an unassigned number is no draw
+pub unassigned-apart : (n : ℕ) → n < 64 → isUnassigned n ≡ true → isDraw (kindOf n) ≡ false
+unassigned-apart n h e =
+    let t = by-kinds (λ k m. not (isUnassigned m) || not (isDraw k)) tt n h in
+    false-of (isDraw (kindOf n)) (rw e at t)
 
 -- the words as the code has them
 abbrev pub longWords : ℕ → ℕ

@@ -1,4 +1,4 @@
--- Document 01, "Words and lengths": the table of command numbers, kinds and words.
+-- Document 01, "Words and lengths": the table of command numbers, kinds and words; by document 02, #107, with a row of unassigned numbers.
 use mathlib.Core.Bool.{Bool, true, false, cond, _&&_, _||_}
 use mathlib.Core.List.{List, [], _∷_}
 use Prim.Native.Nat.{ℕ, _+_, _/_, _%_, _^_}
@@ -6,6 +6,7 @@ use lib.Dec.{leb, eqb}
 
 pub data Kind : Type 0 where
   noOperation : Kind
+  unassigned : Kind
   triangle : Kind
   textureRectangle : Kind
   fillRectangle : Kind
@@ -25,14 +26,18 @@ abbrev pub among : ℕ → List ℕ → Bool
 among n [] = false
 among n (x ∷ xs) = eqb n x || among n xs
 
--- 01's row of no operations
+-- #107: "only 0x00 counts as no operation; the other 28 numbers" of 01's row of no operations "are named unassigned"
 abbrev pub isNoOperation : ℕ → Bool
-isNoOperation n = (between 0x00 0x07 n || between 0x10 0x23 n) || eqb n 0x31
+isNoOperation n = eqb n 0x00
 
--- the row of 01's table that names a number. The rows name every number below 64; one of 64 or more, which no word has, counts as a no operation
+abbrev pub isUnassigned : ℕ → Bool
+isUnassigned n = (between 0x01 0x07 n || between 0x10 0x23 n) || eqb n 0x31
+
+-- the row of the table that names a number. The rows name every number below 64; one of 64 or more, which no word has, counts as unassigned
 unfoldable pub kindOf : ℕ → Kind
 kindOf n =
     cond (isNoOperation n) noOperation
+    (cond (isUnassigned n) unassigned
     (cond (between 0x08 0x0F n) triangle
     (cond (among n (0x24 ∷ 0x25 ∷ [])) textureRectangle
     (cond (eqb n 0x36) fillRectangle
@@ -44,11 +49,12 @@ kindOf n =
     (cond (eqb n 0x35) setTile
     (cond (among n (0x2A ∷ 0x2B ∷ 0x2C ∷ 0x2F ∷ 0x37 ∷ 0x38 ∷ 0x39 ∷ 0x3B ∷ 0x3C ∷ 0x3E ∷ 0x3F ∷ [])) attribute
     (cond (among n (0x2D ∷ 0x2E ∷ 0x32 ∷ 0x3A ∷ 0x3D ∷ [])) free
-    noOperation)))))))))))
+    unassigned))))))))))))
 
 -- the rows that 01 calls draws
 abbrev pub isDraw : Kind → Bool
 isDraw noOperation = false
+isDraw unassigned = false
 isDraw triangle = true
 isDraw textureRectangle = true
 isDraw fillRectangle = true
@@ -75,6 +81,7 @@ triangleWords n = 4 + cond (hasBit 4 n) 8 0 + cond (hasBit 2 n) 8 0 + cond (hasB
 
 abbrev pub wordsOfKind : Kind → ℕ → ℕ
 wordsOfKind noOperation n = 1
+wordsOfKind unassigned n = 1
 wordsOfKind triangle n = triangleWords n
 wordsOfKind textureRectangle n = 2
 wordsOfKind fillRectangle n = 1

@@ -37,10 +37,12 @@ pub fn number_in(w: u64) -> u8
     ((w >> 56) % 64) as u8
 }
 
-// Command numbers, a bit for each: the draws, and the commands of more than one word.
+// Command numbers, a bit for each: the draws, the commands of more than one word, and the unassigned numbers (#107).
 pub const DRAWS: u64 = 0x0040_0030_0000_FF00;
 
 pub const LONG: u64 = 0x0000_0030_0000_FF00;
+
+pub const UNASSIGNED: u64 = 0x0002_000F_FFFF_00FE;
 
 // Whether a command number is among those whose bits are set; its low six bits count.
 pub fn is_among(numbers: u64, number: u8) -> bool

@@ -4,7 +4,7 @@ use mathlib.Core.Path.{ap, refl, _∙_}
 use borrow.Author.Tests.{ne-eqb}
 use Rattle.rdp_command.specs.Layout.{layout}
 use Rattle.rdp_command.specs.Commands.{commandOf}
-use Rattle.rdp_command.specs.declared.Command.the-variants.{FillTriangle, TextureRectangle, TextureRectangleFlip, SetKeyGb, SetKeyR, SetConvert, SetScissor, SetPrimitiveDepth, SetOtherModes, LoadTlut, SetTileSize, LoadBlock, LoadTile, SetTile, FillRectangle, SetFillColor, SetFogColor, SetBlendColor, SetPrimitiveColor, SetEnvironmentColor, SetCombineMode, SetTextureImage, SetDepthImage, SetColorImage}
+use Rattle.rdp_command.specs.declared.Command.the-variants.{FillTriangle, TextureRectangle, TextureRectangleFlip, SetKeyGb, SetKeyR, SetConvert, SetScissor, SetPrimitiveDepth, SetOtherModes, LoadTlut, SetTileSize, LoadBlock, LoadTile, SetTile, FillRectangle, SetFillColor, SetFogColor, SetBlendColor, SetPrimitiveColor, SetEnvironmentColor, SetCombineMode, SetTextureImage, SetDepthImage, SetColorImage, NoOperation}
 use Rattle.rdp_command.specs.declared.decoding.Base.{Base}
 use Rattle.rdp_command.proofs.CommandLaws.{at-number, at-triangle}
 use borrow.Author.Needs.{needs}
@@ -199,37 +199,42 @@ returns-28 c = at-number (words (c .before .before .before .args .base)) (c .bef
 
 returns-29 : tie.Need-returns-29
 unfolding commandOf
-returns-29 c =
+returns-29 c = at-number (words (c .before .before .args .base)) (c .match .keys28) (ap NoOperation (c .match .keys28))
+
+returns-30 : tie.Need-returns-30
+unfolding commandOf
+returns-30 c =
     let n = c .before .before .args .base .number in
     simp (
       ne-eqb (n / 8) 1 (c .before .if1 .left),
-      ne-eqb n 0x24 (c .match .rest .0 .0 .0 .0 .0 .0 .0 .0 .0 .0 .0 .0 .0 .0 .0 .0 .0 .0 .0 .0 .0 .0 .0 .0 .0 .0 .1),
-      ne-eqb n 0x25 (c .match .rest .0 .0 .0 .0 .0 .0 .0 .0 .0 .0 .0 .0 .0 .0 .0 .0 .0 .0 .0 .0 .0 .0 .0 .0 .0 .1),
-      ne-eqb n 0x26 (c .match .rest .0 .0 .0 .0 .0 .0 .0 .0 .0 .0 .0 .0 .0 .0 .0 .0 .0 .0 .0 .0 .0 .0 .0 .0 .1),
-      ne-eqb n 0x27 (c .match .rest .0 .0 .0 .0 .0 .0 .0 .0 .0 .0 .0 .0 .0 .0 .0 .0 .0 .0 .0 .0 .0 .0 .0 .1),
-      ne-eqb n 0x28 (c .match .rest .0 .0 .0 .0 .0 .0 .0 .0 .0 .0 .0 .0 .0 .0 .0 .0 .0 .0 .0 .0 .0 .0 .1),
-      ne-eqb n 0x29 (c .match .rest .0 .0 .0 .0 .0 .0 .0 .0 .0 .0 .0 .0 .0 .0 .0 .0 .0 .0 .0 .0 .0 .1),
-      ne-eqb n 0x2A (c .match .rest .0 .0 .0 .0 .0 .0 .0 .0 .0 .0 .0 .0 .0 .0 .0 .0 .0 .0 .0 .0 .1),
-      ne-eqb n 0x2B (c .match .rest .0 .0 .0 .0 .0 .0 .0 .0 .0 .0 .0 .0 .0 .0 .0 .0 .0 .0 .0 .1),
-      ne-eqb n 0x2C (c .match .rest .0 .0 .0 .0 .0 .0 .0 .0 .0 .0 .0 .0 .0 .0 .0 .0 .0 .0 .1),
-      ne-eqb n 0x2D (c .match .rest .0 .0 .0 .0 .0 .0 .0 .0 .0 .0 .0 .0 .0 .0 .0 .0 .0 .1),
-      ne-eqb n 0x2E (c .match .rest .0 .0 .0 .0 .0 .0 .0 .0 .0 .0 .0 .0 .0 .0 .0 .0 .1),
-      ne-eqb n 0x2F (c .match .rest .0 .0 .0 .0 .0 .0 .0 .0 .0 .0 .0 .0 .0 .0 .0 .1),
-      ne-eqb n 0x30 (c .match .rest .0 .0 .0 .0 .0 .0 .0 .0 .0 .0 .0 .0 .0 .0 .1),
-      ne-eqb n 0x32 (c .match .rest .0 .0 .0 .0 .0 .0 .0 .0 .0 .0 .0 .0 .0 .1),
-      ne-eqb n 0x33 (c .match .rest .0 .0 .0 .0 .0 .0 .0 .0 .0 .0 .0 .0 .1),
-      ne-eqb n 0x34 (c .match .rest .0 .0 .0 .0 .0 .0 .0 .0 .0 .0 .0 .1),
-      ne-eqb n 0x35 (c .match .rest .0 .0 .0 .0 .0 .0 .0 .0 .0 .0 .1),
-      ne-eqb n 0x36 (c .match .rest .0 .0 .0 .0 .0 .0 .0 .0 .0 .1),
-      ne-eqb n 0x37 (c .match .rest .0 .0 .0 .0 .0 .0 .0 .0 .1),
-      ne-eqb n 0x38 (c .match .rest .0 .0 .0 .0 .0 .0 .0 .1),
-      ne-eqb n 0x39 (c .match .rest .0 .0 .0 .0 .0 .0 .1),
-      ne-eqb n 0x3A (c .match .rest .0 .0 .0 .0 .0 .1),
-      ne-eqb n 0x3B (c .match .rest .0 .0 .0 .0 .1),
-      ne-eqb n 0x3C (c .match .rest .0 .0 .0 .1),
-      ne-eqb n 0x3D (c .match .rest .0 .0 .1),
-      ne-eqb n 0x3E (c .match .rest .0 .1),
-      ne-eqb n 0x3F (c .match .rest .1),
+      ne-eqb n 0x24 (c .match .rest .0 .0 .0 .0 .0 .0 .0 .0 .0 .0 .0 .0 .0 .0 .0 .0 .0 .0 .0 .0 .0 .0 .0 .0 .0 .0 .0 .1),
+      ne-eqb n 0x25 (c .match .rest .0 .0 .0 .0 .0 .0 .0 .0 .0 .0 .0 .0 .0 .0 .0 .0 .0 .0 .0 .0 .0 .0 .0 .0 .0 .0 .1),
+      ne-eqb n 0x26 (c .match .rest .0 .0 .0 .0 .0 .0 .0 .0 .0 .0 .0 .0 .0 .0 .0 .0 .0 .0 .0 .0 .0 .0 .0 .0 .0 .1),
+      ne-eqb n 0x27 (c .match .rest .0 .0 .0 .0 .0 .0 .0 .0 .0 .0 .0 .0 .0 .0 .0 .0 .0 .0 .0 .0 .0 .0 .0 .0 .1),
+      ne-eqb n 0x28 (c .match .rest .0 .0 .0 .0 .0 .0 .0 .0 .0 .0 .0 .0 .0 .0 .0 .0 .0 .0 .0 .0 .0 .0 .0 .1),
+      ne-eqb n 0x29 (c .match .rest .0 .0 .0 .0 .0 .0 .0 .0 .0 .0 .0 .0 .0 .0 .0 .0 .0 .0 .0 .0 .0 .0 .1),
+      ne-eqb n 0x2A (c .match .rest .0 .0 .0 .0 .0 .0 .0 .0 .0 .0 .0 .0 .0 .0 .0 .0 .0 .0 .0 .0 .0 .1),
+      ne-eqb n 0x2B (c .match .rest .0 .0 .0 .0 .0 .0 .0 .0 .0 .0 .0 .0 .0 .0 .0 .0 .0 .0 .0 .0 .1),
+      ne-eqb n 0x2C (c .match .rest .0 .0 .0 .0 .0 .0 .0 .0 .0 .0 .0 .0 .0 .0 .0 .0 .0 .0 .0 .1),
+      ne-eqb n 0x2D (c .match .rest .0 .0 .0 .0 .0 .0 .0 .0 .0 .0 .0 .0 .0 .0 .0 .0 .0 .0 .1),
+      ne-eqb n 0x2E (c .match .rest .0 .0 .0 .0 .0 .0 .0 .0 .0 .0 .0 .0 .0 .0 .0 .0 .0 .1),
+      ne-eqb n 0x2F (c .match .rest .0 .0 .0 .0 .0 .0 .0 .0 .0 .0 .0 .0 .0 .0 .0 .0 .1),
+      ne-eqb n 0x30 (c .match .rest .0 .0 .0 .0 .0 .0 .0 .0 .0 .0 .0 .0 .0 .0 .0 .1),
+      ne-eqb n 0x32 (c .match .rest .0 .0 .0 .0 .0 .0 .0 .0 .0 .0 .0 .0 .0 .0 .1),
+      ne-eqb n 0x33 (c .match .rest .0 .0 .0 .0 .0 .0 .0 .0 .0 .0 .0 .0 .0 .1),
+      ne-eqb n 0x34 (c .match .rest .0 .0 .0 .0 .0 .0 .0 .0 .0 .0 .0 .0 .1),
+      ne-eqb n 0x35 (c .match .rest .0 .0 .0 .0 .0 .0 .0 .0 .0 .0 .0 .1),
+      ne-eqb n 0x36 (c .match .rest .0 .0 .0 .0 .0 .0 .0 .0 .0 .0 .1),
+      ne-eqb n 0x37 (c .match .rest .0 .0 .0 .0 .0 .0 .0 .0 .0 .1),
+      ne-eqb n 0x38 (c .match .rest .0 .0 .0 .0 .0 .0 .0 .0 .1),
+      ne-eqb n 0x39 (c .match .rest .0 .0 .0 .0 .0 .0 .0 .1),
+      ne-eqb n 0x3A (c .match .rest .0 .0 .0 .0 .0 .0 .1),
+      ne-eqb n 0x3B (c .match .rest .0 .0 .0 .0 .0 .1),
+      ne-eqb n 0x3C (c .match .rest .0 .0 .0 .0 .1),
+      ne-eqb n 0x3D (c .match .rest .0 .0 .0 .1),
+      ne-eqb n 0x3E (c .match .rest .0 .0 .1),
+      ne-eqb n 0x3F (c .match .rest .0 .1),
+      ne-eqb n 0x00 (c .match .rest .1),
     )
 
 pub command-in-spec : {M : Type 1} → statement M
@@ -288,4 +293,5 @@ command-in-spec =
     returns-27
     color-image-requires
     returns-28
-    returns-29)
+    returns-29
+    returns-30)

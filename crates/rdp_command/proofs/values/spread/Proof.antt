@@ -3,8 +3,8 @@ use mathlib.Core.List.{[]}
 use mathlib.Core.Path.{refl, ap, _∙_}
 use lib.Dec.{lit<, lit≤}
 use Rattle.rdp_command.specs.Steps.{numbered}
-use Rattle.rdp_words.proofs.KindLaws.{no-operation-small}
-use Rattle.rdp_command.proofs.LayoutLaws.{no-operation-lines}
+use Rattle.rdp_words.proofs.KindLaws.{no-operation-small, unassigned-small}
+use Rattle.rdp_command.proofs.LayoutLaws.{no-operation-lines, unassigned-lines}
 use borrow.Author.Needs.{needs}
 use Rattle.rdp_command.specs.Layout.{layout}
 use Rattle.rdp_command.proofs.Spreading.{spread-as}
@@ -13,9 +13,6 @@ use Rattle.rdp_command.proofs.values.spread.Tie as tie
 
 enum-known-command : tie.Need-enum-known-command
 enum-known-command c = search needs
-
-is-no-operation-requires : tie.Need-is-no-operation-requires
-is-no-operation-requires c κs = search needs
 
 none-requires : tie.Need-none-requires
 none-requires c κs = search needs
@@ -194,15 +191,25 @@ enum-known-command-25 c = search needs
 image-requires-2 : tie.Need-image-requires-2
 image-requires-2 c κs = search needs
 
+enum-known-command-26 : tie.Need-enum-known-command-26
+enum-known-command-26 c = search needs
+
+is-unassigned-requires : tie.Need-is-unassigned-requires
+is-unassigned-requires c κs = search needs
+
+none-requires-6 : tie.Need-none-requires-6
+none-requires-6 c κs = search needs
+
 returns : tie.Need-returns
 unfolding layout
 returns c =
-    spread-as (c .before .before .before .command .given .1)
+    let n = c .before .before .command .given .0 .0 in
+    spread-as (c .before .before .command .given .1)
     (record {
-      numbers = c .none .ensures ∙ ap (λ (k : Bool). numbered (c .before .before .before .command .given .0 .0) k []) (c .before .is-no-operation .ensures);
+      numbers = c .none .ensures;
       kept = refl;
-      sized = no-operation-lines (c .before .before .before .command .given .0 .0);
-      small = no-operation-small (c .before .before .before .command .given .0 .0);
+      sized = no-operation-lines n;
+      small = no-operation-small n;
       few = lit≤ tt;
     })
 
@@ -318,12 +325,24 @@ returns-29 : tie.Need-returns-29
 unfolding layout
 returns-29 c = spread-as (c .before .before .command25 .given .1) (record { numbers = c .image2 .ensures; kept = refl; sized = λ _. refl; small = λ _. lit< tt; few = lit≤ tt })
 
+returns-30 : tie.Need-returns-30
+unfolding layout
+returns-30 c =
+    let n = c .before .before .before .command26 .given .0 .0 in
+    spread-as (c .before .before .before .command26 .given .1)
+    (record {
+      numbers = c .none6 .ensures ∙ ap (λ (k : Bool). numbered n k []) (c .before .is-unassigned .ensures);
+      kept = refl;
+      sized = unassigned-lines n;
+      small = unassigned-small n;
+      few = lit≤ tt;
+    })
+
 pub spread-spec : {M : Type 1} → statement M
 spread-spec =
     tie.close
     (tie.spec
     enum-known-command
-    is-no-operation-requires
     none-requires
     enum-known-command-2
     triangle-base-requires
@@ -383,6 +402,9 @@ spread-spec =
     one-requires-3
     enum-known-command-25
     image-requires-2
+    enum-known-command-26
+    is-unassigned-requires
+    none-requires-6
     returns
     returns-2
     returns-3
@@ -411,4 +433,5 @@ spread-spec =
     returns-26
     returns-27
     returns-28
-    returns-29)
+    returns-29
+    returns-30)
