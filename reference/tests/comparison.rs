@@ -35,6 +35,8 @@ enum Fault {
     LoadNoCause,
     /// Over the limit the cause is the words that a list may have.
     WordsOverLimit,
+    /// An unassigned number is a no operation where nothing else is refused.
+    UnassignedPasses,
     /// One painted byte is wrong.
     MemoryByte,
     /// A refused draw has written one byte.
@@ -101,6 +103,8 @@ enum Fault {
     TotalUnseen,
     /// The spare bytes are cleared.
     SpareCleared,
+    /// A remembered 19 is taken for damage.
+    UnassignedDamages,
 }
 
 /// The reference with one fault.
@@ -147,6 +151,7 @@ impl Side for Faulty {
         let answer = Reference.check(list);
         let cause = match (self.0, ground(answer)) {
             (Fault::PlaceAtGround9, 9) => return answer + 1,
+            (Fault::UnassignedPasses, 19) => return Reference.check(&vec![0; list.len()]),
             (Fault::FirstDraw, 9) => draws(list, answer).next(),
             (Fault::AnyDraw, 8) => draws(list, answer).last(),
             (Fault::LoadNoCause, 8) => textured_draws(list, answer).last(),
@@ -275,6 +280,7 @@ fn faulty_feed(fault: Fault, record: &mut Record, portion: &[u8]) -> u64 {
         Fault::TotalAtDamage if ground(answer) == 28 => {
             return answer | u64::from(stream.total & 0xFF_FFFF) << 32
         }
+        Fault::UnassignedDamages if before.remembered.number == 19 => return 28 << 56,
         Fault::SpareCleared => record[NUMBERS - 1] &= 0xFFFF_FFFF_0000_FFFF,
         _ => return answer,
     }
@@ -325,6 +331,7 @@ fn every_fault_is_found_in_its_function() {
         (Fault::AnyDraw, Function::Check),
         (Fault::LoadNoCause, Function::Check),
         (Fault::WordsOverLimit, Function::Check),
+        (Fault::UnassignedPasses, Function::Check),
         (Fault::MemoryByte, Function::Draw),
         (Fault::MemoryAtRefusal, Function::Draw),
         (Fault::TextureByte, Function::Draw),
@@ -341,11 +348,6 @@ fn every_fault_is_found_in_its_function() {
         (Fault::TextureWords, Function::Words),
         (Fault::IgnoredBits, Function::Words),
         (Fault::FlippedWord, Function::Words),
-        (Fault::LoadForgotten, Function::Step),
-        (Fault::LoadReadsNoTile, Function::Check),
-        (Fault::NotMissing, Function::Step),
-        (Fault::StepStops, Function::Step),
-        (Fault::BitsAbove, Function::Step),
         (Fault::OneByteEarly, Function::Stream),
         (Fault::RefusalForgotten, Function::Stream),
         (Fault::HeldKept, Function::Stream),
@@ -358,9 +360,27 @@ fn every_fault_is_found_in_its_function() {
         (Fault::TotalAtDamage, Function::Stream),
         (Fault::TotalUnseen, Function::Stream),
         (Fault::SpareCleared, Function::Stream),
+        (Fault::UnassignedDamages, Function::Stream),
     ];
     for (fault, function) in faults {
         assert_eq!(found(fault).call.function, function, "{fault:?}");
+    }
+}
+
+/// By a step alone, or by the steps along a list that was checked.
+#[test]
+fn every_fault_of_a_step_is_found() {
+    let faults = [
+        Fault::LoadForgotten,
+        Fault::LoadReadsNoTile,
+        Fault::NotMissing,
+        Fault::StepStops,
+        Fault::BitsAbove,
+    ];
+    for fault in faults {
+        let function = found(fault).call.function;
+        let by_steps = matches!(function, Function::Step | Function::Check);
+        assert!(by_steps, "{fault:?}");
     }
 }
 

@@ -194,7 +194,7 @@ fn copy_modes(builder: &mut Builder) {
 }
 
 /// Commands that copying does not see.
-const UNSEEN: &[u8] = &[0x00, 0x26, 0x27, 0x28, 0x2A, 0x2E, 0x38, 0x3A, 0x3C, 0x3E];
+const UNSEEN: &[u8] = &[0x26, 0x27, 0x28, 0x2A, 0x2E, 0x38, 0x3A, 0x3C, 0x3E];
 
 /// One command, or one with what it needs.
 fn step(scene: &Scene, builder: &mut Builder) {
@@ -210,6 +210,7 @@ fn step(scene: &Scene, builder: &mut Builder) {
         35..=37 => fill(scene, builder),
         38 => builder.one_of(&[0x25, 0x0B, 0x36, 0x30, 0x33, 0x24]),
         39 => copy_modes(builder),
+        40 => builder.usual(0x00),
         _ => builder.one_of(UNSEEN),
     }
 }
