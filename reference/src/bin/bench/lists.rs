@@ -2,12 +2,14 @@
 
 use reference::comparison::rng::Rng;
 use reference::kinds::words;
+use reference::marks::Marks;
 use reference::words::bytes_of;
 
 const NO_OPERATION: u8 = 0x00;
 const TEXTURE_RECTANGLE: u8 = 0x24;
 const SYNC_LOAD: u8 = 0x26;
 const SYNC_PIPE: u8 = 0x27;
+const SYNC_TILE: u8 = 0x28;
 const SYNC_FULL: u8 = 0x29;
 const SET_SCISSOR: u8 = 0x2D;
 const SET_OTHER_MODES: u8 = 0x2F;
@@ -115,15 +117,19 @@ pub fn setters(length: usize) -> Vec<u8> {
     one_word_commands(8, SETTERS, length)
 }
 
-/// Commands of these numbers, with random bits.
+/// Commands of these numbers, with random bits. Where one of them would wait for a
+/// load, a Sync Tile stands in its place.
 fn one_word_commands(seed: u64, numbers: &[u8], length: usize) -> Vec<u8> {
     let mut rng = Rng::new(seed);
-    let list: Vec<u64> = (0..length)
-        .map(|_| {
-            let number = rng.pick(numbers);
-            random(&mut rng, number)[0]
-        })
-        .collect();
+    let mut marks = Marks::default();
+    let mut list = Vec::new();
+    while list.len() < length {
+        let number = rng.pick(numbers);
+        let waits = marks.missing_sync(number).is_some();
+        let number = if waits { SYNC_TILE } else { number };
+        marks = marks.after(number);
+        list.extend(random(&mut rng, number));
+    }
     bytes_of(&list)
 }
 
