@@ -1,14 +1,20 @@
 //! The comparison itself: the reference agrees with itself and reaches every
 //! ground, and a second side with one fault is found out.
 
+use std::collections::BTreeSet;
+
+use reference::answer::Ground;
+use reference::check::check;
 use reference::comparison::calls::Function;
+use reference::comparison::lists::list;
+use reference::comparison::rng::Rng;
 use reference::comparison::run::{run, Difference};
 use reference::comparison::side::{Reference, Side};
-use reference::kinds::{commands, is_draw, is_textured_draw};
+use reference::kinds::{commands, is_draw, is_textured_draw, is_unassigned};
 use reference::record::{pack, unpack, Record, NUMBERS};
 use reference::stream::{MOST_TOTAL, ROOM};
 use reference::texture::TEXTURE_BYTES;
-use reference::words::command_number;
+use reference::words::{command_number, word_at};
 
 const SEED: u64 = 7;
 const CASES: u64 = 4_000;
@@ -20,6 +26,21 @@ fn the_reference_agrees_with_itself() {
     });
     assert_eq!(counts.missing(), []);
     assert!(counts.searched > 500, "{}", counts.searched);
+}
+
+/// Each unassigned number is refused by 19 in some case.
+#[test]
+fn every_unassigned_number_is_reached() {
+    let refused = |case| {
+        let list = list(&mut Rng::of_case(SEED, case), case);
+        let refusal = check(&list).outcome.err()?;
+        let number = || command_number(word_at(&list, refusal.place));
+        (refusal.ground == Ground::UnassignedNumber).then(number)
+    };
+    let numbers: BTreeSet<u8> = (0..2 * CASES).filter_map(refused).collect();
+    assert!(numbers
+        .into_iter()
+        .eq((0..64).filter(|n| is_unassigned(*n))));
 }
 
 /// One fault of a second side that is right otherwise.

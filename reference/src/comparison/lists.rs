@@ -21,8 +21,14 @@ pub fn list(rng: &mut Rng, case: u64) -> Vec<u8> {
         20..=27 => medium_copies(rng),
         28..=49 => random_bytes(rng),
         50..=71 => random_commands(rng),
-        at @ 72..=135 => one_command(rng, (at - 72) as u8),
-        at @ 136..=199 => command_after_marks(rng, (at - 136) as u8),
+        at @ 72..=135 => {
+            let number = mostly_assigned(rng, (at - 72) as u8, 4);
+            one_command(rng, number)
+        }
+        at @ 136..=199 => {
+            let number = mostly_assigned(rng, (at - 136) as u8, 4);
+            command_after_marks(rng, number)
+        }
         200..=249 => small_scene(rng),
         250..=304 => small_copies(rng),
         305..=322 => damaged(rng, small_scene),
@@ -67,14 +73,14 @@ fn random_bytes(rng: &mut Rng) -> Vec<u8> {
     let mut bytes = rng.bytes(length);
     for word in bytes.chunks_mut(WORD_BYTES) {
         let ignored = word[0] & 0xC0;
-        word[0] = ignored | mostly_assigned(rng, word[0] % 64);
+        word[0] = ignored | mostly_assigned(rng, word[0] % 64, 16);
     }
     bytes
 }
 
-/// A command number, seldom an unassigned one.
-fn mostly_assigned(rng: &mut Rng, number: u8) -> u8 {
-    if is_unassigned(number) && !rng.one_in(16) {
+/// A command number, which stays unassigned once in `times`, on average.
+fn mostly_assigned(rng: &mut Rng, number: u8, times: u64) -> u8 {
+    if is_unassigned(number) && !rng.one_in(times) {
         rng.between(0x24, 0x30) as u8
     } else {
         number
@@ -87,7 +93,7 @@ fn random_commands(rng: &mut Rng) -> Vec<u8> {
     let mut builder = Builder::new(rng, 50);
     for _ in 0..count {
         let any = builder.rng.below(64) as u8;
-        let number = mostly_assigned(builder.rng, any);
+        let number = mostly_assigned(builder.rng, any, 16);
         builder.random(number);
     }
     builder.list()
