@@ -22,6 +22,7 @@ pub enum Ground {
     TextureMemoryLength = 16,
     NotCopied = 17,
     OutsideTexture = 18,
+    UnassignedNumber = 19,
 }
 
 /// A refusal: its ground and its place.

@@ -1,7 +1,7 @@
-//! The check of a whole list: grounds 1 to 9, and what caused the last three.
+//! The check of a whole list: grounds 1 to 9 and 19, and what caused 7 to 9.
 
 use crate::answer::{Ground, Refusal};
-use crate::kinds::{commands, is_draw, words, Command, Sync};
+use crate::kinds::{commands, is_draw, is_unassigned, words, Command, Sync};
 use crate::marks::Marks;
 use crate::registers::Registers;
 use crate::words::{command_number, word_at, WORD_BYTES};
@@ -112,12 +112,15 @@ pub struct State {
 }
 
 impl State {
-    /// "At one command 3, 4, 5, 6, then 7 to 9."
+    /// "At one command 3, 4, 5, 6, then 7 to 9." Request #107: "19 .. after 4 and before
+    /// 5".
     pub fn ground(&self, number: u8, words_left: usize, syncs: Syncs) -> Option<Ground> {
         if words(number) > words_left {
             Some(Ground::CutCommand)
         } else if self.after_sync_full {
             Some(Ground::AfterSyncFull)
+        } else if is_unassigned(number) {
+            Some(Ground::UnassignedNumber)
         } else if is_draw(number) && !self.registers.ready_to_draw() {
             Some(Ground::RegisterNotSet)
         } else if is_draw(number) && self.fills_four_bits() {

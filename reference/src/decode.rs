@@ -2,13 +2,14 @@
 
 use crate::answer::{Ground, Refusal};
 use crate::fields::fields_of;
-use crate::kinds::{base_words, words};
+use crate::kinds::{base_words, kind, words, Kind};
 use crate::words::{command_number, word_at, WORD_BYTES};
 
-/// A command's number, and its fields in the order of 000's bit lines. A no
-/// operation and a sync have no fields.
+/// A command's kind, which is its name, its number, and its fields in the order of
+/// 000's bit lines. A no operation, an unassigned number and a sync have no fields.
 #[derive(Clone, Debug, PartialEq, Eq)]
 pub struct Decoded {
+    pub name: Kind,
     pub number: u8,
     pub fields: Vec<u64>,
 }
@@ -24,7 +25,11 @@ pub fn decode(list: &[u8]) -> Result<Decoded, Refusal> {
         .iter()
         .map(|field| field.read(&base))
         .collect();
-    Ok(Decoded { number, fields })
+    Ok(Decoded {
+        name: kind(number),
+        number,
+        fields,
+    })
 }
 
 /// "The words after a triangle's base are handed back as the caller's own

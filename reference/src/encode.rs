@@ -7,16 +7,34 @@ use crate::kinds::{
 };
 use crate::words::{write_word, WORD_BYTES};
 
-/// Writes the command with this number, these fields (in the order of 000's bit
-/// lines) and this suffix; answers the words written. "Encoding: 15, then 14;
-/// else it answers 0 and the words written." Unused bits are zero.
+const NOT_ENCODABLE: Refusal = Refusal {
+    ground: Ground::NotEncodable,
+    place: 0,
+};
+
+/// Writes the command with this number under its own name, as the number alone says
+/// which command it is.
 pub fn encode(
     number: u32,
     fields: &[u64],
     suffix: &[u8],
     out: &mut [u8],
 ) -> Result<usize, Refusal> {
-    let number = encodable(number, fields, suffix).ok_or(Refusal::new(Ground::NotEncodable, 0))?;
+    let name = six_bits(number).map(kind).ok_or(NOT_ENCODABLE)?;
+    encode_as(name, number, fields, suffix, out)
+}
+
+/// Writes the command with this name, this number, these fields (in the order of 000's
+/// bit lines) and this suffix; answers the words written. "Encoding: 15, then 14;
+/// else it answers 0 and the words written." Unused bits are zero.
+pub fn encode_as(
+    name: Kind,
+    number: u32,
+    fields: &[u64],
+    suffix: &[u8],
+    out: &mut [u8],
+) -> Result<usize, Refusal> {
+    let number = encodable(name, number, fields, suffix).ok_or(NOT_ENCODABLE)?;
     let needed = words(number);
     if out.len() < needed * WORD_BYTES {
         return Err(Refusal::new(Ground::OutputTooShort, needed));
@@ -29,11 +47,14 @@ pub fn encode(
     Ok(needed)
 }
 
-/// The command number, if none of ground 15's reasons holds. A no operation's
-/// number is in its row whenever it is below 64, as the number alone says which
-/// command it is.
-fn encodable(number: u32, fields: &[u64], suffix: &[u8]) -> Option<u8> {
-    let number = u8::try_from(number).ok().filter(|number| *number < 64)?;
+fn six_bits(number: u32) -> Option<u8> {
+    u8::try_from(number).ok().filter(|number| *number < 64)
+}
+
+/// The command number, if none of ground 15's reasons holds. Request #107: "ground 15
+/// judges each name by its own numbers".
+fn encodable(name: Kind, number: u32, fields: &[u64], suffix: &[u8]) -> Option<u8> {
+    let number = six_bits(number).filter(|number| kind(*number) == name)?;
     let lines = fields_of(number);
     let due = suffix_words(number) * WORD_BYTES;
     let all_fit = || {

@@ -1,4 +1,5 @@
-//! 01, "Words and lengths": the kind and the words of each command number.
+//! 01, "Words and lengths": the kind and the words of each command number. Request
+//! #107: "Only 0x00 counts as no operation; the other 28 numbers are named unassigned."
 
 use crate::words::{command_number, word_at, WORD_BYTES};
 
@@ -26,6 +27,7 @@ impl Sync {
 #[derive(Clone, Copy, Debug, PartialEq, Eq)]
 pub enum Kind {
     NoOperation,
+    Unassigned,
     Triangle,
     TextureRectangle,
     FillRectangle,
@@ -39,7 +41,8 @@ pub enum Kind {
 /// The kind of each of the 64 command numbers.
 pub fn kind(number: u8) -> Kind {
     match number {
-        0x00..=0x07 | 0x10..=0x23 | 0x31 => Kind::NoOperation,
+        0x00 => Kind::NoOperation,
+        0x01..=0x07 | 0x10..=0x23 | 0x31 => Kind::Unassigned,
         0x08..=0x0F => Kind::Triangle,
         0x24 | 0x25 => Kind::TextureRectangle,
         0x36 => Kind::FillRectangle,
@@ -63,6 +66,11 @@ pub fn wait(number: u8) -> u32 {
         Kind::Sync(sync) => sync.cycles(),
         _ => 0,
     }
+}
+
+/// Whether the number names no command.
+pub fn is_unassigned(number: u8) -> bool {
+    kind(number) == Kind::Unassigned
 }
 
 /// Whether the command draws.

@@ -44,7 +44,7 @@ impl Marks {
             Kind::Triangle | Kind::TextureRectangle | Kind::FillRectangle => {
                 (self.loading, Sync::Load)
             }
-            Kind::NoOperation | Kind::Sync(_) | Kind::Free => return None,
+            Kind::NoOperation | Kind::Unassigned | Kind::Sync(_) | Kind::Free => return None,
         };
         need.then_some(sync)
     }

@@ -21,9 +21,6 @@ pub const REASONS: usize = 8;
 /// "28 also for a record whose total is above 204,800."
 pub const MOST_TOTAL: u32 = 204_800;
 
-/// The last of the grounds that these calls remember, which start with 1.
-const LAST_REMEMBERED: u32 = Ground::SyncPipeMissing as u32;
-
 /// What the caller's record holds.
 #[derive(Clone, Debug, PartialEq, Eq)]
 pub struct Stream {
@@ -176,8 +173,14 @@ impl Stream {
             self.taken > CHECK_LIMIT,
             before.is_none(),
             before.is_some_and(|before| !before.is_multiple_of(WORD_BYTES)),
-            self.remembered.number > LAST_REMEMBERED,
+            !is_remembered(self.remembered.number),
             self.total > MOST_TOTAL,
         ]
     }
+}
+
+/// 0 for no refusal, or one of the grounds that these calls remember: 1 to 9 and, by
+/// request #107, 19.
+fn is_remembered(number: u32) -> bool {
+    number <= Ground::SyncPipeMissing as u32 || number == Ground::UnassignedNumber as u32
 }

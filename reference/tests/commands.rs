@@ -7,7 +7,7 @@ use common::*;
 use reference::answer::Ground;
 use reference::comparison::rng::Rng;
 use reference::decode::{decode, suffix};
-use reference::encode::encode;
+use reference::encode::{encode, encode_as};
 use reference::fields::fields_of;
 use reference::kinds::{base_words, kind, suffix_words, words, Kind};
 use reference::packed;
@@ -46,7 +46,8 @@ fn words_of_each_number() {
 #[test]
 fn kinds_have_the_size_of_their_rows() {
     let count = |wanted: fn(Kind) -> bool| (0..64).filter(|number| wanted(kind(*number))).count();
-    assert_eq!(count(|kind| kind == Kind::NoOperation), 8 + 20 + 1);
+    assert_eq!(count(|kind| kind == Kind::NoOperation), 1);
+    assert_eq!(count(|kind| kind == Kind::Unassigned), 28);
     assert_eq!(count(|kind| kind == Kind::Triangle), 8);
     assert_eq!(count(|kind| kind == Kind::TextureRectangle), 2);
     assert_eq!(count(|kind| kind == Kind::FillRectangle), 1);
@@ -163,6 +164,29 @@ fn encoding_refuses_15_before_14() {
     assert_eq!(encode(0x36, &fill, &[0; 8], &mut []), not_encodable);
     assert_eq!(encode(64, &[], &[], &mut []), not_encodable);
     assert_eq!(encode(256 + 0x36, &fill, &[], &mut []), not_encodable);
+}
+
+/// Request #107: "encoded under that name only".
+#[test]
+fn each_name_has_its_own_numbers() {
+    for number in 0..64 {
+        let decoded = decode(&bytes_of(&whole(number))).expect("whole");
+        assert_eq!(decoded.name, kind(number));
+        let names = [Kind::NoOperation, Kind::Unassigned];
+        for name in names.into_iter().filter(|name| *name != kind(number)) {
+            let outcome = encode_as(name, number.into(), &[], &[], &mut [0; 8]);
+            assert_eq!(outcome, refused(Ground::NotEncodable, 0));
+        }
+        if names.contains(&kind(number)) {
+            let mut out = [0xAA; 9];
+            let outcome = encode_as(kind(number), number.into(), &[], &[], &mut out);
+            assert_eq!(outcome, Ok(1));
+            assert_eq!(out, [number, 0, 0, 0, 0, 0, 0, 0, 0xAA]);
+        }
+    }
+    let number = |name| (0..64).filter(move |number| kind(*number) == name);
+    assert!(number(Kind::NoOperation).eq([0]));
+    assert!(number(Kind::Unassigned).eq((1..8).chain(0x10..0x24).chain([0x31])));
 }
 
 #[test]

@@ -1,14 +1,20 @@
 //! The comparison itself: the reference agrees with itself and reaches every
 //! ground, and a second side with one fault is found out.
 
+use std::collections::BTreeSet;
+
+use reference::answer::Ground;
+use reference::check::check;
 use reference::comparison::calls::Function;
+use reference::comparison::lists::list;
+use reference::comparison::rng::Rng;
 use reference::comparison::run::{run, Difference};
 use reference::comparison::side::{Reference, Side};
-use reference::kinds::{commands, is_draw, is_textured_draw};
+use reference::kinds::{commands, is_draw, is_textured_draw, is_unassigned};
 use reference::record::{pack, unpack, Record, NUMBERS};
 use reference::stream::{MOST_TOTAL, ROOM};
 use reference::texture::TEXTURE_BYTES;
-use reference::words::command_number;
+use reference::words::{command_number, word_at};
 
 const SEED: u64 = 7;
 const CASES: u64 = 4_000;
@@ -20,6 +26,21 @@ fn the_reference_agrees_with_itself() {
     });
     assert_eq!(counts.missing(), []);
     assert!(counts.searched > 500, "{}", counts.searched);
+}
+
+/// Each unassigned number is refused by 19 in some case.
+#[test]
+fn every_unassigned_number_is_reached() {
+    let refused = |case| {
+        let list = list(&mut Rng::of_case(SEED, case), case);
+        let refusal = check(&list).outcome.err()?;
+        let number = || command_number(word_at(&list, refusal.place));
+        (refusal.ground == Ground::UnassignedNumber).then(number)
+    };
+    let numbers: BTreeSet<u8> = (0..2 * CASES).filter_map(refused).collect();
+    assert!(numbers
+        .into_iter()
+        .eq((0..64).filter(|n| is_unassigned(*n))));
 }
 
 /// One fault of a second side that is right otherwise.
@@ -35,6 +56,8 @@ enum Fault {
     LoadNoCause,
     /// Over the limit the cause is the words that a list may have.
     WordsOverLimit,
+    /// An unassigned number is a no operation where nothing else is refused.
+    UnassignedPasses,
     /// One painted byte is wrong.
     MemoryByte,
     /// A refused draw has written one byte.
@@ -101,6 +124,8 @@ enum Fault {
     TotalUnseen,
     /// The spare bytes are cleared.
     SpareCleared,
+    /// A remembered 19 is taken for damage.
+    UnassignedDamages,
 }
 
 /// The reference with one fault.
@@ -147,6 +172,7 @@ impl Side for Faulty {
         let answer = Reference.check(list);
         let cause = match (self.0, ground(answer)) {
             (Fault::PlaceAtGround9, 9) => return answer + 1,
+            (Fault::UnassignedPasses, 19) => return Reference.check(&vec![0; list.len()]),
             (Fault::FirstDraw, 9) => draws(list, answer).next(),
             (Fault::AnyDraw, 8) => draws(list, answer).last(),
             (Fault::LoadNoCause, 8) => textured_draws(list, answer).last(),
@@ -275,6 +301,7 @@ fn faulty_feed(fault: Fault, record: &mut Record, portion: &[u8]) -> u64 {
         Fault::TotalAtDamage if ground(answer) == 28 => {
             return answer | u64::from(stream.total & 0xFF_FFFF) << 32
         }
+        Fault::UnassignedDamages if before.remembered.number == 19 => return 28 << 56,
         Fault::SpareCleared => record[NUMBERS - 1] &= 0xFFFF_FFFF_0000_FFFF,
         _ => return answer,
     }
@@ -325,6 +352,7 @@ fn every_fault_is_found_in_its_function() {
         (Fault::AnyDraw, Function::Check),
         (Fault::LoadNoCause, Function::Check),
         (Fault::WordsOverLimit, Function::Check),
+        (Fault::UnassignedPasses, Function::Check),
         (Fault::MemoryByte, Function::Draw),
         (Fault::MemoryAtRefusal, Function::Draw),
         (Fault::TextureByte, Function::Draw),
@@ -341,11 +369,6 @@ fn every_fault_is_found_in_its_function() {
         (Fault::TextureWords, Function::Words),
         (Fault::IgnoredBits, Function::Words),
         (Fault::FlippedWord, Function::Words),
-        (Fault::LoadForgotten, Function::Step),
-        (Fault::LoadReadsNoTile, Function::Check),
-        (Fault::NotMissing, Function::Step),
-        (Fault::StepStops, Function::Step),
-        (Fault::BitsAbove, Function::Step),
         (Fault::OneByteEarly, Function::Stream),
         (Fault::RefusalForgotten, Function::Stream),
         (Fault::HeldKept, Function::Stream),
@@ -358,9 +381,27 @@ fn every_fault_is_found_in_its_function() {
         (Fault::TotalAtDamage, Function::Stream),
         (Fault::TotalUnseen, Function::Stream),
         (Fault::SpareCleared, Function::Stream),
+        (Fault::UnassignedDamages, Function::Stream),
     ];
     for (fault, function) in faults {
         assert_eq!(found(fault).call.function, function, "{fault:?}");
+    }
+}
+
+/// By a step alone, or by the steps along a list that was checked.
+#[test]
+fn every_fault_of_a_step_is_found() {
+    let faults = [
+        Fault::LoadForgotten,
+        Fault::LoadReadsNoTile,
+        Fault::NotMissing,
+        Fault::StepStops,
+        Fault::BitsAbove,
+    ];
+    for fault in faults {
+        let function = found(fault).call.function;
+        let by_steps = matches!(function, Function::Step | Function::Check);
+        assert!(by_steps, "{fault:?}");
     }
 }
 

@@ -5,6 +5,7 @@ mod common;
 
 use common::*;
 use reference::answer::Ground;
+use reference::draw::draw;
 use reference::packed::{self, Answer};
 use reference::repair::{repair, Repaired};
 use reference::words::bytes_of;
@@ -119,6 +120,18 @@ fn other_draws_are_not_drawn() {
     assert_eq!(drawn(&after_setup(&texture_rectangle), 0).0, (10, 3));
     let one_cycle = [command(0x2F), IMAGE, SCISSOR, R];
     assert_eq!(drawn(&one_cycle, 64).0, (10, 3));
+}
+
+/// Request #107: 19 comes with the check, before 13, 14 and 16.
+#[test]
+fn repair_and_drawing_refuse_unassigned_numbers() {
+    let words = after_setup(&[C, R, command(0x20)]);
+    let list = bytes_of(&words);
+    let outcome = repair(&list, &mut [], &mut []);
+    assert_eq!(outcome, refused(Ground::UnassignedNumber, 5));
+    assert_eq!(drawn(&words, 64), ((19, 5), vec![0; 64]));
+    let outcome = draw(&list, &mut [], 0, &mut []);
+    assert_eq!(outcome, refused(Ground::UnassignedNumber, 5));
 }
 
 #[test]

@@ -94,6 +94,38 @@ fn order_of_the_grounds_at_one_command() {
     assert_eq!(checked(&[command(0x2F), four_bits, SCISSOR, R]), (0, 4));
 }
 
+/// Request #107: "19, unassigned number, at its place, after 4 and before 5".
+#[test]
+fn unassigned_numbers() {
+    let unassigned = (0x01..0x08).chain(0x10..0x24).chain([0x31]);
+    let numbers: Vec<u8> = unassigned.collect();
+    assert_eq!(numbers.len(), 28);
+    for number in 0..64 {
+        let list = [N, command(number) | 3 << 62, N];
+        let refused = checked(&list) == (19, 1);
+        assert_eq!(refused, numbers.contains(&number), "{number:#04x}");
+    }
+    assert_eq!(checked(&[SYNC_FULL, command(0x31)]), (4, 1));
+    assert_eq!(checked(&[command(0x31), R]), (19, 0));
+    assert_eq!(checked(&after_setup(&[R, command(0x10), C])), (19, 4));
+    assert_eq!(checked(&after_setup(&[R, C, command(0x10)])), (9, 4));
+    assert_eq!(caused(&[N, command(0x05), N]), (19, 1, 3));
+}
+
+#[test]
+fn the_state_at_an_unassigned_number() {
+    let checked = check(&bytes_of(&after_setup(&[R, command(0x23), L])));
+    assert_eq!(checked.outcome, refused(Ground::UnassignedNumber, 4));
+    assert!(checked.marks.drawing && !checked.marks.loading);
+    assert_eq!(checked.registers.tiles[0].size, None);
+    for marks in every_marks() {
+        for number in [0x01, 0x07, 0x10, 0x23, 0x31] {
+            assert_eq!(marks.after(number), marks);
+            assert_eq!(marks.missing_sync(number), None);
+        }
+    }
+}
+
 #[test]
 fn ignored_bits_of_the_number() {
     let list: Vec<u64> = after_setup(&[R, SYNC_PIPE, C])

@@ -49,6 +49,8 @@ fn examples_end_as_the_check_does() {
         after_setup(&[C, R]),
         after_setup(&[R, L, C]),
         after_setup(&[R, N, C]),
+        after_setup(&[R, command(0x31), C]),
+        vec![SYNC_FULL, command(0x31)],
     ];
     for words in lists {
         let list = bytes_of(&words);
@@ -119,7 +121,7 @@ fn triangle_after(bytes: usize) -> Stream {
 
 #[test]
 fn each_reason_of_28_is_refused_first_and_leaves_the_record() {
-    let reasons: [fn(&mut Stream); 9] = [
+    let reasons: [fn(&mut Stream); 12] = [
         |stream| stream.held = 176,
         |stream| stream.room[175] = 1,
         |stream| stream.room[0] = 0x0E,
@@ -128,10 +130,13 @@ fn each_reason_of_28_is_refused_first_and_leaves_the_record() {
         |stream| stream.taken += 1,
         |stream| stream.held -= 1,
         |stream| stream.remembered.number = 10,
+        |stream| stream.remembered.number = 18,
+        |stream| stream.remembered.number = 20,
+        |stream| stream.remembered.number = 28,
         |stream| stream.total = 204_801,
     ];
     for (index, damage) in reasons.iter().enumerate() {
-        for number in [0, 9] {
+        for number in [0, 1, 9, 19] {
             let mut stream = triangle();
             stream.remembered = told(number, 3);
             assert!(!stream.is_damaged());

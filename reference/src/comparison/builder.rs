@@ -8,6 +8,9 @@ use crate::marks::Marks;
 use crate::registers::Registers;
 use crate::words::{bytes_of, mask, word_at};
 
+/// Some of the unassigned numbers, those at the ends of their rows among them.
+const UNASSIGNED: &[u8] = &[0x01, 0x05, 0x07, 0x10, 0x1F, 0x20, 0x23, 0x31];
+
 /// A list under way.
 pub struct Builder<'a> {
     pub rng: &'a mut Rng,
@@ -19,12 +22,15 @@ pub struct Builder<'a> {
     pub sync_percent: u64,
     /// Whether the unused bits are random instead of zero.
     stray_bits: bool,
+    /// Whether there may be unassigned numbers.
+    stray_numbers: bool,
 }
 
 impl Builder<'_> {
     /// An empty list. A missing sync is put in that often, in percent.
     pub fn new(rng: &mut Rng, sync_percent: u64) -> Builder<'_> {
         let stray_bits = rng.one_in(2);
+        let stray_numbers = rng.one_in(8);
         Builder {
             rng,
             words: Vec::new(),
@@ -32,6 +38,7 @@ impl Builder<'_> {
             registers: Registers::default(),
             sync_percent,
             stray_bits,
+            stray_numbers,
         }
     }
 
@@ -60,6 +67,14 @@ impl Builder<'_> {
     pub fn one_of(&mut self, numbers: &[u8]) {
         let number = self.rng.pick(numbers);
         self.random(number);
+    }
+
+    /// Appends a command with random bits, in a few lists now and then with an
+    /// unassigned number in place of a no operation.
+    pub fn usual(&mut self, number: u8) {
+        let strays = number == 0x00 && self.stray_numbers && self.rng.one_in(4);
+        let stray = self.rng.pick(UNASSIGNED);
+        self.random(if strays { stray } else { number });
     }
 
     /// Random fields for a command with unsigned fields.

@@ -4,6 +4,8 @@ use crate::comparison::builder::Builder;
 use crate::comparison::rng::Rng;
 use crate::comparison::scenes::{scene_list, Scene, CYCLE_TYPE};
 use crate::comparison::textures::copy_list;
+use crate::kinds::is_unassigned;
+use crate::words::WORD_BYTES;
 
 const SET_TILE: u8 = 0x35;
 
@@ -19,8 +21,14 @@ pub fn list(rng: &mut Rng, case: u64) -> Vec<u8> {
         20..=27 => medium_copies(rng),
         28..=49 => random_bytes(rng),
         50..=71 => random_commands(rng),
-        at @ 72..=135 => one_command(rng, (at - 72) as u8),
-        at @ 136..=199 => command_after_marks(rng, (at - 136) as u8),
+        at @ 72..=135 => {
+            let number = mostly_assigned(rng, (at - 72) as u8, 4);
+            one_command(rng, number)
+        }
+        at @ 136..=199 => {
+            let number = mostly_assigned(rng, (at - 136) as u8, 4);
+            command_after_marks(rng, number)
+        }
         200..=249 => small_scene(rng),
         250..=304 => small_copies(rng),
         305..=322 => damaged(rng, small_scene),
@@ -62,7 +70,21 @@ fn random_bytes(rng: &mut Rng) -> Vec<u8> {
     let length = rng.below(200) as usize;
     let whole = length / 8 * 8;
     let length = rng.pick(&[length, whole]);
-    rng.bytes(length)
+    let mut bytes = rng.bytes(length);
+    for word in bytes.chunks_mut(WORD_BYTES) {
+        let ignored = word[0] & 0xC0;
+        word[0] = ignored | mostly_assigned(rng, word[0] % 64, 16);
+    }
+    bytes
+}
+
+/// A command number, which stays unassigned once in `times`, on average.
+fn mostly_assigned(rng: &mut Rng, number: u8, times: u64) -> u8 {
+    if is_unassigned(number) && !rng.one_in(times) {
+        rng.between(0x24, 0x30) as u8
+    } else {
+        number
+    }
 }
 
 /// Whole words with any command number and random bits.
@@ -70,7 +92,8 @@ fn random_commands(rng: &mut Rng) -> Vec<u8> {
     let count = rng.between(1, 12);
     let mut builder = Builder::new(rng, 50);
     for _ in 0..count {
-        let number = builder.rng.below(64) as u8;
+        let any = builder.rng.below(64) as u8;
+        let number = mostly_assigned(builder.rng, any, 16);
         builder.random(number);
     }
     builder.list()
@@ -139,7 +162,7 @@ fn settled_number(rng: &mut Rng) -> u8 {
         13..=16 => rng.pick(&[0x2A, 0x2B, 0x2C, 0x37, 0x38, 0x39, 0x3B, 0x3C, 0x3E]),
         17..=18 => rng.pick(&[0x2D, 0x2E, 0x32, 0x3A, 0x3D]),
         19..=20 => rng.pick(&[0x26, 0x27, 0x28]),
-        _ => rng.pick(&[0x00, 0x05, 0x10, 0x1F, 0x23, 0x31]),
+        _ => 0x00,
     }
 }
 
@@ -153,7 +176,7 @@ fn mixed_list(rng: &mut Rng, steps: u64) -> Vec<u8> {
     }
     for _ in 0..steps {
         let number = mixed_number(builder.rng);
-        builder.random(number);
+        builder.usual(number);
     }
     if builder.rng.one_in(4) {
         builder.random(0x29);
@@ -230,7 +253,7 @@ fn long_list(rng: &mut Rng) -> Vec<u8> {
             scene.fill_step(&mut builder);
         } else {
             let number = settled_number(builder.rng);
-            builder.random(number);
+            builder.usual(number);
         }
     }
     pad(builder, length)

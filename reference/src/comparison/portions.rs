@@ -178,7 +178,7 @@ impl Damage {
             let any = rng.number() as u32;
             number_at(at, rng.pick(&[value, value, value, any]))
         };
-        Damage(match rng.below(10) {
+        Damage(match rng.below(11) {
             0 => number(rng, HELD_COUNT, 180),
             1 => number(rng, TAKEN, 33_000),
             2 => number(rng, NUMBER, 31),
@@ -189,8 +189,9 @@ impl Damage {
             4 => whole_command(rng),
             5 => [number(rng, HELD_COUNT, 24), number(rng, TAKEN, 48)].concat(),
             6 => [number(rng, NUMBER, 10), number(rng, PLACE, 5_000)].concat(),
-            7 => number_at(TOTAL, random_total(rng)),
-            8 => [SPARE, SPARE + 1].map(|at| (at, rng.number() as u8)).into(),
+            7 => [number_at(NUMBER, 19), number(rng, PLACE, 5_000)].concat(),
+            8 => number_at(TOTAL, random_total(rng)),
+            9 => [SPARE, SPARE + 1].map(|at| (at, rng.number() as u8)).into(),
             _ => (0..rng.between(1, 6))
                 .map(|_| {
                     (

@@ -85,6 +85,7 @@ impl Scene {
             24..=25 => self.scissor(builder),
             26..=28 => self.textures.load(builder),
             29..=30 => builder.one_of(&[0x26, 0x27, 0x28]),
+            31 => builder.usual(0x00),
             _ => builder.one_of(HARMLESS),
         }
     }
@@ -152,11 +153,10 @@ impl Scene {
     }
 }
 
-/// Commands that draw nothing and set nothing that drawing reads: no
-/// operations, Set Tile, Set Tile Size and other attributes.
+/// Commands that draw nothing and set nothing that a fill reads: Set Tile, Set Tile
+/// Size and other attributes.
 const HARMLESS: &[u8] = &[
-    0x00, 0x07, 0x10, 0x23, 0x31, 0x35, 0x35, 0x32, 0x2A, 0x2B, 0x2C, 0x2E, 0x38, 0x39, 0x3A, 0x3B,
-    0x3C, 0x3D, 0x3E,
+    0x35, 0x35, 0x32, 0x2A, 0x2B, 0x2C, 0x2E, 0x38, 0x39, 0x3A, 0x3B, 0x3C, 0x3D, 0x3E,
 ];
 
 /// Now and then a draw or a load that is not drawn.

@@ -5,10 +5,12 @@ use crate::comparison::rng::Rng;
 use crate::comparison::scenes::{Scene, CYCLE_TYPE};
 use crate::registers::{is_16_bit_rgba, TileDescriptor};
 
-/// The places of the needs among the fields of Set Other Modes.
-const PERSPECTIVE: usize = 2;
-const LOOK_UP: usize = 6;
-const ALPHA_COMPARE: usize = 36;
+/// What copying needs off, by the places among the fields of Set Other Modes:
+/// perspective, look-up and alpha compare.
+const MODE_NEEDS: &[usize] = &[2, 6, 36];
+
+/// And among those of Set Tile: mirror, mask and shift of both axes.
+const TILE_NEEDS: &[usize] = &[7, 8, 9, 11, 12, 13];
 
 /// Format and size of 16-bit RGBA.
 const RGBA: u64 = 0;
@@ -57,11 +59,7 @@ impl Textures {
         fields[2] = rng.below(6);
         fields[3] = any_tmem(rng);
         fields[4] = rng.pick(TILES);
-        let needs_off = [7, 8, 9, 11, 12, 13];
-        let left_on = rng.one_in(25).then(|| rng.pick(&needs_off));
-        for at in needs_off.into_iter().filter(|at| Some(*at) != left_on) {
-            fields[at] = 0;
-        }
+        switch_off(rng, &mut fields, TILE_NEEDS);
         builder.command(0x35, &fields);
     }
 
@@ -185,16 +183,20 @@ fn is_copyable(tile: &TileDescriptor) -> bool {
 fn copy_modes(builder: &mut Builder) {
     let mut fields = builder.random_fields(0x2F);
     fields[CYCLE_TYPE] = 2;
-    let needs_off = [PERSPECTIVE, LOOK_UP, ALPHA_COMPARE];
-    let left_on = builder.rng.one_in(25).then(|| builder.rng.pick(&needs_off));
-    for at in needs_off.into_iter().filter(|at| Some(*at) != left_on) {
-        fields[at] = 0;
-    }
+    switch_off(builder.rng, &mut fields, MODE_NEEDS);
     builder.command(0x2F, &fields);
 }
 
+/// Switches these fields off, seldom all but one of them.
+fn switch_off(rng: &mut Rng, fields: &mut [u64], needs: &[usize]) {
+    let left_on = rng.one_in(25).then(|| rng.pick(needs));
+    for at in needs.iter().filter(|at| Some(**at) != left_on) {
+        fields[*at] = 0;
+    }
+}
+
 /// Commands that copying does not see.
-const UNSEEN: &[u8] = &[0x00, 0x26, 0x27, 0x28, 0x2A, 0x2E, 0x38, 0x3A, 0x3C, 0x3E];
+const UNSEEN: &[u8] = &[0x26, 0x27, 0x28, 0x2A, 0x2E, 0x38, 0x3A, 0x3C, 0x3E];
 
 /// One command, or one with what it needs.
 fn step(scene: &Scene, builder: &mut Builder) {
@@ -210,6 +212,7 @@ fn step(scene: &Scene, builder: &mut Builder) {
         35..=37 => fill(scene, builder),
         38 => builder.one_of(&[0x25, 0x0B, 0x36, 0x30, 0x33, 0x24]),
         39 => copy_modes(builder),
+        40 => builder.usual(0x00),
         _ => builder.one_of(UNSEEN),
     }
 }
