@@ -116,6 +116,7 @@ no-act r (SetCombineMode g) e h = refl
 no-act r (SetTextureImage g) e h = refl
 no-act r (SetDepthImage g) e h = refl
 no-act r (SetColorImage g) e h = refl
+no-act r (Unassigned g) e h = refl
 
 -- a number that is none of the acts' own is another draw's
 other-by :
@@ -123,7 +124,6 @@ other-by :
     actBy file n w v ≡ otherDraw (colorImageIn (word file 14))
 unfolding actBy
 other-by file n w v a b c d e = rw (ne-eqb _ _ a, ne-eqb _ _ b, ne-eqb _ _ c, ne-eqb _ _ d, ne-eqb _ _ e)
-no-act r (Unassigned g) e h = refl
 
 module _ (file c : List ℕ) (there : wholeWords c ≡ 0 → ⊥) where
   abbrev n : ℕ

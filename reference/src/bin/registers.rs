@@ -11,7 +11,7 @@
 //!
 //! The lists. List n starts from the state n xor SEED, from which four steps of the
 //! generator are taken. Each step more gives a word, whose command number is
-//! changed by n mod 8: 0, 1, 2 and 7 have no draw and no Sync Full (`quiet`); 3, 4
+//! changed by n mod 8: 0, 1, 2 and 7 have no draw, no Sync Full and no unassigned number (`quiet`); 3, 4
 //! and 5 start with what ground 5 asks for and have more syncs, loads and Set Tile
 //! than by chance (`drawing`); 6 is left as it came. With w = n mod 49 list n has w
 //! words; for 7, w words and 1 + w mod 7 bytes, which are zero.
@@ -78,9 +78,11 @@ fn number_of(n: u64, place: usize, number: u64) -> u64 {
 
 fn quiet(number: u64) -> u64 {
     match number | 0x20 {
+        0x20..=0x23 => 0x28,
         0x24 => 0x30,
         0x25 => 0x33,
         0x29 => 0x35,
+        0x31 => 0x00,
         0x36 => 0x32,
         number => number,
     }
@@ -94,8 +96,9 @@ fn drawing(place: usize, number: u64) -> u64 {
         (_, 0x00..=0x07) => 0x35,
         (_, 0x10..=0x17) => 0x27,
         (_, 0x18 | 0x19) => 0x26,
-        (_, 0x1A | 0x1B) => 0x28,
+        (_, 0x1A | 0x1B | 0x20..=0x23) => 0x28,
         (_, 0x1C..=0x1F) => 0x34,
+        (_, 0x31) => 0x00,
         _ => number,
     }
 }
