@@ -61,6 +61,12 @@ static bool is_attribute(unsigned number)
     }
 }
 
+/* Request #107. */
+static bool is_unassigned(unsigned number)
+{
+    return (0x01 <= number && number <= 0x07) || (0x10 <= number && number <= 0x23) || number == 0x31;
+}
+
 static unsigned words_of(unsigned number)
 {
     if (is_triangle(number))
@@ -100,13 +106,14 @@ static unsigned hazards_after(unsigned number, unsigned hazards)
 
 static uint8_t steps[64][16];
 static uint8_t lengths[64];
-static bool draws[64];
+static bool draws[64], unassigned[64];
 
 __attribute__((constructor)) static void fill_tables(void)
 {
     for (unsigned number = 0; number < 64; number++) {
         lengths[number] = words_of(number);
         draws[number] = is_draw(number);
+        unassigned[number] = is_unassigned(number);
         for (unsigned hazards = 0; hazards < 16; hazards++)
             steps[number][hazards] = hazards_after(number, hazards) | need_of(number, hazards) << 4;
     }
@@ -294,6 +301,8 @@ static inline __attribute__((always_inline)) uint64_t judge(const uint8_t *list,
             return answer(3, 0, at);
         if (ended)
             return answer(4, 0, at);
+        if (unassigned[number])
+            return answer(19, 0, at);
         if (draws[number]) {
             unsigned refusal = draw_refusal(&set);
             if (refusal != 0)
@@ -330,7 +339,8 @@ static size_t latest_setter(const uint8_t *list, size_t place)
 /* The check's third number (request #101): the cause at 7 to 9, else the list's whole words, in 24 bits. */
 static size_t cause_of(const uint8_t *list, size_t list_length, uint64_t judged)
 {
-    if (judged >> 56 >= 7)
+    unsigned number = judged >> 56;
+    if (7 <= number && number <= 9)
         return latest_setter(list, (uint32_t)judged);
     size_t words = list_length / 8;
     return words < 0xFFFFFF ? words : 0xFFFFFF;
@@ -928,6 +938,8 @@ static unsigned stream_refusal(const struct plain_stream *stream, unsigned numbe
 {
     if (stream->ended)
         return 4;
+    if (unassigned[number])
+        return 19;
     if (draws[number]) {
         struct registers set = {stream->words[MODES_SLOT], stream->words[IMAGE_SLOT], stream->words[SCISSOR_SLOT], 0};
         unsigned refusal = draw_refusal(&set);
@@ -1007,9 +1019,15 @@ static void take(struct plain_stream *stream, const uint8_t *portion, size_t len
     stream->taken += length - at;
 }
 
+/* The numbers that a stream remembers. */
+static bool is_remembered(uint32_t number)
+{
+    return number <= 9 || number == 19;
+}
+
 static bool is_damaged(const struct plain_stream *stream)
 {
-    if (stream->held_count >= ROOM || stream->number > 9 || stream->waited > MOST_WAITED)
+    if (stream->held_count >= ROOM || !is_remembered(stream->number) || stream->waited > MOST_WAITED)
         return true;
     for (size_t at = stream->held_count; at < ROOM; at++)
         if (stream->held[at] != 0)

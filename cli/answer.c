@@ -48,6 +48,7 @@ static const char *refusal_text(unsigned number)
     case LANYARDROVE_NOT_A_FILL: return "is not drawn: only Fill Rectangle in FILL mode is";
     case LANYARDROVE_MISALIGNED: return "draws on a colour image whose address is no multiple of 64";
     case LANYARDROVE_OUTSIDE_MEMORY: return "draws a pixel outside memory";
+    case LANYARDROVE_UNASSIGNED: return "number, which no command has: often data or a stray pointer";
     default: return "is refused for a reason that this tool does not know";
     }
 }
@@ -114,6 +115,8 @@ const char *reason_of(unsigned number)
     case LANYARDROVE_SYNC_TILE_MISSING:
         return "A textured draw or a load may still read the tile that this command changes; a Sync Tile (33 cycles), or a Sync Pipe, waits for it.";
     case LANYARDROVE_SYNC_PIPE_MISSING: return "A draw may still use what this command changes; a Sync Pipe (50 cycles) waits for it.";
+    case LANYARDROVE_UNASSIGNED:
+        return "No command has this number. Such a word is often data that was taken for commands, or comes from a stray pointer.";
     default: return "";
     }
 }

@@ -116,7 +116,7 @@ uint64_t word_at(const uint8_t *bytes, size_t place);
 
 /* -- names.c: names and values as N64brew has them ---------------------- */
 
-bool is_named(unsigned number);
+bool does_something(unsigned number);
 const char *command_name(unsigned number);
 const char *name_at(const List *list, size_t place);
 const char *field_name(unsigned number, size_t field);

@@ -136,12 +136,15 @@ void sarif_tell(const Arguments *arguments, const Checked *checked)
     }
 }
 
-/* The refusals of the check, each with its reason. */
+/* The refusals of the check, which are those that have a reason. */
 static json_t *rules_json(void)
 {
     json_t *rules = json_array();
-    for (unsigned number = LANYARDROVE_TOO_LONG; number <= LANYARDROVE_SYNC_PIPE_MISSING; number++)
-        failed = json_array_append_new(rules, json_pack("{s:o, s:{s:s}}", "id", rule_id(number), "fullDescription", "text", reason_of(number))) != 0 || failed;
+    for (unsigned number = LANYARDROVE_TOO_LONG; number <= LANYARDROVE_RECORD_DAMAGED; number++) {
+        const char *reason = reason_of(number);
+        if (reason[0] != '\0')
+            failed = json_array_append_new(rules, json_pack("{s:o, s:{s:s}}", "id", rule_id(number), "fullDescription", "text", reason)) != 0 || failed;
+    }
     return rules;
 }
 

@@ -4,23 +4,23 @@
 #include <stdlib.h>
 #include <string.h>
 
-#define LEAST 4 /* commands with a name; fewer may look well by chance */
+#define LEAST 4 /* commands that do something; fewer may look well by chance */
 
-/* A list looks well where the check finds nothing but missing syncs, and every word that is not zero begins a command with a name or belongs
-   to one: other bytes make many no operations. */
+/* A list looks well where the check finds nothing but missing syncs, and every word that is not zero begins a command that does something or
+   belongs to one: other bytes make many no operations and unassigned numbers. */
 static bool looks_well(const List *list)
 {
     Command command;
-    size_t named = 0;
+    size_t count = 0;
     Answer answer = answer_of(lanyardrove_check(list->bytes, list->length));
     if (is_refused(answer) && !is_missing_sync(answer))
         return false;
     for (size_t place = 0; command_at(list, place, &command); place += command.words) {
-        if (!is_named(command.number) && word_at(list->bytes, place) != 0)
+        if (!does_something(command.number) && word_at(list->bytes, place) != 0)
             return false;
-        named += is_named(command.number);
+        count += does_something(command.number);
     }
-    return named >= LEAST;
+    return count >= LEAST;
 }
 
 void hint_swapped(const char *path, const List *list, const Input *input)

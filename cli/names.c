@@ -120,6 +120,7 @@ typedef struct {
 } Named;
 
 static const Named named[] = {
+    { LANYARDROVE_NO_OPERATION, "No Operation", none },
     { LANYARDROVE_FILL_TRIANGLE, "Fill Triangle", triangle }, { LANYARDROVE_FILL_TRIANGLE_Z, "Fill Triangle (Z)", triangle },
     { LANYARDROVE_FILL_TRIANGLE_T, "Fill Triangle (T)", triangle }, { LANYARDROVE_FILL_TRIANGLE_TZ, "Fill Triangle (TZ)", triangle },
     { LANYARDROVE_FILL_TRIANGLE_S, "Fill Triangle (S)", triangle }, { LANYARDROVE_FILL_TRIANGLE_SZ, "Fill Triangle (SZ)", triangle },
@@ -141,20 +142,21 @@ static const Named named[] = {
     { LANYARDROVE_SET_COLOR_IMAGE, "Set Color Image", image }
 };
 
-static const Named no_operation = { LANYARDROVE_NO_OPERATION, "No Operation", none };
+static const Named unassigned = { 0, "Unassigned", none };
 
-/* The entry of a command; every other number is a no operation. */
+/* The entry of a command; every other number is unassigned (document 02). */
 static const Named *entry_of(unsigned number)
 {
     for (size_t i = 0; i < sizeof named / sizeof named[0]; i++)
         if (named[i].number == number)
             return &named[i];
-    return &no_operation;
+    return &unassigned;
 }
 
-bool is_named(unsigned number)
+/* Neither a no operation nor unassigned. */
+bool does_something(unsigned number)
 {
-    return entry_of(number) != &no_operation;
+    return number != LANYARDROVE_NO_OPERATION && entry_of(number) != &unassigned;
 }
 
 const char *command_name(unsigned number)

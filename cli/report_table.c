@@ -11,7 +11,8 @@
 /* The kinds by which rows can be chosen, as the names of commands have them. */
 static const char *kind_of(unsigned number)
 {
-    static const struct { const char *start, *kind; } kinds[] = { { "Set ", "set" }, { "Sync ", "sync" }, { "Load ", "load" }, { "No ", "none" } };
+    static const struct { const char *start, *kind; } kinds[] = { { "Set ", "set" }, { "Sync ", "sync" }, { "Load ", "load" }, { "No ", "none" },
+                                                                  { "Unassigned", "unassigned" } };
     for (size_t i = 0; i < sizeof kinds / sizeof kinds[0]; i++)
         if (strncmp(command_name(number), kinds[i].start, strlen(kinds[i].start)) == 0)
             return kinds[i].kind;
@@ -132,7 +133,7 @@ static void add_choices(Text *text)
 {
     static const struct { const char *kind, *label; } choices[] = { { "all", "all" }, { "marked", "only what is refused or inserted" }, { "draw", "draws" },
                                                                     { "load", "loads" }, { "set", "settings" }, { "sync", "syncs" },
-                                                                    { "none", "no operations" } };
+                                                                    { "none", "no operations" }, { "unassigned", "unassigned numbers" } };
     text_add(text, "<fieldset class=\"choices\"><legend>Show:</legend>\n");
     for (size_t i = 0; i < sizeof choices / sizeof choices[0]; i++)
         text_add(text, "<label><input type=\"radio\" name=\"show\" id=\"show-%s\"%s> %s</label>\n", choices[i].kind, i == 0 ? " checked" : "",

@@ -32,6 +32,8 @@ static size_t with_word(const uint8_t *list, size_t words, size_t place, uint8_t
     return words + 1;
 }
 
+static bool is_missing_sync(unsigned number) { return number >= 7 && number <= 9; }
+
 // Whether a command sets the mark that the refused one needs cleared, and whether a sync clears it.
 static bool sets_mark(unsigned number, unsigned refused) {
     return refused == 0x35 ? reads_tile(number) : is_draw(refused) ? is_load(number) : is_draw(number);
@@ -77,10 +79,10 @@ static void refused_command(const uint8_t *list, size_t words, unsigned number, 
     DEMAND(accepts(list, place));  // nothing is refused before it
     if (number == 3) return;
     const size_t end = place + here;
-    DEMAND(answers(list, end, number, place, number >= 7 ? cause : end));  // nor does what follows count
+    DEMAND(answers(list, end, number, place, is_missing_sync(number) ? cause : end));  // nor does what follows count
     if (number == 4) DEMAND(place > 0 && command_number(list + 8 * place - 8) == 0x29);
     if (number == 5 || number == 6) DEMAND(is_draw(command));
-    if (number < 7) return;
+    if (!is_missing_sync(number)) return;
     const bool needs_load = is_load(command) || is_draw(command);
     DEMAND(number == (needs_load ? 7u : command == 0x35 ? 8u : 9u));
     if (number == 9) DEMAND(is_attribute(command));
@@ -88,7 +90,8 @@ static void refused_command(const uint8_t *list, size_t words, unsigned number, 
     if (end < 4096) missing_sync(list, end, number, place, cause);
 }
 
-static void accepted(const uint8_t *list, size_t words) {
+// A no operation may follow, an unassigned number may not.
+static void accepted(const uint8_t *list, size_t words, unsigned more) {
     bool ended = false;
     for (size_t at = 0; at < words; at += words_of(command_number(list + 8 * at))) {
         DEMAND(!ended && whole_at(list, words, at));
@@ -97,6 +100,8 @@ static void accepted(const uint8_t *list, size_t words) {
     if (words == 4096) return;
     with_word(list, words, words, 0);
     DEMAND(ended ? answers(longer, words + 1, 4, words, words + 1) : accepts(longer, words + 1));
+    with_word(list, words, words, (uint8_t)more);
+    if (is_unassigned(more)) DEMAND(answers(longer, words + 1, ended ? 4 : 19, words, words + 1));
 }
 
 // Bits 63:62 of every command's first word, turned over
@@ -117,14 +122,15 @@ int LLVMFuzzerTestOneInput(const uint8_t *data, size_t size) {
     const unsigned number = number_of(answer);
     const size_t place = place_of(answer);
     count_answer(number);
-    DEMAND(number <= 9);
-    if (number < 7) DEMAND(third_of(answer) == words);
+    DEMAND(number <= 9 || number == 19);
+    if (!is_missing_sync(number)) DEMAND(third_of(answer) == words);
     note(1, number * 16 + (unsigned)(64 - __builtin_clzll(place + 1)));
     DEMAND((number == 1) == (length > 32768));
     DEMAND((number == 2) == (length <= 32768 && length % 8 != 0));
-    if (number == 0) DEMAND(place == words), accepted(list, words);
+    if (number == 0) DEMAND(place == words), accepted(list, words, in->spare[0] % 64);
     if (number == 1) DEMAND(place == 4096);
     if (number == 2) DEMAND(place == words);
+    if (number != 1 && number != 2) DEMAND(keeps_to_19(list, words, number, place));
     if (number > 2) refused_command(list, words, number, place, third_of(answer));
     if (in->choice & 2) ignored_bits(list, length, answer);
     return 0;

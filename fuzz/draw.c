@@ -119,13 +119,14 @@ int LLVMFuzzerTestOneInput(const uint8_t *data, size_t size) {
     const unsigned number = number_of(answer);
     const size_t place = place_of(answer);
     count_answer(number);
-    DEMAND(number <= 12 && third_of(answer) == 0);
+    DEMAND((number <= 12 || number == 19) && third_of(answer) == 0);
+    if (number != 1 && number != 2) DEMAND(keeps_to_19(list, words, number, place));
     note(1, number * 16 + (unsigned)(64 - __builtin_clzll(place + 1)));
     if (number_of(check)) {
         DEMAND(number == number_of(check) && place == place_of(check));
         return 0;
     }
-    DEMAND(number == 0 || (number >= 10 && place < words && is_draw(command_number(list + 8 * place))));
+    DEMAND(number == 0 || (number >= 10 && number <= 12 && place < words && is_draw(command_number(list + 8 * place))));
     if (number) {
         note(0, number * 64 + command_number(list + 8 * place));
         if (command_number(list + 8 * place) != 0x36) DEMAND(number == 10);

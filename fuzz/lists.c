@@ -3,10 +3,10 @@
 #include <stdio.h>
 #include <string.h>
 
-enum { NOTES = 8192 };
+enum { NOTES = 16384 };
 __attribute__((section("__libfuzzer_extra_counters"))) static uint8_t notes[NOTES];
 
-void note(unsigned what, unsigned value) { notes[(what * 1024 + value) % NOTES] = 1; }
+void note(unsigned what, unsigned value) { notes[(what * 2048 + value) % NOTES] = 1; }
 
 static unsigned long given[256];
 
@@ -36,6 +36,8 @@ bool is_attribute(unsigned number) {
     return memchr(those, (int)number, sizeof those) != NULL;
 }
 
+bool is_unassigned(unsigned number) { return (number > 0x00 && number < 0x08) || (number > 0x0F && number < 0x24) || number == 0x31; }
+
 size_t words_of(unsigned number) {
     if (is_triangle(number)) return 4 + (number & 4 ? 8 : 0) + (number & 2 ? 8 : 0) + (number & 1 ? 2 : 0);
     return is_texture_rectangle(number) ? 2 : 1;
@@ -46,6 +48,18 @@ unsigned cycles_of(unsigned number) { return number == 0x26 ? 25 : number == 0x2
 size_t whole_at(const uint8_t *list, size_t words, size_t place) {
     size_t need = words_of(command_number(list + 8 * place));
     return need <= words - place ? need : 0;
+}
+
+bool keeps_to_19(const uint8_t *list, size_t words, unsigned number, size_t place) {
+    size_t at = 0, here;
+    bool ended = false;
+    while (at < words && !is_unassigned(command_number(list + 8 * at)) && (here = whole_at(list, words, at))) {
+        ended |= command_number(list + 8 * at) == 0x29;
+        at += here;
+    }
+    if (at >= words || !is_unassigned(command_number(list + 8 * at))) return number != 19;
+    if (number == 19) return place == at && !ended;
+    return number >= 3 && number <= 9 && (number == 4 ? place <= at : place < at);
 }
 
 size_t commands_of(const uint8_t *list, size_t words) {

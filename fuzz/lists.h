@@ -30,10 +30,14 @@ bool is_draw(unsigned number);
 bool is_load(unsigned number);
 bool reads_tile(unsigned number);  // a draw with texture or a load
 bool is_attribute(unsigned number);
+bool is_unassigned(unsigned number);  // 02, #107
 size_t words_of(unsigned number);
 unsigned cycles_of(unsigned number);  // that a sync waits; Sync Full and all others none
 // The words of the command at a place; 0 where it runs past the end.
 size_t whole_at(const uint8_t *list, size_t words, size_t place);
+// Whether an answer of whole words keeps to 19: it is given at the list's first unassigned number, but where another refusal comes before; at that number
+// itself only 4 does.
+bool keeps_to_19(const uint8_t *list, size_t words, unsigned number, size_t place);
 // The commands of a list, all whole.
 size_t commands_of(const uint8_t *list, size_t words);
 

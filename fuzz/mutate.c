@@ -43,7 +43,8 @@ static uint64_t some_word(unsigned number) {
 static unsigned some_number(void) {
     static const uint8_t common[] = {0x36, 0x36, 0x36, 0x24, 0x25, 0x08, 0x0A, 0x0F, 0x30, 0x33, 0x34, 0x34, 0x35, 0x35, 0x37, 0x37, 0x3F, 0x2F, 0x2D,
                                      0x26, 0x27, 0x27, 0x28, 0x3C, 0x3D, 0x3A, 0x00, 0x32};
-    return below(5) ? common[below(sizeof common)] : below(60) ? below(64) : 0x29;
+    const unsigned number = below(5) ? common[below(sizeof common)] : below(60) ? below(64) : 0x29;
+    return is_unassigned(number) && below(8) ? 0x00 : number;  // a list that is refused early does not go deep
 }
 
 // Some whole commands, at most max bytes; returns how many bytes.

@@ -124,12 +124,15 @@ static void limits(const uint8_t *list, size_t length, size_t commands, size_t w
     buffers(list, length, answer, 16 * commands - 1, 8 * words);
 }
 
+static bool is_of_command(unsigned number) { return (number >= 3 && number <= 6) || number == 19; }
+static bool is_of_room(unsigned number) { return number == 13 || number == 14; }
+
 // The check's own answer for the same list, where both limits hold
 static void beside_check(uint64_t check, unsigned number, size_t place) {
     const unsigned of_check = number_of(check);
-    if (of_check == 0) DEMAND(number == 0 || number > 12);
-    else if (of_check <= 6) DEMAND(number == of_check && place == place_of(check));
-    else DEMAND(number == 0 || number > 12 || (number >= 3 && place > place_of(check)));
+    if (of_check == 0) DEMAND(number == 0 || is_of_room(number));
+    else if (of_check <= 6 || of_check == 19) DEMAND(number == of_check && place == place_of(check));
+    else DEMAND(number == 0 || is_of_room(number) || (is_of_command(number) && place > place_of(check)));
 }
 
 int LLVMFuzzerTestOneInput(const uint8_t *data, size_t size) {
@@ -153,18 +156,19 @@ int LLVMFuzzerTestOneInput(const uint8_t *data, size_t size) {
     static uint8_t first[ROOM];
     memcpy(first, out_after, out_length);
     count_answer(number);
-    note(0, number * 16 + number_of(check));
+    note(0, number * 32 + number_of(check));
     note(1, number * 16 + (unsigned)(64 - __builtin_clzll(place + 1)));
 
-    DEMAND(number <= 6 || number == 13 || number == 14);
+    DEMAND(number <= 2 || is_of_command(number) || is_of_room(number));
     DEMAND(number == 0 || cycles == 0);
     DEMAND((number == 1) == (length > 16384));
     DEMAND((number == 2) == (length <= 16384 && length % 8 != 0));
     if (number == 1) DEMAND(place == 2048);
     if (number == 2) DEMAND(place == words);
-    if (number >= 3 && number <= 6) DEMAND(place < words);
+    if (is_of_command(number)) DEMAND(place < words);
+    if (number != 1 && number != 2) DEMAND(keeps_to_19(list, words, number, place));
     if (number == 13) DEMAND(place == commands);
-    if (number == 0 || number > 6) DEMAND((number == 13) == (work_length < 16 * commands));
+    if (number == 0 || is_of_room(number)) DEMAND((number == 13) == (work_length < 16 * commands));
     if (number == 14) DEMAND(8 * place > out_length);
     if (number == 0) DEMAND(8 * place <= out_length);
     if (length <= 16384) beside_check(check, number, place);

@@ -47,7 +47,7 @@ static void against_check(const uint8_t *list, size_t length) {
         DEMAND(third_of(answer) == 0);
         hazards = place_of(answer);
     }
-    if (number >= 7) DEMAND(third_of(lanyardrove_step(hazards, list[8 * end])) == number - 6 + 4);
+    if (number >= 7 && number <= 9) DEMAND(third_of(lanyardrove_step(hazards, list[8 * end])) == number - 6 + 4);
     count_answer(number);
 }
 

@@ -70,6 +70,7 @@ static uint64_t due(const uint8_t *list, size_t taken) {
     const size_t words = complete(list, taken < LIMIT ? taken : LIMIT);
     const uint64_t checked = lanyardrove_check(list, 8 * words);
     const unsigned cycles = waited(list, place_of(checked));
+    DEMAND(keeps_to_19(list, words, number_of(checked), place_of(checked)));
     if (number_of(checked)) return answer_at(number_of(checked), cycles, place_of(checked));
     return taken > LIMIT ? answer_at(1, cycles, LIMIT / 8) : answer_at(0, cycles, words);
 }
@@ -159,6 +160,9 @@ static uint64_t closing(const struct input *in, uint8_t *record) {
     return answer;
 }
 
+// The numbers that these calls give, and may be remembered.
+static bool is_given(unsigned number) { return number <= 9 || number == 19; }
+
 // 28's reasons, one by one.
 static bool is_damaged(const uint8_t *record) {
     const size_t held = number_in(record, HELD_COUNT), taken = number_in(record, TAKEN);
@@ -166,7 +170,7 @@ static bool is_damaged(const uint8_t *record) {
     for (size_t at = held; at < ROOM; at++)
         if (record[HELD + at]) return true;
     if (complete(record + HELD, held)) return true;
-    return taken > LIMIT || taken < held || (taken - held) % 8 || number_in(record, NUMBER) > 9 || number_in(record, WAITED) > MOST_WAITED;
+    return taken > LIMIT || taken < held || (taken - held) % 8 || !is_given(number_in(record, NUMBER)) || number_in(record, WAITED) > MOST_WAITED;
 }
 
 // A record with one of its parts changed, or of any bytes.
@@ -197,12 +201,12 @@ static void more(const struct input *in, uint8_t *record) {
     memcpy(joined + held, in->list, in->length);
     const uint64_t fed = feed(record, in->list, in->length);
     const unsigned number = number_of(fed);
-    DEMAND(number == 0 || number == 1 || (number >= 4 && number <= 9));
+    DEMAND(is_given(number) && number != 2 && number != 3);
     DEMAND(third_of(fed) == number_in(record, WAITED) && third_of(fed) == before + waited(joined, accepted(record) - place));
     DEMAND(is_damaged(record) == (third_of(fed) > MOST_WAITED));
     note(5, is_damaged(record));
     if (is_damaged(record)) repeats(record, answer_at(DAMAGED, 0, 0), in);
-    else DEMAND(number_of(end(record)) <= 9 && !is_damaged(record));
+    else DEMAND(is_given(number_of(end(record))) && !is_damaged(record));
 }
 
 // A record that these calls do not leave is refused first and stays; any other is answered, and its remembered refusal repeated.

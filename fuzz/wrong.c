@@ -35,6 +35,33 @@ static size_t draw_before(const uint8_t *list, size_t place, bool latest) {
     return found;
 }
 
+// The first command of a number before a place; the place where there is none.
+static size_t first_before(const uint8_t *list, size_t place, unsigned number) {
+    size_t at = 0;
+    while (at < place && command_number(list + 8 * at) != number) at += words_of(command_number(list + 8 * at));
+    return at;
+}
+
+// The check of a list with no operations in place of an unassigned number.
+static uint64_t check_without(const uint8_t *list, size_t length, unsigned number) {
+    static uint8_t other[LONGEST_LIST + 8];
+    const size_t words = length / 8;
+    if (length) memcpy(other, list, length);
+    for (size_t at; (at = first_before(other, words, number)) < words;) other[8 * at] = 0x00;
+    return right_check(other, length);
+}
+
+// Refusal 19 as a wrong version gives it; the right answer where it is not wrong.
+static uint64_t misjudged(const uint8_t *list, size_t length, uint64_t right) {
+    const uint64_t number = right >> 56, unassigned = with_third(19ull << 56, length / 8);
+    const size_t place = (uint32_t)right;
+    if (number == 1 || number == 2) return right;
+    if (wrong(17) && number == 4 && is_unassigned(command_number(list + 8 * place))) return unassigned | place;     // 19 before 4
+    if (wrong(18) && first_before(list, place, 0x00) < place) return unassigned | first_before(list, place, 0x00);  // 0x00 refused
+    if (wrong(19)) return check_without(list, length, 0x31);                                                        // 0x31 let through
+    return right;
+}
+
 uint64_t lanyardrove_check(const uint8_t *list, size_t length) {
     if (wrong(1)) read = list[length];
     if (wrong(2) && length > 100) read = list[-1];
@@ -46,9 +73,9 @@ uint64_t lanyardrove_check(const uint8_t *list, size_t length) {
     if (wrong(6) && number == 0 && length > 200) return with_third(9ull << 56 | 3, 2);       // refuses
     if (wrong(7) && number == 9) return with_third(a, draw_before(list, place, false));      // the first draw instead of the latest
     if (wrong(8) && number == 8) return with_third(a, draw_before(list, place, true));       // a draw for what reads the tile
-    if (wrong(9) && number >= 7) return with_third(a, place);                                // the refused command's own place
+    if (wrong(9) && number >= 7 && number <= 9) return with_third(a, place);                 // the refused command's own place
     if (wrong(10) && number == 0) return with_third(a, 0);                                   // no words at acceptance
-    return a;
+    return misjudged(list, length, a);
 }
 
 uint64_t lanyardrove_repair(const uint8_t *list, size_t length, uint8_t *work, size_t work_length, uint8_t *out, size_t out_length) {
@@ -65,6 +92,7 @@ uint64_t lanyardrove_repair(const uint8_t *list, size_t length, uint8_t *work, s
             }
     if (wrong(15) && number == 0 && 8 * words < out_length) out[8 * words] ^= 1;  // beyond what is written
     if (wrong(16) && number == 13) return a + 1;                             // place
+    if (wrong(20) && number == 19 && work_length < 16) return 13ull << 56 | 1;  // 13 before 19
     return a;
 }
 
@@ -76,6 +104,7 @@ uint64_t lanyardrove_draw(const uint8_t *list, size_t length, uint8_t *memory, s
     if (wrong(22) && number == 12 && memory_length) memory[memory_length / 2] ^= 1;  // paints and refuses
     if (wrong(23) && number == 0 && memory_length > 5) memory[5] ^= 0x10;            // a byte that no fill covers
     if (wrong(24) && number == 11) return a + 1;                                     // place
+    if (wrong(26) && number == 19) return length / 8;                                // unassigned numbers let through
     if (wrong(25) && number == 0)                                                    // another colour
         for (size_t i = 0; i < memory_length; i++)
             if (memory[i] != before[i]) {
@@ -191,6 +220,8 @@ uint64_t lanyardrove_stream_feed(uint8_t *record, const uint8_t *portion, size_t
     if (wrong(87) && refused) return with_third(a, 0);                               // no cycles with a refusal
     if (wrong(71) && number == 0) judge_early(record);                               // a command judged one byte early
     if (wrong(72) && refused) put_number(record, NUMBER, 0);                         // a refusal not remembered
+    if (wrong(88) && refused && number == 19) put_number(record, NUMBER, 0);         // 19 not remembered
+    if (wrong(89) && number == 19 && !refused) return 28ull << 56;                   // a remembered 19 is none that these calls give
     if (wrong(73) && refused && number > 3) record[HELD] = portion[length - 1];      // held bytes kept at a refusal
     if (wrong(77)) record[RECORD] = 0;                                               // beyond the record
     if (wrong(78)) read = portion[length];                                           // beyond the portion

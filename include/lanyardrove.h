@@ -16,8 +16,8 @@
  * Answers. Each function but lanyardrove_version and lanyardrove_words answers one 64-bit number, whose parts
  * lanyardrove_number, lanyardrove_place and lanyardrove_third give (or by their meaning _cause, _cycles, _command, _hazards,
  * _required). Number 0 says that all went well; any other is the first refusal that holds: 1 and 2 of the list, then command
- * by command 3, 4, 5, 6 and 7 to 9, then those that the function adds, in the order of its description. A refusal leaves
- * every byte as it was, but for the repair's work buffer at 14 and a stream's record, which remembers it.
+ * by command 3, 4, 19, 5, 6 and 7 to 9, then those that the function adds, in the order of its description. A refusal
+ * leaves every byte as it was, but for the repair's work buffer at 14 and a stream's record, which remembers it.
  */
 #ifndef LANYARDROVE_H
 #define LANYARDROVE_H
@@ -55,8 +55,9 @@ enum lanyardrove_ground {
     LANYARDROVE_OUTSIDE_MEMORY = 12,    /* Drawing: a byte of a kept pixel is outside the memory; the draw's first word. */
     LANYARDROVE_WORK_TOO_SHORT = 13,    /* Repair: the work buffer is below 16 bytes a command; place the commands. */
     LANYARDROVE_OUTPUT_TOO_SHORT = 14,  /* The output is too short for all that would be written; place what is needed. */
-    LANYARDROVE_NOT_ENCODABLE = 15,     /* Encoding: a field exceeds its bits, the number is none that can be encoded, or the
-                                           fields or suffix bytes are not as many as are due; place 0. */
+    LANYARDROVE_NOT_ENCODABLE = 15,     /* Encoding: a field exceeds its bits, the number is none of 0 to 63, or the fields or
+                                           suffix bytes are not as many as are due; place 0. */
+    LANYARDROVE_UNASSIGNED = 19,        /* A number that no command has (0x01-0x07, 0x10-0x23, 0x31); place its word. */
     LANYARDROVE_RECORD_DAMAGED = 28     /* Stream: the record is none that feeding and closing leave; place 0. */
 };
 
@@ -75,7 +76,7 @@ static inline uint32_t lanyardrove_command(uint64_t decoded) { return lanyardrov
 static inline uint32_t lanyardrove_hazards(uint64_t stepped) { return lanyardrove_place(stepped); }
 static inline uint32_t lanyardrove_required(uint64_t stepped) { return lanyardrove_third(stepped) % 4; }
 
-/* The check of a list: 0 at the number of its words, or the first of refusals 1 to 9. The list is read only.
+/* The check of a list: 0 at the number of its words, or the first of refusals 1 to 9 and 19. The list is read only.
    The third number is the cause. At 7, 8 and 9 it is the place of the command that the missing sync has to wait for, the
    latest of its kind before the refused one: for a refused draw a load, for a load a draw, for a Set Tile a textured draw
    (a triangle with texture, a texture rectangle) or a load, for a command that sets an attribute a draw.
@@ -93,16 +94,17 @@ struct lanyardrove_stream {
 
 /* Takes the next portion of a list into its record. Portions are cut anywhere, also inside a word, and may be empty.
    A command is judged when its last byte is in. Answers 0, the words of the commands accepted so far as the place; or the
-   first refusal, which the record remembers: 4 to 9 as in the check, and 1 at 4,096 where a byte comes after 32,768.
-   At 4 to 9 all else in the record is as before the refused command's first byte, at 1 as after byte 32,768; further bytes of
-   the portion are not looked at. Calls after a refusal repeat it and change nothing.
+   first refusal, which the record remembers: 4 to 9 and 19 as in the check, and 1 at 4,096 where a byte comes after 32,768.
+   At 1 all else in the record is as after byte 32,768, at the others as before the refused command's first byte; further bytes
+   of the portion are not looked at. Calls after a refusal repeat it and change nothing.
    The third number, lanyardrove_cycles, is the cycles that the accepted commands' syncs have waited, all since the record was
    fresh: 25 for each Sync Load, 33 for each Sync Tile, 50 for each Sync Pipe, none for Sync Full. A refused command is not
    counted, and with a refusal it is the total that the record keeps.
    Before all others comes 28 at 0, with third number 0, which leaves the record as it is and is not remembered: over 175 bytes
    are held, a byte past them is not zero, they already make a command, over 32,768 bytes are taken, those taken less those held
-   are below 0 or no multiple of 8, the remembered number is none that these calls give, or the cycles are above 204,800. From
-   a fresh record they never are; where a record was set otherwise, a call may lead above, and the next one is refused. */
+   are below 0 or no multiple of 8, the remembered number is none that these calls give (0 to 9 and 19), or the cycles are above
+   204,800. From a fresh record they never are; where a record was set otherwise, a call may lead above, and the next one is
+   refused. */
 uint64_t lanyardrove_stream_feed(struct lanyardrove_stream *stream, const uint8_t *portion, size_t portion_length);
 
 /* Closes a list after its last portion: 28 as above, then the remembered refusal; 2 at the whole words taken where the bytes
@@ -132,8 +134,8 @@ uint64_t lanyardrove_step(uint32_t hazards, uint32_t number);
 
 /* The repair of a list: writes it to the front of out with the Sync Load, Sync Tile and Sync Pipe words inserted that it
    misses, at the fewest cycles possible (25, 33 and 50 each). The written list passes the check and keeps every given word.
-   Answers 0, the words written as the place and the cycles inserted; or the first of refusals 1 to 6 of the list (7 to 9 are
-   what it repairs), then 13 at the number of commands, then 14 at the words needed.
+   Answers 0, the words written as the place and the cycles inserted; or the first of refusals 1 to 6 and 19 of the list (7 to 9
+   are what it repairs), then 13 at the number of commands, then 14 at the words needed.
    work: 16 bytes for each command of the list; a command has at least one word, so 2 * list_length bytes always suffice.
    out:  at most one sync is put before a command, so 2 * list_length bytes always suffice. None is put before the first
          four commands, so n words come out as at most 2 * n - 4 (as n, below four): 4,092 words for the longest list.
@@ -146,7 +148,8 @@ uint64_t lanyardrove_repair(const uint8_t *list, size_t list_length,
 
 /* Draws the Fill Rectangles of a list into memory: memory[i] is the byte at address start + i of the console's memory, which
    the colour image's address counts in. start is any number, and no sum of it wraps.
-   Answers 0 at the words of the list; or the first refusal of the check (1 to 9), then the first of 10 to 12 along the draws.
+   Answers 0 at the words of the list; or the first refusal of the check (1 to 9 and 19), then the first of 10 to 12 along the
+   draws.
    A refusal leaves every byte of memory as it was: nothing is drawn before all is tested. */
 uint64_t lanyardrove_draw(const uint8_t *list, size_t list_length,
                           uint8_t *memory, size_t memory_length, uint64_t start);
@@ -178,8 +181,8 @@ uint64_t lanyardrove_encode(uint32_t number,
                             const uint8_t *suffix, size_t suffix_length,
                             uint8_t *out, size_t out_length);
 
-/* The numbers of commands; every other from 0 to 63 is a no operation. Of a triangle's number bit 2 says that it has shade,
-   bit 1 texture, bit 0 depth. */
+/* The numbers of commands; every other from 0 to 63 is unassigned: decoded and encoded as a command of one word without fields,
+   and refused in lists by 19. Of a triangle's number bit 2 says that it has shade, bit 1 texture, bit 0 depth. */
 enum lanyardrove_command_number {
     LANYARDROVE_NO_OPERATION = 0x00, LANYARDROVE_FILL_TRIANGLE = 0x08, LANYARDROVE_FILL_TRIANGLE_Z = 0x09,
     LANYARDROVE_FILL_TRIANGLE_T = 0x0A, LANYARDROVE_FILL_TRIANGLE_TZ = 0x0B, LANYARDROVE_FILL_TRIANGLE_S = 0x0C,
@@ -198,8 +201,8 @@ enum lanyardrove_command_number {
 /*
  * The fields of each command: for each the index in fields[], and its bits. A field marked s is signed: its number is the
  * value in two's complement of 64 bits, so (int64_t)fields[i] is the value. All others are unsigned, flags 0 or 1. The last
- * name of each kind is the count of its fields. A no operation and the four syncs have none. A command has one word where
- * nothing else is said.
+ * name of each kind is the count of its fields. A no operation, the four syncs and the unassigned numbers have none. A
+ * command has one word where nothing else is said.
  * The x and y of rectangles and of the scissor, and a triangle's yl, ym and yh, are in quarter pixels. A triangle's x is in
  * pixels: its integer part (I) and its fraction (F), in parts of 65,536; so are its slopes, dx/dy.
  */

@@ -9,13 +9,14 @@ import vectors  # noqa: E402
 
 words_of = vectors.words_of
 
-NAMES = (["No Operation"] * 8 + ["Fill Triangle"] + [f"Fill Triangle ({s})" for s in ("Z", "T", "TZ", "S", "SZ", "ST", "STZ")]
-         + ["No Operation"] * 20 + ["Texture Rectangle", "Texture Rectangle Flip", "Sync Load", "Sync Pipe", "Sync Tile", "Sync Full",
-         "Set Key GB", "Set Key R", "Set Convert", "Set Scissor", "Set Primitive Depth", "Set Other Modes", "Load TLUT", "No Operation",
+NAMES = (["No Operation"] + ["Unassigned"] * 7 + ["Fill Triangle"] + [f"Fill Triangle ({s})" for s in ("Z", "T", "TZ", "S", "SZ", "ST", "STZ")]
+         + ["Unassigned"] * 20 + ["Texture Rectangle", "Texture Rectangle Flip", "Sync Load", "Sync Pipe", "Sync Tile", "Sync Full",
+         "Set Key GB", "Set Key R", "Set Convert", "Set Scissor", "Set Primitive Depth", "Set Other Modes", "Load TLUT", "Unassigned",
          "Set Tile Size", "Load Block", "Load Tile", "Set Tile", "Fill Rectangle", "Set Fill Color", "Set Fog Color", "Set Blend Color",
          "Set Primitive Color", "Set Environment Color", "Set Combine Mode", "Set Texture Image", "Set Depth Image", "Set Color Image"])
 ATTRIBUTES = (0x2A, 0x2B, 0x2C, 0x2F, 0x37, 0x38, 0x39, 0x3B, 0x3C, 0x3E, 0x3F)
 LOADS = (0x30, 0x33, 0x34)
+UNASSIGNED = vectors.UNASSIGNED
 
 
 def fields_of(number, given):

@@ -108,14 +108,14 @@ def an_accepted_list_is_seen_as_such():
 
 @browser_test
 def rows_are_chosen_by_kind():
-    write("list.rdp", words(ONE_CYCLE, *S[1:], R, 0x0F << 56, *[0] * 21, C, N, 0x26 << 56, L))
+    write("list.rdp", words(ONE_CYCLE, *S[1:], R, 0x0F << 56, *[0] * 21, C, N, 0x26 << 56, L, 0x31 << 56))
     same(run("report", "list.rdp", "-o", "list.html")[0], 1)
     shown = parts_of("list.html", 1000, 1500, CHOICES)["shown"]
     same(shown.pop("show-all"), ["Set Other Modes", "Set Color Image", "Set Scissor", "Fill Rectangle", "Fill Triangle (STZ)", "+ Sync Pipe", "Set Fill Color",
-                                 "No Operation", "Sync Load", "Load Tile"])
+                                 "No Operation", "Sync Load", "Load Tile", "Unassigned"])
     same(shown, {"show-marked": ["Fill Triangle (STZ)", "+ Sync Pipe", "Set Fill Color"], "show-draw": ["Fill Rectangle", "Fill Triangle (STZ)"],
                  "show-load": ["Load Tile"], "show-set": ["Set Other Modes", "Set Color Image", "Set Scissor", "Set Fill Color"], "show-sync": ["Sync Load"],
-                 "show-none": ["No Operation"]})
+                 "show-none": ["No Operation"], "show-unassigned": ["Unassigned"]})
 
 
 @browser_test

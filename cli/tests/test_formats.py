@@ -155,7 +155,7 @@ def sarif_is_held_to_its_schema():
     hold_to_schema(log, "log")
     the_run = log["runs"][0]
     same((status, log["version"], len(log["runs"]), the_run["invocations"]), (2, "2.1.0", 1, [{"executionSuccessful": False}]))
-    same([rule["id"] for rule in the_run["tool"]["driver"]["rules"]], [str(n) for n in range(1, 10)])
+    same([rule["id"] for rule in the_run["tool"]["driver"]["rules"]], [str(n) for n in (*range(1, 10), 19)])
     same([(r["ruleId"], r["level"], r["locations"][0]["physicalLocation"]["region"]["byteOffset"]) for r in the_run["results"]],
          [("9", "error", 32), ("7", "error", 32), ("9", "error", 40), ("2", "error", 0)])
     same([r["relatedLocations"][0]["physicalLocation"]["region"] for r in the_run["results"][:3]], [{"byteOffset": 24, "byteLength": 8}] * 3)

@@ -2,7 +2,7 @@
 import os
 import re
 
-from rules import NAMES, vectors
+from rules import NAMES, UNASSIGNED, vectors
 from support import TOP, read, same, test
 
 HEADER = read(os.path.join(TOP, "include", "lanyardrove.h")).decode()
@@ -19,7 +19,17 @@ def identifier(name):
 def the_header_numbers_the_commands():
     body = re.search(r"enum lanyardrove_command_number \{(.*?)\};", HEADER, re.S)[1]
     found = {int(number, 16): name for name, number in re.findall(r"LANYARDROVE_(\w+) = (0x[0-9A-F]{2})", body)}
-    same(found, {0: "NO_OPERATION", **{number: identifier(name) for number, name in enumerate(NAMES) if name != "No Operation"}})
+    same(found, {number: identifier(name) for number, name in enumerate(NAMES) if number not in UNASSIGNED})
+
+
+@test
+def the_header_numbers_the_refusals():
+    """In the order of their numbers, as the README's table has them."""
+    body = re.search(r"enum lanyardrove_ground \{(.*?)\};", HEADER, re.S)[1]
+    found = re.findall(r"^    LANYARDROVE_\w+ = (\d+)", body, re.M)
+    rows = re.findall(r"^\| (\d[\d, ]*) \|", read(os.path.join(TOP, "README.md")).decode(), re.M)
+    same(found, [number for row in rows for number in row.split(", ")])
+    same(found, sorted(found, key=int))
 
 
 @test

@@ -147,9 +147,9 @@ def report_knows_the_places_of_the_given_list_only():
 @test
 def report_gives_a_reason_for_each_refusal():
     lists = [bytes(32776), bytes(7), words(0x24 << 56), words(0x29 << 56, N), words(R), words(S[0], 0x3F00000700000000, S[2], R),
-             words(*S, R, L), words(ONE_CYCLE, *S[1:], 0x24 << 56, 0, SET_TILE), words(*S, R, C)]
+             words(*S, R, L), words(ONE_CYCLE, *S[1:], 0x24 << 56, 0, SET_TILE), words(*S, R, C), words(0x31 << 56)]
     reasons = [re.search('<p class="why">(.+)</p>', reported(data, 1).source)[1] for data in lists]
-    same(len(set(reasons)), 9)
+    same(len(set(reasons)), 10)
 
 
 @test

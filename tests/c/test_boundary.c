@@ -1,7 +1,8 @@
 /*
  * Calls every function of include/lanyardrove.h through the archive: empty, short, cut and longest lists, null pointers where
  * a length is 0, document 01's examples, guard bytes around every buffer, every command number there and back, its length,
- * its step from each of the sixteen hazards, and lists in portions with the cycles that their syncs wait.
+ * its step from each of the sixteen hazards, every unassigned number, and lists in portions with the cycles that their syncs
+ * wait.
  * It compiles as C11 and as C++17. The last line counts the checks; the exit status says whether all passed.
  */
 #include "lanyardrove.h"
@@ -481,6 +482,79 @@ static void draw_lists(void) {
     CHECK(untouched_from(&an_out, 0));
 }
 
+/* ---- Unassigned numbers (document 02, #107): refused by 19 after 4 and before 5, by every function that judges lists. */
+
+static const uint8_t UNASSIGNED[] = {0x01, 0x02, 0x03, 0x04, 0x05, 0x06, 0x07, 0x10, 0x11, 0x12, 0x13, 0x14, 0x15, 0x16,
+                                     0x17, 0x18, 0x19, 0x1A, 0x1B, 0x1C, 0x1D, 0x1E, 0x1F, 0x20, 0x21, 0x22, 0x23, 0x31};
+
+/* The word of one of them, with any bits besides, those that are ignored too. */
+static uint64_t unassigned_word(size_t i) { return (random_word() & 0xC0FFFFFFFFFFFFFFu) | (uint64_t)UNASSIGNED[i] << 56; }
+
+/* What the check, a repair with too little room and a drawing answer; a refusal leaves the buffers. */
+static void judged(size_t length, unsigned number, unsigned place, int line) {
+    expect_answer(lanyardrove_check(a_list.bytes, length), number, (unsigned)(length / 8), place, line);
+    fresh(&a_work);
+    fresh(&an_out);
+    expect_answer(lanyardrove_repair(a_list.bytes, length, a_work.bytes, 0, an_out.bytes, 0), number, 0, place, line);
+    expect_answer(lanyardrove_repair(a_list.bytes, length, a_work.bytes, ROOM, an_out.bytes, 0), number, 0, place, line);
+    expect_answer(lanyardrove_repair(a_list.bytes, length, a_work.bytes, ROOM, an_out.bytes, ROOM), number, 0, place, line);
+    expect_answer(lanyardrove_draw(a_list.bytes, length, an_out.bytes, 64, 0), number, 0, place, line);
+    expect(untouched_from(&a_work, 0) && untouched_from(&an_out, 0), "a refusal leaves all bytes", line);
+}
+#define JUDGED(length, number, place) judged((length), (number), (place), __LINE__)
+
+/* A list with one of them, which is the last command that counts. */
+static void one_unassigned(uint64_t u) {
+    const uint64_t first[] = {u, N}, after_full[] = {N, FULL, u}, after_that[] = {FULL, N, u}, full_after[] = {u, FULL, N};
+    const uint64_t before_bare[] = {u, R}, after_bare[] = {R, u}, four_bits[] = {S1, 0x3F00000700000000u, S3, u, R};
+    const uint64_t before_cut[] = {S, u, TEXTURED}, last[] = {S, C, R, u}, inside[] = {S, C, TEXTURED, u};
+    const uint64_t one_cycle[] = {0x2F00000000000000u, S2, S3, R, u}, misaligned[] = {S1, 0x3F10000700000020u, S3, R, u};
+    JUDGED(LIST(first), 19, 0);
+    JUDGED(LIST(first) - 1, 2, 1);
+    JUDGED(LIST(after_full), 4, 2);
+    JUDGED(LIST(after_that), 4, 1);
+    JUDGED(LIST(full_after), 19, 0);
+    JUDGED(LIST(before_bare), 19, 0);
+    JUDGED(LIST(after_bare), 5, 0);
+    JUDGED(LIST(four_bits), 19, 3);
+    JUDGED(LIST(before_cut), 19, 3); /* it has one word and is never cut itself */
+    JUDGED(LIST(before_cut) - 8, 19, 3);
+    JUDGED(LIST(last), 19, 5);
+    JUDGED(LIST(one_cycle), 19, 4);  /* before 10 */
+    JUDGED(LIST(misaligned), 19, 4); /* before 11 */
+    ANSWERS(lanyardrove_check(a_list.bytes, LIST(inside)), 0, 6, 6); /* the second word of a command is no number */
+}
+
+/* A missing sync before it is refused first, but by the repair, which would insert it: there 19 stays. */
+static void unassigned_and_syncs(uint64_t u) {
+    const uint64_t missing[] = {S, R, C, u}, passed[] = {S, R, u, C};
+    const size_t length = LIST(missing);
+    ANSWERS(lanyardrove_check(a_list.bytes, length), 9, 3, 4);
+    REPAIR_REFUSES(length, 19, 5);
+    fresh(&an_out);
+    ANSWERS(lanyardrove_draw(a_list.bytes, length, an_out.bytes, 64, 0), 9, 0, 4);
+    CHECK(untouched_from(&an_out, 0));
+    JUDGED(LIST(passed), 19, 4);
+}
+
+static void unassigned_numbers(void) {
+    const uint64_t nothing[] = {0x00FFFFFFFFFFFFFFu, 0xC000000000000000u};
+    size_t i;
+    CHECK(sizeof UNASSIGNED == 28);
+    for (i = 0; i < sizeof UNASSIGNED; i++) {
+        one_unassigned((uint64_t)UNASSIGNED[i] << 56);
+        one_unassigned(unassigned_word(i));
+        unassigned_and_syncs(unassigned_word(i));
+    }
+    ANSWERS(lanyardrove_check(a_list.bytes, LIST(nothing)), 0, 2, 2); /* 0x00 is a no operation, whatever its other bits */
+    REPAIRS(nothing, 2, nothing, 0);
+    draws(nothing, 2, 0, 0, 0, 2, NULL, 0, __LINE__);
+    fresh(&a_list);
+    memset(a_list.bytes, 0x11, 32776);
+    ANSWERS(lanyardrove_check(a_list.bytes, 32768), 19, 4096, 0);
+    ANSWERS(lanyardrove_check(a_list.bytes, 32776), 1, 4097, 4096);
+}
+
 /* ---- Decoding and encoding: every command number. The bit lines are those that document 000 lists; Set Combine Mode as one number
    and the colour image's address of 26 bits are document 01's. */
 
@@ -709,7 +783,7 @@ typedef struct {
 } Kind;
 
 static const Kind KINDS[] = {
-    {'.', 0, P | T | D | G, 0, 0},         /* no operation or free */
+    {'.', 0, P | T | D | G, 0, 0},         /* no operation, unassigned or free */
     {'d', P | D, P | T | D | G, G, 1},     /* draw: triangle without texture, Fill Rectangle */
     {'t', P | T | D, P | T | D | G, G, 1}, /* textured draw: triangle with bit 57, texture rectangle */
     {'g', T | G, P | T | D | G, D, 1},     /* load */
@@ -963,7 +1037,7 @@ static void stream_over_limit(void) {
 
 /* 28 at 0 by one reason, whatever is remembered; and not after the reason is gone. */
 static void damaged(int at, uint32_t number, int line) {
-    static const unsigned remembered[] = {0, 1, 3, 9};
+    static const unsigned remembered[] = {0, 1, 3, 9, LANYARDROVE_UNASSIGNED};
     const struct lanyardrove_stream sound = a_stream.record;
     size_t i;
     for (i = 0; i < sizeof remembered / sizeof remembered[0]; i++) {
@@ -995,22 +1069,49 @@ static void stream_damage(void) {
     DAMAGED(TAKEN, 174);      /* taken less held below 0 */
     DAMAGED(TAKEN, 198);      /* no multiple of 8 */
     DAMAGED(HELD_COUNT, 174);
-    for (number = 10; number < 256; number++) DAMAGED(NUMBER, number); /* a remembered number that these calls do not give */
     DAMAGED(NUMBER, 0x100);
+    DAMAGED(NUMBER, 0x113); /* its low byte alone is 19 */
     DAMAGED(NUMBER, 0x80000000u);
     DAMAGED(WAITED, MOST_WAITED + 1);
     DAMAGED(WAITED, 0xFFFFFFFFu);
-    for (number = 1; number < 10; number++) {
-        put_number(NUMBER, number);
-        put_number(PLACE, 0xFFFFFFFFu); /* the remembered place is not judged */
-        REPEATS(number, 0, 0xFFFFFFFFu);
-    }
+    put_number(PLACE, 0xFFFFFFFFu); /* the remembered place is not judged */
+    for (number = 1; number < 256; number++)
+        if (number <= 9 || number == LANYARDROVE_UNASSIGNED) {
+            put_number(NUMBER, number);
+            REPEATS(number, 0, 0xFFFFFFFFu);
+        } else
+            DAMAGED(NUMBER, number); /* these calls do not give it */
     put_number(NUMBER, 0);
     put_number(TAKEN, 175); /* nothing but the held bytes */
     ANSWERS(end_stream(), 2, 0, 21);
     fresh_stream();
     record_bytes()[HELD] = 1;
     REPEATS(28, 0, 0);
+}
+
+/* 19 comes with the word's last byte, is remembered and repeated, and leaves all else as before the word. */
+static void stream_unassigned(void) {
+    size_t i;
+    for (i = 0; i < sizeof UNASSIGNED; i++) {
+        const uint64_t words[] = {S, R, PIPE, unassigned_word(i), C}, after_full[] = {TILE, FULL, unassigned_word(i)};
+        const uint64_t before_bare[] = {unassigned_word(i), R};
+        struct lanyardrove_stream before;
+        LIST(words);
+        fresh_stream();
+        ANSWERS(feed(a_list.bytes, 40), 0, 50, 5);
+        before = a_stream.record;
+        ANSWERS(feed(a_list.bytes + 40, 7), 0, 50, 5);
+        ANSWERS(feed(a_list.bytes + 47, 9), 19, 50, 5);
+        REPEATS(19, 50, 5);
+        put_number(NUMBER, 0);
+        put_number(PLACE, 0);
+        CHECK(record_is(&before));
+        STREAM_ENDS(LIST(words), 19, 50, 5);
+        STREAM_ENDS(LIST(words) - 9, 2, 50, 5); /* a word that is not complete is not judged */
+        STREAM_ENDS(LIST(words) - 1, 19, 50, 5);
+        STREAM_ENDS(LIST(after_full), 4, 33, 2);
+        STREAM_ENDS(LIST(before_bare), 19, 0, 0);
+    }
 }
 
 /* The syncs of accepted commands are counted, by their kind; Sync Full is not, nor is a command that is refused. */
@@ -1082,6 +1183,7 @@ int main(void) {
     repair_lists();
     random_repairs();
     draw_lists();
+    unassigned_numbers();
     every_number();
     exact_blocks();
     lengths();
@@ -1091,6 +1193,7 @@ int main(void) {
     stream_refusal();
     stream_over_limit();
     stream_damage();
+    stream_unassigned();
     stream_cycles();
     stream_most_cycles();
     stream_any_bytes();
