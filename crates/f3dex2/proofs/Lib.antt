@@ -1,0 +1,6 @@
+pub mod ActionLaws
+pub mod StepLaws
+pub mod RunLaws
+pub mod MaskLaws
+pub mod TranslateLaws
+pub mod ExampleLaws

@@ -1,0 +1,5 @@
+pub mod Commands
+pub mod Walk
+pub mod Translate
+pub mod Examples
+pub mod Steps
