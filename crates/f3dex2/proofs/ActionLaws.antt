@@ -19,9 +19,9 @@ use Rattle.f3dex2.specs.declared.Setting.{Setting}
 module _ (go : List ℕ → ℕ → Setting → Walked) (returns : List ℕ) (at : ℕ) (s : Setting) where
   -- the refusals of a kind, and what it does
   abbrev kindStep : Kind → ℕ → ℕ → Walked
-  kindStep k n w = judged (cond (not (named k)) 22 (cond (invalid k (length returns) n w) 23 0)) at (runsKind go returns at s w k)
+  kindStep k n w = judged (cond (not (named k)) 22 (cond (invalid k (length returns) n w) 23 0)) at w (runsKind go returns at s w k)
 
-  kind-is : (k : Kind) (n w : ℕ) → kindStep k n w ≡ perform go returns at s (kindAction k s n w)
+  kind-is : (k : Kind) (n w : ℕ) → kindStep k n w ≡ perform go returns at w s (kindAction k s n w)
   kind-is straight n w = by-test (between 0xFD 0xFF n && far w) (λ t. rw t) (λ f. rw f)
   kind-is rectangle n w = refl
   kind-is modes n w = by-test (inside w) (λ t. rw t) (λ f. rw f)
@@ -34,7 +34,7 @@ module _ (go : List ℕ → ℕ → Setting → Walked) (returns : List ℕ) (at
   kind-is unnamed n w = refl
 
   step-is : (due : Due) (w : ℕ) →
-      judged (wordRefusal due (length returns) (numberOf w) w) at (runs go returns at s w due) ≡ perform go returns at s (actionBy due s (numberOf w) w)
+      judged (wordRefusal due (length returns) (numberOf w) w) at w (runs go returns at s w due) ≡ perform go returns at w s (actionBy due s (numberOf w) w)
   step-is Command w = kind-is (kindOf (numberOf w)) (numberOf w) w
   step-is FirstHalf w = by-test (eqb (numberOf w) 0xE1) (λ t. rw t) (λ f. rw f)
   step-is (SecondHalf first) w = by-test (eqb (numberOf w) 0xF1) (λ t. rw t) (λ f. rw f)
@@ -43,7 +43,7 @@ module _ (go : List ℕ → ℕ → Setting → Walked) (returns : List ℕ) (at
 pub stepped :
     (memory : List ℕ) (at left : ℕ) (returns : List ℕ) (s : Setting) → readable memory at ≡ true →
     walk memory (suc left) returns at s ≡
-    perform (walk memory left) returns at (settingAfter s (wordAt memory (at / 8))) (actionOf s (wordAt memory (at / 8)))
+    perform (walk memory left) returns at (wordAt memory (at / 8)) (settingAfter s (wordAt memory (at / 8))) (actionOf s (wordAt memory (at / 8)))
 unfolding walk actionOf
 stepped memory at left returns s e =
     let w = wordAt memory (at / 8) in

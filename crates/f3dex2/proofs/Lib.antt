@@ -3,4 +3,6 @@ pub mod StepLaws
 pub mod RunLaws
 pub mod MaskLaws
 pub mod TranslateLaws
+pub mod RefusalLaws
+pub mod BoundLaws
 pub mod ExampleLaws

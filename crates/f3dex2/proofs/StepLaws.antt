@@ -26,9 +26,9 @@ settled-stopped g at s out =
 
 module _ (r : Walked) (s t : State) (out : List ℕ) (read-more : t .read ≡ s .read + 1) where
   -- one command is read
-  settled-counted : t .written ≡ s .written → settled (counted r) s out ≡ settled r t out
-  settled-counted e =
-      let reads : s .read + suc (r .read) ≡ t .read + r .read = omega arith in
+  settled-counted : (w : ℕ) → t .written ≡ s .written → settled (counted w r) s out ≡ settled r t out
+  settled-counted w e =
+      let reads : s .read + suc (length (r .commands)) ≡ t .read + length (r .commands) = omega arith in
       λ i.
       record {
         number = r .number;
@@ -39,9 +39,9 @@ module _ (r : Walked) (s t : State) (out : List ℕ) (read-more : t .read ≡ s 
       }
 
   -- and one word is written
-  settled-written : (x : ℕ) → t .written ≡ s .written + 1 → settled (counted (written x r)) s out ≡ settled r t (putWord (s .written) x out)
-  settled-written x e =
-      let reads : s .read + suc (r .read) ≡ t .read + r .read = omega arith in
+  settled-written : (w x : ℕ) → t .written ≡ s .written + 1 → settled (counted w (written x r)) s out ≡ settled r t (putWord (s .written) x out)
+  settled-written w x e =
+      let reads : s .read + suc (length (r .commands)) ≡ t .read + length (r .commands) = omega arith in
       let words : s .written + suc (length (r .words)) ≡ t .written + length (r .words) = omega arith in
       let at : suc (s .written) ≡ t .written = omega arith in
       λ i.
@@ -144,14 +144,17 @@ module _ {memory : List ℕ} {at : ℕ} {s : State} {set : Setting} {action : Ac
   abbrev go : List ℕ → ℕ → Setting → Walked
   go = walk memory (4096 - (s .read + 1))
 
-  one-step : (returns : List ℕ) → walk memory (4096 - s .read) returns at (s .setting) ≡ perform go returns at set action
+  abbrev word : ℕ
+  word = wordAt memory (at / 8)
+
+  one-step : (returns : List ℕ) → walk memory (4096 - s .read) returns at (s .setting) ≡ perform go returns at word set action
   one-step returns =
       let e : 4096 - s .read ≡ suc (4096 - (s .read + 1)) = omega (arith, known .can .left) in
       rw (e, known .is-action, known .is-set) (stepped memory at (4096 - (s .read + 1)) returns (s .setting) (known .can .there))
 
-  step-by : {b : Action} → action ≡ b → (returns out : List ℕ) → walkFrom memory returns at s out ≡ settled (perform go returns at set b) s out
+  step-by : {b : Action} → action ≡ b → (returns out : List ℕ) → walkFrom memory returns at s out ≡ settled (perform go returns at word set b) s out
   step-by {b} e returns out =
-      ap (λ (r : Walked). settled r s out) (one-step returns) ∙ ap (λ (b : Action). settled (perform go returns at set b) s out) e
+      ap (λ (r : Walked). settled r s out) (one-step returns) ∙ ap (λ (b : Action). settled (perform go returns at word set b) s out) e
 
   -- the state after the command, with as many words written as before or one more
   abbrev next : ℕ → State
@@ -177,28 +180,28 @@ module _ {memory : List ℕ} {at : ℕ} {s : State} {set : Setting} {action : Ac
           later = later (s .written + 1) (omega arith);
           same =
               λ returns d.
-              rw is (step-by e returns out ∙ settled-written (go returns (at + 8) set) s (next (s .written + 1)) out refl x refl);
+              rw is (step-by e returns out ∙ settled-written (go returns (at + 8) set) s (next (s .written + 1)) out refl word x refl);
         }
 
     pub passes : action ≡ Pass → Goes memory at depth s out (at + 8) (next (s .written)) out
     passes e =
         record {
           later = later (s .written) (omega arith);
-          same = λ returns d. step-by e returns out ∙ settled-counted (go returns (at + 8) set) s (next (s .written)) out refl refl;
+          same = λ returns d. step-by e returns out ∙ settled-counted (go returns (at + 8) set) s (next (s .written)) out refl word refl;
         }
 
     pub branches : {target : ℕ} → action ≡ Branch target → Goes memory at depth s out target (next (s .written)) out
     branches {target} e =
         record {
           later = later (s .written) (omega arith);
-          same = λ returns d. step-by e returns out ∙ settled-counted (go returns target set) s (next (s .written)) out refl refl;
+          same = λ returns d. step-by e returns out ∙ settled-counted (go returns target set) s (next (s .written)) out refl word refl;
         }
 
     pub ends : action ≡ End → Ends memory at depth s out (next (s .written)) out
     ends e =
         record {
           later = later (s .written) (omega arith);
-          same = λ returns d. step-by e returns out ∙ settled-counted (resumed go returns set) s (next (s .written)) out refl refl;
+          same = λ returns d. step-by e returns out ∙ settled-counted (resumed go returns set) s (next (s .written)) out refl word refl;
         }
 
     pub calls : {target : ℕ} → action ≡ Call target → depth < 8 → Runs memory at depth s out target (at + 8) (next (s .written)) out
@@ -209,7 +212,7 @@ module _ {memory : List ℕ} {at : ℕ} {s : State} {set : Setting} {action : Ac
           same =
               λ returns d.
               step-by e returns out ∙
-              rw (lt-leb 8 (length returns) (omega arith)) (settled-counted (go ((at + 8) ∷ returns) target set) s (next (s .written)) out refl refl);
+              rw (lt-leb 8 (length returns) (omega arith)) (settled-counted (go ((at + 8) ∷ returns) target set) s (next (s .written)) out refl word refl);
         }
 
     pub too-deep : {target : ℕ} → action ≡ Call target → 8 ≤ depth → Refuses memory at depth s out 23 at s out

@@ -56,8 +56,8 @@ module _ (memory : List ℕ) (at : ℕ) where
     refused-place : whole .place ≡ place
     refused-place = ap (λ (x : Settled). x .place) (list .same [] refl)
 
-    refused-read : whole .read ≡ t .read
-    refused-read = sym (zero-add (whole .read)) ∙ ap (λ (x : Settled). x .read) (list .same [] refl)
+    refused-read : length (whole .commands) ≡ t .read
+    refused-read = sym (zero-add (length (whole .commands))) ∙ ap (λ (x : Settled). x .read) (list .same [] refl)
 
     pub refused-answer : (room : ℕ) → _≡_ {A = Translated} (record { number = number; place = place; read = t .read }) (answerOf whole room)
     unfolding answerOf
@@ -72,8 +72,8 @@ module _ (memory : List ℕ) (at : ℕ) where
     ended-number : whole .number ≡ 0
     ended-number = ap (λ (x : Settled). x .number) (list .same [] refl)
 
-    ended-read : whole .read ≡ t .read
-    ended-read = sym (zero-add (whole .read)) ∙ ap (λ (x : Settled). x .read) (list .same [] refl) ∙ add-zero (t .read)
+    ended-read : length (whole .commands) ≡ t .read
+    ended-read = sym (zero-add (length (whole .commands))) ∙ ap (λ (x : Settled). x .read) (list .same [] refl) ∙ add-zero (t .read)
 
     ended-words : length (whole .words) ≡ t .written
     ended-words = sym (zero-add (length (whole .words))) ∙ ap (λ (x : Settled). x .words) (list .same [] refl) ∙ add-zero (t .written)

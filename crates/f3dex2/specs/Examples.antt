@@ -3,6 +3,7 @@ use Prim.Native.Nat.{ℕ}
 use mathlib.Core.Bool.{Bool, true, false, cond, _&&_}
 use mathlib.Core.List.{List, [], _∷_}
 use lib.Dec.{eqb}
+use lib.ListN.{length}
 use Rattle.f3dex2.specs.Walk.{Walked}
 use Rattle.f3dex2.specs.Translate.{walked, joined}
 
@@ -62,7 +63,7 @@ same (x ∷ xs) (y ∷ ys) = eqb x y && same xs ys
 -- of a refused walk the words do not count
 abbrev pub rightAs : Walked → Example → Bool
 rightAs r e =
-    eqb (r .number) (e .number) && eqb (r .place) (e .place) && eqb (r .read) (e .read) &&
+    eqb (r .number) (e .number) && eqb (r .place) (e .place) && eqb (length (r .commands)) (e .read) &&
     cond (eqb (e .number) 0) (same (r .words) (e .words)) true
 
 abbrev pub right : Example → Bool

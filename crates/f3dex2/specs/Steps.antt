@@ -53,14 +53,14 @@ unfoldable pub actionOf : Setting → ℕ → Action
 actionOf s w = actionBy (s .due) (settingAfter s w) (numberOf w) w
 
 -- the walk from there on; a ninth call deep is refused here
-abbrev pub perform : (List ℕ → ℕ → Setting → Walked) → List ℕ → ℕ → Setting → Action → Walked
-perform go returns at s Unknown = stopped 22 at
-perform go returns at s Invalid = stopped 23 at
-perform go returns at s (Write w) = counted (written w (go returns (at + 8) s))
-perform go returns at s Pass = counted (go returns (at + 8) s)
-perform go returns at s (Call target) = cond (leb 8 (length returns)) (stopped 23 at) (counted (go ((at + 8) ∷ returns) target s))
-perform go returns at s (Branch target) = counted (go returns target s)
-perform go returns at s End = counted (resumed go returns s)
+abbrev pub perform : (List ℕ → ℕ → Setting → Walked) → List ℕ → ℕ → ℕ → Setting → Action → Walked
+perform go returns at w s Unknown = stopped 22 at
+perform go returns at w s Invalid = stopped 23 at
+perform go returns at w s (Write x) = counted w (written x (go returns (at + 8) s))
+perform go returns at w s Pass = counted w (go returns (at + 8) s)
+perform go returns at w s (Call target) = cond (leb 8 (length returns)) (stopped 23 at) (counted w (go ((at + 8) ∷ returns) target s))
+perform go returns at w s (Branch target) = counted w (go returns target s)
+perform go returns at w s End = counted w (resumed go returns s)
 
 -- 20 or 21, or 0 where a command can be read
 abbrev pub readRefusal : List ℕ → ℕ → ℕ → ℕ
@@ -100,7 +100,7 @@ settled r s out =
     record {
       number = r .number;
       place = r .place;
-      read = s .read + r .read;
+      read = s .read + length (r .commands);
       words = s .written + length (r .words);
       out = putWords (s .written) (r .words) out;
     }

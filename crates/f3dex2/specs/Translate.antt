@@ -22,8 +22,8 @@ joined (w ∷ ws) = bytesOf w ++ joined ws
 unfoldable pub answerOf : Walked → ℕ → Translated
 answerOf r room =
     cond (eqb (r .number) 0)
-    (record { number = cond (leb (8 * length (r .words)) room) 0 14; place = length (r .words); read = r .read })
-    (record { number = r .number; place = r .place; read = r .read })
+    (record { number = cond (leb (8 * length (r .words)) room) 0 14; place = length (r .words); read = length (r .commands) })
+    (record { number = r .number; place = r .place; read = length (r .commands) })
 
 abbrev pub translateAnswer : List ℕ → ℕ → ℕ → Translated
 translateAnswer memory start room = answerOf (walked memory start) room

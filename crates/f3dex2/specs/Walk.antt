@@ -11,24 +11,24 @@ use Rattle.f3dex2.specs.declared.Due.{Due}
 use Rattle.f3dex2.specs.declared.Due.the-variants.{Command, FirstHalf, SecondHalf}
 use Rattle.f3dex2.specs.declared.Setting.{Setting}
 
--- what a walk comes to: the number of the refusal or 0, its offset, the commands read, and the words to write
+-- what a walk comes to: the number of the refusal or 0, its offset, the commands read, each by its word, and the words to write
 pub record Walked : Type 0 where
   pub number : ℕ
   pub place : ℕ
-  pub read : ℕ
+  pub commands : List ℕ
   pub words : List ℕ
 
 -- a refusal; "a refused one not" counted
 abbrev pub stopped : ℕ → ℕ → Walked
-stopped number place = record { number = number; place = place; read = 0; words = [] }
+stopped number place = record { number = number; place = place; commands = []; words = [] }
 
 -- one command is read first, "half-words counted"
-abbrev pub counted : Walked → Walked
-counted r = record { number = r .number; place = r .place; read = suc (r .read); words = r .words }
+abbrev pub counted : ℕ → Walked → Walked
+counted w r = record { number = r .number; place = r .place; commands = w ∷ r .commands; words = r .words }
 
 -- one word is written first
 abbrev pub written : ℕ → Walked → Walked
-written w r = record { number = r .number; place = r .place; read = r .read; words = w ∷ r .words }
+written w r = record { number = r .number; place = r .place; commands = r .commands; words = w ∷ r .words }
 
 -- ---- the refusals of a command
 
@@ -104,13 +104,13 @@ runs go returns at s w (SecondHalf first) = written (secondWord first w) (go ret
 -- ---- the walk
 
 -- a command that is refused with a number, "place being the offset", or that is read
-abbrev pub judged : ℕ → ℕ → Walked → Walked
-judged zero at r = counted r
-judged (suc g) at r = stopped (suc g) at
+abbrev pub judged : ℕ → ℕ → ℕ → Walked → Walked
+judged zero at w r = counted w r
+judged (suc g) at w r = stopped (suc g) at
 
 -- from an offset, with so many commands that may still be read
 unfoldable pub walk : List ℕ → ℕ → List ℕ → ℕ → Setting → Walked
 walk memory zero returns at s = stopped (refusalAt memory 0 (length returns) at s) at
 walk memory (suc left) returns at s =
     let w = wordAt memory (at / 8) in
-    judged (refusalAt memory (suc left) (length returns) at s) at (runs (walk memory left) returns at (settingAfter s w) w (s .due))
+    judged (refusalAt memory (suc left) (length returns) at s) at w (runs (walk memory left) returns at (settingAfter s w) w (s .due))
