@@ -45,6 +45,10 @@ module _ (memory : List ℕ) (left depth at : ℕ) (s : Setting) (z : refusalAt 
   pub sane-there : Sane (s .due) depth (numberOf w) w
   sane-there = sane (s .due) depth (numberOf w) w (passed (spent left) 21 (wordRefusal (s .due) depth (numberOf w) w) (omega arith) (readable-there .1) .1)
 
+-- where no more may be read, something refuses
+pub none-left : (memory : List ℕ) (depth at : ℕ) (s : Setting) → refusalAt memory 0 depth at s ≡ 0 → ⊥
+none-left memory depth at s z = omega (arith, readable-there memory 0 depth at s z .1)
+
 -- ---- which numbers there are
 
 cond-most : (b : Bool) (x y m : ℕ) → x ≤ m → y ≤ m → cond b x y ≤ m
