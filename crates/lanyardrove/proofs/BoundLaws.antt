@@ -1,11 +1,12 @@
 -- The answers that occur fit the bits that they are packed into, so that none loses a part. Assumes nothing.
-use Prim.Native.Nat.{ℕ, _%_, _^_, _<_, _≤_}
+use Prim.Native.Nat.{ℕ, _%_, _^_, _<_, _≤_, min}
 use mathlib.Core.Bool.{Bool, true, false, cond, not}
 use mathlib.Core.List.{List}
 use mathlib.Core.Path.{_≡_, refl, _∙_, ap}
 use native.Mathlib.Nat.{mod-lt}
 use native.Mathlib.Omega.{arith}
 use lib.Dec.{eqb, lit<}
+use lib.ListN.{length, length-take}
 use Rattle.rdp_words.specs.Words.{wordAt}
 use Rattle.rdp_words.specs.Lengths.{firstNumber}
 use Rattle.rdp_command.specs.Decode.{decodeOf}
@@ -25,7 +26,8 @@ use Rattle.rdp_draw.proofs.BoundLaws.{drawNumbers, draw-numbers, draw-place}
 use Rattle.rdp_stream.proofs.StreamLaws.{Near, fed-near, closed-near, fed-told, closed-told}
 use Rattle.rdp_stream.specs.declared.Fed.{Fed}
 use Rattle.rdp_stream.specs.Records.{fedOf, closedOf}
-use Rattle.lanyardrove.specs.Replies.{Reply, reply, packed, unpacked, plain, stepReply, checkReply, repairReply, drawReply, decodedReply, decodeReply, madeReply, encodeReply, toldReply, Occurs, ofStep, ofCheck, ofRepair, ofDraw, ofDecode, ofEncode, ofFeed, ofClose}
+use Rattle.lanyardrove.specs.Replies.{Reply, reply, packed, unpacked, plain, stepReply, checkReply, repairReply, drawReply, decodedReply, decodeReply, madeReply, encodeReply, toldReply, Occurs, ofStep, ofCheck, ofRepair, ofDraw, ofDecode, ofEncode, ofFeed, ofClose, lentPart, translateReply, ofTranslate}
+use Rattle.f3dex2.proofs.BoundLaws.{answer-bounds}
 use Rattle.lanyardrove.proofs.PackLaws.{Small, unpacked-packed, packed-fits}
 
 step-small : (hazards number : ℕ) → Small (stepReply hazards number)
@@ -89,6 +91,14 @@ encode-small number fields suffix out = made-small number fields suffix out (fro
 told-small : (x : Fed) → Near (x .answer) → toldReply x .third ≤ 409600 → Small (toldReply x)
 told-small x k most = record { number = omega (arith, k .number); third = omega (arith, most); place = k .place }
 
+lent-short : (memory : List ℕ) → length (lentPart memory) ≤ 0xFFFFFFF8
+lent-short memory = omega (arith, length-take (min (length memory) 0xFFFFFFF8) memory)
+
+translate-small : (memory : List ℕ) (start room : ℕ) → start < 2 ^ 32 → Small (translateReply memory start room)
+translate-small memory start room h =
+    let b = answer-bounds (lentPart memory) start 0xFFFFFFFF room (omega arith) (omega (arith, lent-short memory)) (omega arith) in
+    record { number = omega (arith, b .number); third = omega (arith, b .read); place = omega (arith, b .place) }
+
 -- every answer that occurs fits its bits
 pub small : {r : Reply} → Occurs r → Small r
 small (ofStep hazards number) = step-small hazards number
@@ -99,6 +109,7 @@ small (ofDecode list fields) = decode-small list fields
 small (ofEncode number fields suffix out) = encode-small number fields suffix out
 small (ofFeed r long near portion) = told-small (fedOf r portion) (fed-near r long near portion) (fed-told r long near portion)
 small (ofClose r long near) = told-small (closedOf r) (closed-near r long near) (closed-told r long near)
+small (ofTranslate memory start room h) = translate-small memory start room h
 
 -- and so the parts that are read back are the answer's, and the packed number is one of 64 bits
 pub replies-kept : {r : Reply} → Occurs r → (unpacked (packed r) ≡ r) × (packed r < 2 ^ 64)

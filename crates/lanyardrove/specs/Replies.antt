@@ -4,7 +4,7 @@ use mathlib.Core.Bool.{cond}
 use mathlib.Core.List.{List}
 use mathlib.Core.Path.{_≡_}
 use lib.Dec.{eqb}
-use lib.ListN.{length}
+use lib.ListN.{length, take}
 use Rattle.rdp_words.specs.Lengths.{firstNumber}
 use Rattle.rdp_command.specs.Decode.{decodeOf}
 use Rattle.rdp_command.specs.Encode.{encodeAnswer, encodeOut}
@@ -21,6 +21,8 @@ use Rattle.rdp_stream.specs.Records.{fedOf, closedOf}
 use Rattle.rdp_stream.specs.declared.Stream.{Stream}
 use Rattle.rdp_stream.specs.declared.Fed.{Fed}
 use Rattle.lanyardrove.specs.declared.Packed.{Packed}
+use Rattle.f3dex2.specs.Translate.{translateAnswer, translateOut}
+use Rattle.f3dex2.specs.declared.Translated.{Translated}
 
 -- the number of the refusal, 0 for acceptance; a third number; and the place
 pub record Reply : Type 0 where
@@ -120,6 +122,24 @@ fedPacked r portion = record { after = fedOf r portion .after; answer = packed (
 abbrev pub closedPacked : Stream → Packed
 closedPacked r = record { after = closedOf r .after; answer = packed (closeReply r) }
 
+-- of a memory 4,294,967,288 bytes count as lent, so that every offset fits 32 bits: what lies beyond counts as not lent
+abbrev pub mostLent : ℕ
+mostLent = 0xFFFFFFF8
+
+abbrev pub lentPart : List ℕ → List ℕ
+lentPart memory = take (min (length memory) mostLent) memory
+
+-- a display list, written as an RDP list (#108): the third number is the display list commands read
+abbrev pub translatedReply : Translated → Reply
+translatedReply t = reply (t .number) (t .read) (t .place)
+
+abbrev pub translateReply : List ℕ → ℕ → ℕ → Reply
+translateReply memory start room = translatedReply (translateAnswer (lentPart memory) start room)
+
+-- the output after it; at a refusal, as it was
+abbrev pub translateBytes : List ℕ → ℕ → List ℕ → List ℕ
+translateBytes memory start out = translateOut (lentPart memory) start out
+
 -- the answers that there are; of a record, its held bytes are 176 and its place is a 32-bit number
 pub data Occurs : Reply → Type 0 where
   ofStep : (hazards number : ℕ) → Occurs (stepReply hazards number)
@@ -130,3 +150,4 @@ pub data Occurs : Reply → Type 0 where
   ofEncode : (number : ℕ) (fields suffix out : List ℕ) → Occurs (encodeReply number fields suffix out)
   ofFeed : (r : Stream) → length (r .held) ≡ 176 → r .place < 2 ^ 32 → (portion : List ℕ) → Occurs (feedReply r portion)
   ofClose : (r : Stream) → length (r .held) ≡ 176 → r .place < 2 ^ 32 → Occurs (closeReply r)
+  ofTranslate : (memory : List ℕ) (start room : ℕ) → start < 2 ^ 32 → Occurs (translateReply memory start room)

@@ -4,6 +4,7 @@ ghost use mathlib.Core.Path.{_≡_};
 ghost use Prim.Native.Nat.{_+_, _<_, _^_, min};
 ghost use lib.Dec.{eqb};
 ghost use lib.ListN.{length};
+ghost use Rattle.lanyardrove.specs.Replies.{mostLent, translateReply, translateBytes};
 ghost use Rattle.rdp_words.specs.Lengths.{commandWords};
 ghost use Rattle.rdp_draw.specs.Draw.{drawn, memories};
 ghost use Rattle.lanyardrove.specs.Replies.{reply, mostThird, packed, stepReply, checkReply, RepairReplies, drawReply, decodeReply, decodeFields, encodeReply, encodeBytes, fedPacked, closedPacked};
@@ -209,4 +210,30 @@ pub extern "C" fn lanyardrove_stream_close(lent: &mut Stream) -> u64
     let both = close_packed(before);
     *lent = both.after;
     both.answer
+}
+
+// How many bytes of a memory count as lent: at most 4,294,967,288, so that every offset fits 32 bits.
+fn lent_length(length: usize) -> usize
+    ensures { λ r. ⌜ r ≡ min length mostLent ⌝ }
+{
+    if length < 0xFFFF_FFF8 {
+        return length;
+    }
+    0xFFFF_FFF8
+}
+
+// Writes the RDP list of the Fast3DEX2 display list at an offset of a memory: the first of refusals 20 to 23 at the offset of the refused command, then 14 at
+// the words needed, or 0 and the words written. The third number is the display list commands read.
+#[no_mangle]
+pub extern "C" fn lanyardrove_translate(memory: &[u8], start: u32, out: &mut [u8]) -> u64
+    ensures reply { λ r. ⌜ r ≡ packed (translateReply (now (memory .entry)) start (length (now (out .entry)))) ⌝ }
+    ensures output { λ _. ⌜ now (out .exit) ≡ translateBytes (now (memory .entry)) start (now (out .entry)) ⌝ }
+{
+    let end = lent_length(memory.len());
+    let translated = f3dex2::translate(&memory[0..end], start as usize, out);
+    pack(
+        translated.number,
+        translated.read as u32,
+        translated.place as u32,
+    )
 }

@@ -1,0 +1,10 @@
+-- The worked examples hold of the definition, which antt computes. Assumes nothing.
+use lib.Dec.{T}
+use Rattle.rdp_words.specs.Words.{halfOf, wordAt}
+use Rattle.f3dex2.specs.Commands.{kindOf, modified, settingAfter}
+use Rattle.f3dex2.specs.Walk.{walk}
+use Rattle.f3dex2.specs.Examples.{examples, allRight}
+
+pub examples-hold : T (allRight examples)
+unfolding examples halfOf wordAt kindOf modified settingAfter walk
+examples-hold = tt

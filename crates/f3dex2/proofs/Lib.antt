@@ -1,0 +1,11 @@
+pub mod ActionLaws
+pub mod StepLaws
+pub mod RunLaws
+pub mod MaskLaws
+pub mod TranslateLaws
+pub mod RefusalLaws
+pub mod BoundLaws
+pub mod KindLaws
+pub mod WrittenLaws
+pub mod DecodeLaws
+pub mod ExampleLaws
