@@ -23,6 +23,7 @@ const FUNCTIONS: &[&str] = &[
     "lanyardrove_step",
     "lanyardrove_stream_feed",
     "lanyardrove_stream_close",
+    "lanyardrove_translate",
 ];
 const BENCH_FUNCTIONS: &[&str] = &["lanyardrove_bench_registers"];
 

@@ -23,6 +23,10 @@ pub enum Ground {
     NotCopied = 17,
     OutsideTexture = 18,
     UnassignedNumber = 19,
+    OffsetOutside = 20,
+    TooManyRead = 21,
+    NotTranslated = 22,
+    WrongParameter = 23,
 }
 
 /// A refusal: its ground and its place.

@@ -1,15 +1,15 @@
 //! The answers as the C functions give them, each in one 64-bit number: bits
 //! 63:56 the number, bits 31:0 the place (words written, at 0), bits 55:32 the
 //! third number (cause for check, cycles for repair, command number for decode,
-//! sync for step, total waiting for streams, else 0). Only the words of a command are
-//! a plain count.
+//! sync for step, total waiting for streams, commands read for translate, else 0).
+//! Only the words of a command are a plain count.
 
 use crate::answer::{Ground, Refusal};
 use crate::kinds::{words_from, Sync};
 use crate::marks::Marks;
 use crate::record::{self, Record};
 use crate::stream::{Stream, Told, DAMAGED};
-use crate::{check, decode, draw, encode, repair};
+use crate::{check, decode, display, draw, encode, repair};
 
 /// An answer in its three parts.
 #[derive(Clone, Copy, Debug, PartialEq, Eq)]
@@ -48,7 +48,7 @@ fn accepted(place: usize, third: u32) -> u64 {
     packed(0, place, third)
 }
 
-/// A refusal's third number is 0, but for the check's and a stream's.
+/// A refusal's third number is 0, but for the check's, a stream's and a translation's.
 fn refused(refusal: Refusal) -> u64 {
     packed(refusal.ground as u8, refusal.place, 0)
 }
@@ -56,14 +56,19 @@ fn refused(refusal: Refusal) -> u64 {
 /// The greatest third number. As a cause it stands for that and more.
 const MOST_THIRD: usize = 0xFF_FFFF;
 
+/// An answer that has its third number at refusals too.
+fn told_always(outcome: Result<usize, Refusal>, third: usize) -> u64 {
+    let third = third.min(MOST_THIRD) as u32;
+    match outcome {
+        Ok(place) => accepted(place, third),
+        Err(refusal) => packed(refusal.ground as u8, refusal.place, third),
+    }
+}
+
 /// `lanyardrove_check`.
 pub fn check(list: &[u8]) -> u64 {
     let checked = check::check(list);
-    let cause = checked.cause.min(MOST_THIRD) as u32;
-    match checked.outcome {
-        Ok(words) => packed(0, words, cause),
-        Err(refusal) => packed(refusal.ground as u8, refusal.place, cause),
-    }
+    told_always(checked.outcome, checked.cause)
 }
 
 /// `lanyardrove_repair`.
@@ -159,4 +164,10 @@ fn called(record: &mut Record, call: impl FnOnce(&mut Stream) -> Told) -> u64 {
 fn told(answer: Told, total: u32) -> u64 {
     let third = if answer.number == DAMAGED { 0 } else { total };
     packed(answer.number as u8, answer.place as usize, third)
+}
+
+/// `lanyardrove_translate`: "the number read is part of the answer".
+pub fn translate(memory: &[u8], start: u32, out: &mut [u8]) -> u64 {
+    let translated = display::translate(memory, start, out);
+    told_always(translated.outcome, translated.read)
 }

@@ -10,6 +10,7 @@ use reference::comparison::lists::list;
 use reference::comparison::rng::Rng;
 use reference::comparison::run::{run, Difference};
 use reference::comparison::side::{Reference, Side};
+use reference::display::{walk, MOST_CALLS};
 use reference::kinds::{commands, is_draw, is_textured_draw, is_unassigned};
 use reference::record::{pack, unpack, Record, NUMBERS};
 use reference::stream::{MOST_TOTAL, ROOM};
@@ -126,14 +127,32 @@ enum Fault {
     SpareCleared,
     /// A remembered 19 is taken for damage.
     UnassignedDamages,
+    /// A refused display list command counts as read.
+    RefusedRead,
+    /// At 14 the commands read are not told.
+    ReadAtGround14,
+    /// Half-words are not counted.
+    HalfWordsUncounted,
+    /// Data beyond shift and count are dropped.
+    DataMasked,
+    /// An eighth call is refused.
+    EighthCall,
+    /// A refused call is told by its target.
+    TargetTold,
+    /// Of a going's parameter the lowest bit counts.
+    ParameterBit,
+    /// A cut display list command is read as if zeros followed.
+    CutRead,
+    /// Bits 63:62 of a display list command are kept.
+    TopBitsKept,
 }
 
 /// The reference with one fault.
 struct Faulty(Fault);
 
-/// A check's answer with another cause.
-fn with_cause(answer: u64, cause: usize) -> u64 {
-    answer & !(0xFF_FFFF << 32) | (cause as u64) << 32
+/// An answer with another third number.
+fn with_third(answer: u64, third: usize) -> u64 {
+    answer & !(0xFF_FFFF << 32) | (third as u64) << 32
 }
 
 /// The places of the draws before the place of an answer.
@@ -179,7 +198,7 @@ impl Side for Faulty {
             (Fault::WordsOverLimit, 1) => Some(4_096),
             _ => None,
         };
-        cause.map_or(answer, |cause| with_cause(answer, cause))
+        cause.map_or(answer, |cause| with_third(answer, cause))
     }
 
     fn repair(&self, list: &[u8], work: &mut [u8], out: &mut [u8]) -> u64 {
@@ -275,6 +294,61 @@ impl Side for Faulty {
     fn close(&self, record: &mut Record) -> u64 {
         faulty_close(self.0, record)
     }
+
+    fn translate(&self, memory: &[u8], start: u32, out: &mut [u8]) -> u64 {
+        faulty_translate(self.0, memory, start, out)
+    }
+}
+
+/// A display list translated with one fault.
+fn faulty_translate(fault: Fault, memory: &[u8], start: u32, out: &mut [u8]) -> u64 {
+    let read = with_other_words(fault, memory);
+    let answer = Reference.translate(&read, start, out);
+    let place = answer as u32 as usize;
+    let one_read = 1 << 32;
+    match (fault, ground(answer)) {
+        (Fault::RefusedRead, 20..=23) => answer + one_read,
+        (Fault::ReadAtGround14, 14) => with_third(answer, 0),
+        (Fault::HalfWordsUncounted, 0) => {
+            let rectangles = (0..place).filter(|at| matches!(out[8 * at], 0x24 | 0x25));
+            answer - 2 * rectangles.count() as u64 * one_read
+        }
+        (Fault::EighthCall, 0) if walk(memory, start).deepest == MOST_CALLS => 23 << 56,
+        (Fault::TargetTold, 23) if memory[place] == 0xDE => {
+            answer | word_at(memory, place / 8) & 0xFFFF_FFFF
+        }
+        (Fault::TopBitsKept, 0) if place > 0 => {
+            out[0] |= 0xC0;
+            answer
+        }
+        _ => answer,
+    }
+}
+
+/// Drops the data of a change of the other modes that lie beyond its shift and count.
+fn mask_data(word: &mut [u8]) {
+    let (shift, count) = (u32::from(word[2]), u32::from(word[3]) + 1);
+    if shift + count <= 32 {
+        let kept = (1u64 << count) - 1 << (32 - shift - count);
+        let data = word_at(word, 0) & kept;
+        word[4..].copy_from_slice(&(data as u32).to_be_bytes());
+    }
+}
+
+/// The memory as a side with a fault reads it.
+fn with_other_words(fault: Fault, memory: &[u8]) -> Vec<u8> {
+    let mut read = memory.to_vec();
+    if fault == Fault::CutRead {
+        read.resize(memory.len().next_multiple_of(8), 0);
+    }
+    for word in read.chunks_exact_mut(8) {
+        match (fault, word[0]) {
+            (Fault::DataMasked, 0xE2 | 0xE3) => mask_data(word),
+            (Fault::ParameterBit, 0xDE) => word[1] &= 1,
+            _ => {}
+        }
+    }
+    read
 }
 
 /// A stream fed with one fault.
@@ -382,6 +456,15 @@ fn every_fault_is_found_in_its_function() {
         (Fault::TotalUnseen, Function::Stream),
         (Fault::SpareCleared, Function::Stream),
         (Fault::UnassignedDamages, Function::Stream),
+        (Fault::RefusedRead, Function::Translate),
+        (Fault::ReadAtGround14, Function::Translate),
+        (Fault::HalfWordsUncounted, Function::Translate),
+        (Fault::DataMasked, Function::Translate),
+        (Fault::EighthCall, Function::Translate),
+        (Fault::TargetTold, Function::Translate),
+        (Fault::ParameterBit, Function::Translate),
+        (Fault::CutRead, Function::Translate),
+        (Fault::TopBitsKept, Function::Translate),
     ];
     for (fault, function) in faults {
         assert_eq!(found(fault).call.function, function, "{fault:?}");

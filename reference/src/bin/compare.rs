@@ -20,7 +20,8 @@ static ARCHIVE: Foreign = foreign!(
     lanyardrove_decode,
     lanyardrove_encode,
     lanyardrove_words,
-    lanyardrove_step
+    lanyardrove_step,
+    lanyardrove_translate
 );
 
 /// The arguments: seed, number of cases, first case.

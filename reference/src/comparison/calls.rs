@@ -16,10 +16,11 @@ pub enum Function {
     Words,
     Step,
     Stream,
+    Translate,
 }
 
 impl Function {
-    pub const COUNT: usize = 8;
+    pub const COUNT: usize = 9;
     pub const ALL: [Function; Function::COUNT] = [
         Function::Check,
         Function::Repair,
@@ -29,6 +30,7 @@ impl Function {
         Function::Words,
         Function::Step,
         Function::Stream,
+        Function::Translate,
     ];
 
     pub fn name(self) -> &'static str {
@@ -41,6 +43,7 @@ impl Function {
             Function::Words => "words",
             Function::Step => "step",
             Function::Stream => "stream",
+            Function::Translate => "translate",
         }
     }
 }
@@ -56,7 +59,7 @@ pub struct Call {
     pub word: u64,
     /// The marks before a step.
     pub hazards: u32,
-    /// The address of lent memory.
+    /// The address of lent memory, or the offset of a display list in it.
     pub start: u64,
     pub list: Lent<u8>,
     pub suffix: Lent<u8>,
@@ -109,6 +112,10 @@ impl Call {
             Function::Words => side.words(self.word),
             Function::Step => side.step(self.hazards, self.number),
             Function::Stream => self.portions.make(side, list),
+            Function::Translate => {
+                let start = self.start as u32;
+                side.translate(self.memory.slice(), start, self.out.slice_mut())
+            }
         }
     }
 
@@ -171,6 +178,7 @@ impl fmt::Display for Call {
                 writeln!(f, "hazards {:#x}, number {:#x}", self.hazards, self.number)
             }
             Function::Stream => write!(f, "{}", self.portions),
+            Function::Translate => self.describe_translation(f),
         }
     }
 }
@@ -181,6 +189,17 @@ impl Call {
         writeln!(f, "fields {:x?}", self.fields.slice())?;
         writeln!(f, "suffix {}", hexadecimal(self.suffix.slice()))?;
         writeln!(f, "out {} bytes", self.out.len())
+    }
+
+    fn describe_translation(&self, f: &mut fmt::Formatter) -> fmt::Result {
+        let memory = self.memory.slice();
+        writeln!(
+            f,
+            "memory ({} bytes): {}",
+            memory.len(),
+            hexadecimal(memory)
+        )?;
+        writeln!(f, "start {:#x}, out {} bytes", self.start, self.out.len())
     }
 }
 

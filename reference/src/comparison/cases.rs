@@ -3,11 +3,13 @@
 
 use crate::check::{check, walk, Syncs};
 use crate::comparison::calls::{Call, Function};
+use crate::comparison::displays::display;
 use crate::comparison::encodings::encode_call;
 use crate::comparison::lent::Lent;
 use crate::comparison::portions::Portions;
 use crate::comparison::rng::Rng;
 use crate::decode::decode;
+use crate::display::walk as walk_display;
 use crate::draw::{works, Work};
 use crate::kinds::{commands, Command};
 use crate::repair::{least_plan, with_plan, REPAIR_LIMIT, WORK_BYTES};
@@ -28,6 +30,7 @@ pub fn calls(rng: &mut Rng, case: u64, list: &[u8]) -> Vec<Call> {
         words_call(rng, case),
         step_call(rng, case),
         stream_call(rng, list),
+        translate_call(rng, case),
     ]
 }
 
@@ -187,4 +190,16 @@ fn memory_anywhere(rng: &mut Rng) -> (u64, u64) {
     let near_end = u64::MAX - rng.below(100);
     let any = rng.number();
     (rng.pick(&[0, 0, near_end, any]), rng.below(100))
+}
+
+/// A display list, with room for what is written up to a refusal.
+fn translate_call(rng: &mut Rng, case: u64) -> Call {
+    let display = display(rng, case);
+    let written = walk_display(&display.memory, display.start).words.len();
+    Call {
+        start: display.start.into(),
+        memory: Lent::of(rng, &display.memory),
+        out: room(rng, written * WORD_BYTES, WORD_BYTES),
+        ..Call::of(Function::Translate)
+    }
 }

@@ -14,6 +14,7 @@ pub type Words = unsafe extern "C" fn(u64) -> u64;
 pub type Step = unsafe extern "C" fn(u32, u32) -> u64;
 pub type Feed = unsafe extern "C" fn(*mut Record, *const u8, usize) -> u64;
 pub type Close = unsafe extern "C" fn(*mut Record) -> u64;
+pub type Translate = unsafe extern "C" fn(*const u8, usize, u32, *mut u8, usize) -> u64;
 
 /// Functions that ask of their pointers only that each lends as much as the
 /// length after it says.
@@ -28,6 +29,7 @@ pub struct Foreign {
     pub encode: Option<Encode>,
     pub words: Option<Words>,
     pub step: Option<Step>,
+    pub translate: Option<Translate>,
 }
 
 /// Declares functions of C by their names, and gives them as a `Foreign`: check,
@@ -37,7 +39,7 @@ pub struct Foreign {
 macro_rules! foreign {
     (
         $check:ident, $repair:ident, $draw:ident, $feed:ident, $close:ident
-        $(, $decode:ident, $encode:ident, $words:ident, $step:ident)?
+        $(, $decode:ident, $encode:ident, $words:ident, $step:ident, $translate:ident)?
     ) => {{
         extern "C" {
             fn $check(list: *const u8, list_length: usize) -> u64;
@@ -82,6 +84,13 @@ macro_rules! foreign {
                 ) -> u64;
                 fn $words(first_word: u64) -> u64;
                 fn $step(hazards: u32, number: u32) -> u64;
+                fn $translate(
+                    memory: *const u8,
+                    memory_length: usize,
+                    start: u32,
+                    out: *mut u8,
+                    out_length: usize,
+                ) -> u64;
             )?
         }
         $crate::comparison::foreign::Foreign {
@@ -94,6 +103,7 @@ macro_rules! foreign {
             encode: $crate::foreign!($($encode)?),
             words: $crate::foreign!($($words)?),
             step: $crate::foreign!($($step)?),
+            translate: $crate::foreign!($($translate)?),
         }
     }};
     () => { None };
@@ -176,5 +186,14 @@ impl Side for Foreign {
 
     fn close(&self, record: &mut Record) -> u64 {
         unsafe { (self.close)(record) }
+    }
+
+    fn translate(&self, memory: &[u8], start: u32, out: &mut [u8]) -> u64 {
+        let Some(translate) = self.translate else {
+            return packed::translate(memory, start, out);
+        };
+        let (memory, memory_length) = (memory.as_ptr(), memory.len());
+        let (out, out_length) = (out.as_mut_ptr(), out.len());
+        unsafe { translate(memory, memory_length, start, out, out_length) }
     }
 }

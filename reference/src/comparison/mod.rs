@@ -5,6 +5,7 @@ pub mod builder;
 pub mod calls;
 pub mod cases;
 pub mod counts;
+pub mod displays;
 pub mod encodings;
 pub mod foreign;
 pub mod laws;

@@ -15,6 +15,7 @@ pub trait Side {
     fn step(&self, hazards: u32, number: u32) -> u64;
     fn feed(&self, record: &mut Record, portion: &[u8]) -> u64;
     fn close(&self, record: &mut Record) -> u64;
+    fn translate(&self, memory: &[u8], start: u32, out: &mut [u8]) -> u64;
 }
 
 /// This crate.
@@ -55,5 +56,9 @@ impl Side for Reference {
 
     fn close(&self, record: &mut Record) -> u64 {
         packed::close(record)
+    }
+
+    fn translate(&self, memory: &[u8], start: u32, out: &mut [u8]) -> u64 {
+        packed::translate(memory, start, out)
     }
 }
