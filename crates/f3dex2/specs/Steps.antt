@@ -25,6 +25,10 @@ use Rattle.f3dex2.specs.declared.Outcome.the-variants as outcome
 
 -- ---- what a command does
 
+-- two words of the other modes, where no half-word is due
+abbrev pub modesOnly : ℕ → ℕ → Setting
+modesOnly high low = record { high = high; low = low; due = Command }
+
 -- 0xDE, but for how deep a call is
 abbrev pub listAction : ℕ → Action
 listAction w =

@@ -3,7 +3,7 @@ use crate::*;
 ghost use mathlib.Core.Path.{_≡_};
 ghost use Prim.Native.Nat.{_+_, _≤_};
 ghost use Rattle.f3dex2.specs.Commands.{numberOf, kindOf, masked, modified, settingBy, settingAfter, modesWord};
-ghost use Rattle.f3dex2.specs.Steps.{listAction, modesAction, kindAction, actionBy};
+ghost use Rattle.f3dex2.specs.Steps.{modesOnly, listAction, modesAction, kindAction, actionBy};
 
 // x & ~(((1 << count) - 1) << shift) | bits
 fn mask_in(x: u32, shift: u64, count: u64, bits: u32) -> u32
@@ -27,31 +27,30 @@ fn modify(x: u32, w: u64) -> u32
     x
 }
 
-// The setting after a command, where no half-word is due.
+// The two words of the other modes, where no half-word is due.
+fn modes(high: u32, low: u32) -> Setting
+    ensures { λ r. ⌜ r ≡ modesOnly high low ⌝ }
+{
+    Setting {
+        high,
+        low,
+        due: Due::Command,
+    }
+}
+
+// The setting after a command, where no half-word is due before it.
 fn after_command(s: Setting, w: u64) -> Setting
     ensures { λ r. ⌜ r ≡ settingBy Due.Command s (numberOf w) w ⌝ }
 {
     let number = w >> 56;
     if number == 0xEF {
-        return Setting {
-            high: ((w >> 32) % 0x100_0000) as u32,
-            low: (w % 0x1_0000_0000) as u32,
-            due: Due::Command,
-        };
+        return modes(((w >> 32) % 0x100_0000) as u32, (w % 0x1_0000_0000) as u32);
     }
     if number == 0xE3 {
-        return Setting {
-            high: modify(s.high, w),
-            low: s.low,
-            due: Due::Command,
-        };
+        return modes(modify(s.high, w), s.low);
     }
     if number == 0xE2 {
-        return Setting {
-            high: s.high,
-            low: modify(s.low, w),
-            due: Due::Command,
-        };
+        return modes(s.high, modify(s.low, w));
     }
     if (0xE4 <= number) & (number <= 0xE5) {
         return Setting {
@@ -60,11 +59,7 @@ fn after_command(s: Setting, w: u64) -> Setting
             due: Due::FirstHalf,
         };
     }
-    Setting {
-        high: s.high,
-        low: s.low,
-        due: Due::Command,
-    }
+    modes(s.high, s.low)
 }
 
 // The setting after a command that is not refused.
@@ -79,11 +74,7 @@ pub fn setting_after(s: Setting, w: u64) -> Setting
             low: s.low,
             due: Due::SecondHalf((w % 0x1_0000_0000) as u32),
         },
-        Due::SecondHalf(_) => Setting {
-            high: s.high,
-            low: s.low,
-            due: Due::Command,
-        },
+        Due::SecondHalf(_) => modes(s.high, s.low),
     }
 }
 
@@ -129,14 +120,15 @@ fn command_action(after: Setting, w: u64) -> Action
     ensures { λ r. ⌜ r ≡ kindAction (kindOf (numberOf w)) after (numberOf w) w ⌝ }
 {
     let number = w >> 56;
+    let kept = w % 0x4000_0000_0000_0000;
     if ((0xE6 <= number) & (number <= 0xF0)) | ((0xF2 <= number) & (number <= 0xFF)) {
         if ((0xFD <= number) & (number <= 0xFF)) & ((w >> 24) % 256 != 0) {
             return Action::Invalid;
         }
-        return Action::Write(w % 0x4000_0000_0000_0000);
+        return Action::Write(kept);
     }
     if (0xE4 <= number) & (number <= 0xE5) {
-        return Action::Write(w % 0x4000_0000_0000_0000);
+        return Action::Write(kept);
     }
     if (0xE2 <= number) & (number <= 0xE3) {
         return modes_action(after, w);

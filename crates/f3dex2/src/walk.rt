@@ -62,19 +62,17 @@ fn read_command(memory: &[u8], at: usize, depth: usize, state: State, out: &mut 
         read: read + 1,
         written,
     };
+    let more = State {
+        setting,
+        read: read + 1,
+        written: written + 1,
+    };
     match action_for(due, setting, w) {
         Action::Unknown => Asked::Refused(22, at, state),
         Action::Invalid => Asked::Refused(23, at, state),
         Action::Write(x) => {
             put(out, written, x);
-            Asked::Next(
-                on,
-                State {
-                    setting,
-                    read: read + 1,
-                    written: written + 1,
-                },
-            )
+            Asked::Next(on, more)
         }
         Action::Pass => Asked::Next(on, next),
         Action::Call(target) => {

@@ -231,9 +231,7 @@ pub extern "C" fn lanyardrove_translate(memory: &[u8], start: u32, out: &mut [u8
 {
     let end = lent_length(memory.len());
     let translated = f3dex2::translate(&memory[0..end], start as usize, out);
-    pack(
-        translated.number,
-        translated.read as u32,
-        translated.place as u32,
-    )
+    let read = translated.read as u32;
+    let offset = translated.place as u32;
+    pack(translated.number, read, offset)
 }

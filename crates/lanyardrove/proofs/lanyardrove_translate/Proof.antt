@@ -49,11 +49,11 @@ fitting c =
     let s = given .args in
     subst Small (sym (answers c)) (small (ofTranslate (s .memory .now) (s .start) (length (s .out .now)) (given .fits .start .fits)))
 
-cast-pack : tie.Need-cast-pack
-cast-pack c = let b = fitting (c .before .before .before) in record { fits = omega (arith, b .third) }
+cast-read : tie.Need-cast-read
+cast-read c = let b = fitting (c .before .before .before) in record { fits = omega (arith, b .third) }
 
-cast-pack-2 : tie.Need-cast-pack-2
-cast-pack-2 c = let b = fitting (c .before .before .before .before) in record { fits = b .place }
+cast-offset : tie.Need-cast-offset
+cast-offset c = let b = fitting (c .before .before .before .before) in record { fits = b .place }
 
 pack-requires : tie.Need-pack-requires
 pack-requires c κs = let b = fitting (c .before .before .before .before) in (b .number, b .third)
@@ -79,8 +79,8 @@ lanyardrove-translate-spec =
     part-translate-start
     part-translate-end
     translate-requires
-    cast-pack
-    cast-pack-2
+    cast-read
+    cast-offset
     pack-requires
     same-length
     returns)

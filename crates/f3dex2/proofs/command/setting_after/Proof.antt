@@ -1,4 +1,3 @@
--- `f3dex2::command::setting_after` meets its contract, by what is due.
 use Rattle.f3dex2.specs.Commands.{settingAfter}
 use borrow.Author.Needs.{needs}
 use Rattle.f3dex2.proofs.command.setting_after.Statement.{statement}
@@ -19,6 +18,9 @@ cast-t6 c = search needs
 enum-told-3 : tie.Need-enum-told-3
 enum-told-3 c = search needs
 
+modes-requires : tie.Need-modes-requires
+modes-requires c κs = search needs
+
 returns : tie.Need-returns
 unfolding settingAfter
 returns c =
@@ -32,7 +34,7 @@ returns-2 c =
 returns-3 : tie.Need-returns-3
 unfolding settingAfter
 returns-3 c =
-    rw (c .enum-told3 .given .1)
+    rw (c .before .enum-told3 .given .1) (c .modes .ensures)
 
 pub setting-after-spec : {M : Type 1} → statement M
 setting-after-spec =
@@ -43,6 +45,7 @@ setting-after-spec =
     enum-told-2
     cast-t6
     enum-told-3
+    modes-requires
     returns
     returns-2
     returns-3)

@@ -32,8 +32,14 @@ add-on c =
 setting-after-requires : tie.Need-setting-after-requires
 setting-after-requires c κs = search needs
 
-add-t19 : tie.Need-add-t19
-add-t19 c = search needs
+add-t20 : tie.Need-add-t20
+add-t20 c = search needs
+
+add-t20-2 : tie.Need-add-t20-2
+add-t20-2 c = search needs
+
+add-t21 : tie.Need-add-t21
+add-t21 c = search needs
 
 action-for-requires : tie.Need-action-for-requires
 action-for-requires c κs = search needs
@@ -50,12 +56,6 @@ enum-known-x c = search needs
 put-requires : tie.Need-put-requires
 put-requires c κs = search needs
 
-add-t25 : tie.Need-add-t25
-add-t25 c = search needs
-
-add-t26 : tie.Need-add-t26
-add-t26 c = search needs
-
 enum-told-3 : tie.Need-enum-told-3
 enum-told-3 c = search needs
 
@@ -64,7 +64,7 @@ enum-known-target c = search needs
 
 returns-2 : tie.Need-returns-2
 returns-2 c =
-    too-deep (known (c .before .before .before .before)) (c .before .before .target .given .1) (c .if2 .taken)
+    too-deep (known (c .before .before .before .before)) (c .before .before .target .given .1) (omega (arith, c .if2 .taken))
 
 enum-known-target-2 : tie.Need-enum-known-target-2
 enum-known-target-2 c = search needs
@@ -93,7 +93,7 @@ returns-6 c =
 
 returns-7 : tie.Need-returns-7
 returns-7 c =
-    calls (known (c .before .before .before .before)) (c .before .before .target .given .1) (c .if2 .left)
+    calls (known (c .before .before .before .before)) (c .before .before .target .given .1) (omega (arith, c .if2 .left))
 
 returns-8 : tie.Need-returns-8
 returns-8 c =
@@ -112,14 +112,14 @@ read-command-spec =
     word-at-requires
     add-on
     setting-after-requires
-    add-t19
+    add-t20
+    add-t20-2
+    add-t21
     action-for-requires
     enum-told
     enum-told-2
     enum-known-x
     put-requires
-    add-t25
-    add-t26
     enum-told-3
     enum-known-target
     returns-2

@@ -20,11 +20,11 @@ returns-3 c =
 
 returns-4 : tie.Need-returns-4
 returns-4 c =
-    rw (eq-eqb ((c .before .before .before .before .args .at) % 8) 0 (c .before .before .before .if1 .left), le-leb ((c .before .before .before .before .args .at) + 8) (length (c .before .before .before .before .args .memory .now)) (omega arith), le-leb 4096 (c .before .before .before .before .args .read) (c .if4 .taken))
+    rw (eq-eqb ((c .before .before .before .before .args .at) % 8) 0 (c .before .before .before .if1 .left), le-leb ((c .before .before .before .before .args .at) + 8) (length (c .before .before .before .before .args .memory .now)) (omega arith), le-leb 4096 (c .before .before .before .before .args .read) (omega (arith, c .if4 .taken)))
 
 returns-5 : tie.Need-returns-5
 returns-5 c =
-    rw (eq-eqb ((c .before .before .before .before .args .at) % 8) 0 (c .before .before .before .if1 .left), le-leb ((c .before .before .before .before .args .at) + 8) (length (c .before .before .before .before .args .memory .now)) (omega arith), lt-leb 4096 (c .before .before .before .before .args .read) (c .if4 .left))
+    rw (eq-eqb ((c .before .before .before .before .args .at) % 8) 0 (c .before .before .before .if1 .left), le-leb ((c .before .before .before .before .args .at) + 8) (length (c .before .before .before .before .args .memory .now)) (omega arith), lt-leb 4096 (c .before .before .before .before .args .read) (omega (arith, c .if4 .left)))
 
 pub read-refusal-spec : {M : Type 1} → statement M
 read-refusal-spec = tie.close (tie.spec returns returns-2 returns-3 returns-4 returns-5)
