@@ -1,8 +1,8 @@
 /*
  * Calls every function of include/lanyardrove.h through the archive: empty, short, cut and longest lists, null pointers where
  * a length is 0, document 01's examples, guard bytes around every buffer, every command number there and back, its length,
- * its step from each of the sixteen hazards, every unassigned number, and lists in portions with the cycles that their syncs
- * wait.
+ * its step from each of the sixteen hazards, every unassigned number, lists in portions with the cycles that their syncs wait,
+ * textures that are loaded and copied, and display lists translated.
  * It compiles as C11 and as C++17. The last line counts the checks; the exit status says whether all passed.
  */
 #include "lanyardrove.h"
@@ -44,7 +44,7 @@ typedef struct {
     uint8_t *bytes;
 } Buffer;
 
-static Buffer a_list, a_work, an_out;
+static Buffer a_list, a_work, an_out, a_texture;
 
 static uint8_t *fresh(Buffer *b) {
     memset(b->all, OLD, sizeof b->all);
@@ -103,6 +103,11 @@ static uint64_t random_word(void) {
     return x * 0x2545F4914F6CDD1Du;
 }
 
+/* Draws a_list on an_out, with all of texture memory. */
+static uint64_t draw(size_t length, size_t memory, uint64_t start) {
+    return lanyardrove_draw(a_list.bytes, length, an_out.bytes, memory, start, a_texture.bytes, LANYARDROVE_TEXTURE_BYTES);
+}
+
 /* ---- Document 01's words. */
 
 #define S1 0x2F30000000000000u
@@ -130,6 +135,7 @@ static void parts(void) {
     CHECK(lanyardrove_cause(answer) == 100001);
     CHECK(lanyardrove_cycles(answer) == 100001);
     CHECK(lanyardrove_command(answer) == 100001);
+    CHECK(lanyardrove_commands_read(answer) == 100001);
     CHECK(lanyardrove_place(answer) == 4);
     answer = ~(uint64_t)0;
     CHECK(lanyardrove_number(answer) == 0xFF && lanyardrove_third(answer) == 0xFFFFFF && lanyardrove_place(answer) == 0xFFFFFFFFu);
@@ -144,8 +150,12 @@ static void null_pointers(void) {
     size_t n;
     ANSWERS(lanyardrove_check(NULL, 0), 0, 0, 0);
     ANSWERS(lanyardrove_repair(NULL, 0, NULL, 0, NULL, 0), 0, 0, 0);
-    ANSWERS(lanyardrove_draw(NULL, 0, NULL, 0, 0), 0, 0, 0);
-    ANSWERS(lanyardrove_draw(NULL, 0, NULL, 0, UINT64_MAX), 0, 0, 0);
+    fresh(&a_texture);
+    ANSWERS(lanyardrove_draw(NULL, 0, NULL, 0, 0, NULL, 0), 16, 0, 0);
+    ANSWERS(lanyardrove_draw(NULL, 0, NULL, 0, 0, a_texture.bytes, LANYARDROVE_TEXTURE_BYTES), 0, 0, 0);
+    ANSWERS(lanyardrove_draw(NULL, 0, NULL, 0, UINT64_MAX, a_texture.bytes, LANYARDROVE_TEXTURE_BYTES), 0, 0, 0);
+    ANSWERS(lanyardrove_translate(NULL, 0, 0, NULL, 0), 20, 0, 0);
+    ANSWERS(lanyardrove_translate(NULL, 0, UINT32_MAX, NULL, 0), 20, 0, UINT32_MAX);
     ANSWERS(lanyardrove_decode(NULL, 0, NULL, 0), 3, 0, 0);
     ANSWERS(lanyardrove_encode(0, NULL, 0, NULL, 0, NULL, 0), 14, 0, 1);
     ANSWERS(lanyardrove_encode(64, NULL, 0, NULL, 0, NULL, 0), 15, 0, 0);
@@ -153,7 +163,8 @@ static void null_pointers(void) {
     fresh(&a_work);
     fresh(&an_out);
     ANSWERS(lanyardrove_repair(NULL, 0, a_work.bytes, 32, an_out.bytes, 32), 0, 0, 0);
-    ANSWERS(lanyardrove_draw(NULL, 0, an_out.bytes, 32, 0), 0, 0, 0);
+    ANSWERS(lanyardrove_draw(NULL, 0, an_out.bytes, 32, 0, a_texture.bytes, LANYARDROVE_TEXTURE_BYTES), 0, 0, 0);
+    ANSWERS(lanyardrove_translate(NULL, 0, 0, an_out.bytes, 32), 20, 0, 0);
     ANSWERS(lanyardrove_decode(NULL, 0, &field, 1), 3, 0, 0);
     ANSWERS(lanyardrove_encode(0, NULL, 0, NULL, 0, an_out.bytes, 7), 14, 0, 1);
     CHECK(untouched_from(&a_work, 0) && untouched_from(&an_out, 0) && field == 7);
@@ -161,7 +172,8 @@ static void null_pointers(void) {
     CHECK(get(an_out.bytes) == N && untouched_from(&an_out, 8));
 
     n = LIST(one);
-    ANSWERS(lanyardrove_draw(a_list.bytes, n, NULL, 0, 0), 0, 0, 1);
+    ANSWERS(lanyardrove_draw(a_list.bytes, n, NULL, 0, 0, a_texture.bytes, LANYARDROVE_TEXTURE_BYTES), 0, 0, 1);
+    CHECK(untouched_from(&a_texture, 0));
     ANSWERS(lanyardrove_decode(a_list.bytes, n, NULL, 0), 0, 0, 0);
     ANSWERS(lanyardrove_repair(a_list.bytes, n, NULL, 0, NULL, 0), 13, 0, 1);
     ANSWERS(lanyardrove_repair(a_list.bytes, n, NULL, 0, an_out.bytes, 8), 13, 0, 1);
@@ -409,8 +421,9 @@ static void draws(const uint64_t *words, size_t n, size_t memory, uint64_t start
     size_t length = list_of(words, n), i, k = 0;
     int right = 1;
     fresh(&an_out);
+    fresh(&a_texture);
     memset(an_out.bytes, 0x11, memory);
-    expect_answer(lanyardrove_draw(a_list.bytes, length, an_out.bytes, memory, start), number, 0, place, line);
+    expect_answer(draw(length, memory, start), number, 0, place, line);
     for (i = 0; i < memory; i++) {
         static const uint8_t color[4] = {0xF8, 0x01, 0x00, 0x3F};
         uint64_t address = start + i;
@@ -422,7 +435,7 @@ static void draws(const uint64_t *words, size_t n, size_t memory, uint64_t start
         right = right && an_out.bytes[i] == due;
     }
     expect(right && k == count, "the painted bytes, and no others", line);
-    expect(untouched_from(&an_out, memory), "no byte outside memory", line);
+    expect(untouched_from(&an_out, memory) && untouched_from(&a_texture, 0), "no byte outside memory", line);
     expect(begins(a_list.bytes, words, n) && untouched_from(&a_list, length), "the list stays", line);
 }
 #define DRAWS(words, memory, start, painted) \
@@ -470,16 +483,338 @@ static void draw_lists(void) {
     for (k = 0; k < 40; k++) { /* every cut of I */
         list_of(i, 5);
         fresh(&an_out);
-        if (k % 8) ANSWERS(lanyardrove_draw(a_list.bytes, k, an_out.bytes, 64, 0), 2, 0, (unsigned)(k / 8));
-        else ANSWERS(lanyardrove_draw(a_list.bytes, k, an_out.bytes, 64, 0), 0, 0, (unsigned)(k / 8));
+        ANSWERS(draw(k, 64, 0), k % 8 ? 2 : 0, 0, (unsigned)(k / 8));
         CHECK(untouched_from(&an_out, 0));
     }
     fresh(&a_list);
     memset(a_list.bytes, 0, 32784);
     fresh(&an_out);
-    ANSWERS(lanyardrove_draw(a_list.bytes, 32768, an_out.bytes, 64, 0), 0, 0, 4096);
-    ANSWERS(lanyardrove_draw(a_list.bytes, 32769, an_out.bytes, 64, 0), 1, 0, 4096);
-    CHECK(untouched_from(&an_out, 0));
+    ANSWERS(draw(32768, 64, 0), 0, 0, 4096);
+    ANSWERS(draw(32769, 64, 0), 1, 0, 4096);
+    CHECK(untouched_from(&an_out, 0) && untouched_from(&a_texture, 0));
+}
+
+/* ---- Textures (document 02, #106): Load Tile and Texture Rectangles in COPY mode, on memory and texture memory of bytes that
+   tell where they come from. */
+
+#define COPY 0x2F20000000000000u
+#define MEMORY 128
+#define TEXTURE LANYARDROVE_TEXTURE_BYTES
+#define OF_TEXTURE(byte) (MEMORY + (byte)) /* a byte that texture memory had, where others are of memory */
+
+/* The byte that was there before: even in memory, odd in texture memory. */
+static uint8_t given(size_t at) { return (uint8_t)(at < MEMORY ? 2 * at : 2 * (at + at / 128 * 37) + 1); }
+
+static uint64_t texture_image(uint64_t width, uint64_t address) { return 0x3D10000000000000u | (width - 1) << 32 | address; }
+
+static uint64_t set_tile(uint64_t tile, uint64_t line, uint64_t tmem) {
+    return 0x3510000000000000u | line << 41 | tmem << 32 | tile << 24;
+}
+
+/* A Load Tile or Set Tile Size from one corner to the other, in whole texels. */
+static uint64_t area(uint64_t number, uint64_t tile, uint64_t left, uint64_t top, uint64_t right, uint64_t bottom) {
+    return number << 56 | left << 46 | top << 34 | tile << 24 | right << 14 | bottom << 2;
+}
+#define LOAD_TILE(tile, left, top, right, bottom) area(0x34, (tile), (left), (top), (right), (bottom))
+#define TILE_SIZE(tile, left, top) area(0x32, (tile), (left), (top), 0, 0)
+
+/* The two words of a Texture Rectangle from one pixel to the other, that begins with a texel. */
+static uint64_t pixels(uint64_t tile, uint64_t left, uint64_t top, uint64_t right, uint64_t bottom) {
+    return TEXTURED | right << 46 | bottom << 34 | tile << 24 | left << 14 | top << 2;
+}
+static uint64_t from_texel(int s, int t) { return (uint64_t)(uint16_t)(32 * s) << 48 | (uint64_t)(uint16_t)(32 * t) << 32 | 0x10000400u; }
+
+/* Memory of a length from an address, and texture memory, as they are given. */
+static void give(size_t memory, uint64_t start) {
+    size_t i;
+    fresh(&an_out);
+    fresh(&a_texture);
+    for (i = 0; i < memory; i++) an_out.bytes[i] = given((size_t)start + i);
+    for (i = 0; i < TEXTURE; i++) a_texture.bytes[i] = given(OF_TEXTURE(i));
+}
+
+/* A texel that is written to a byte, and where it was before. */
+typedef struct {
+    size_t to, from;
+} Texel;
+
+/* Whether the bytes that have this address or number from the first on are as given, but for these texels. */
+static int are_given_but(const uint8_t *bytes, size_t length, size_t first, const Texel *texels, size_t count) {
+    size_t i, k;
+    for (i = 0; i < length; i++) {
+        size_t from = first + i;
+        for (k = 0; k < count; k++)
+            if (first + i >= texels[k].to && first + i - texels[k].to < 2) from = texels[k].from + (first + i - texels[k].to);
+        if (bytes[i] != given(from)) return 0;
+    }
+    return 1;
+}
+
+/* Draws a list on memory from an address: the answer, and the texels that memory and texture memory then have. */
+static void copies(const uint64_t *words, size_t n, size_t memory, uint64_t start, unsigned number, unsigned place,
+                   const Texel *copied, size_t copied_count, const Texel *loaded, size_t loaded_count, int line) {
+    Texel in_texture[16];
+    size_t length = list_of(words, n), k;
+    for (k = 0; k < loaded_count; k++) {
+        in_texture[k].to = OF_TEXTURE(loaded[k].to);
+        in_texture[k].from = loaded[k].from;
+    }
+    give(memory, start);
+    expect_answer(draw(length, memory, start), number, 0, place, line);
+    expect(are_given_but(an_out.bytes, memory, (size_t)start, copied, copied_count), "the copied bytes, and no others", line);
+    expect(are_given_but(a_texture.bytes, TEXTURE, OF_TEXTURE(0), in_texture, loaded_count), "the loaded bytes, and no others", line);
+    expect(untouched_from(&an_out, memory) && untouched_from(&a_texture, TEXTURE), "no byte outside", line);
+    expect(begins(a_list.bytes, words, n) && untouched_from(&a_list, length), "the list stays", line);
+}
+#define COUNT(array) (sizeof(array) / sizeof((array)[0]))
+#define COPIES(words, copied, loaded) \
+    copies((words), COUNT(words), MEMORY, 0, 0, COUNT(words), (copied), COUNT(copied), (loaded), COUNT(loaded), __LINE__)
+
+/* The answer alone, and at a refusal both memories as given. */
+static void drawn_as(const uint64_t *words, size_t n, size_t memory, uint64_t start, unsigned number, unsigned place, int line) {
+    if (number)
+        copies(words, n, memory, start, number, place, NULL, 0, NULL, 0, line);
+    else {
+        const size_t length = list_of(words, n);
+        give(memory, start);
+        expect_answer(draw(length, memory, start), 0, 0, place, line);
+        expect(untouched_from(&an_out, memory) && untouched_from(&a_texture, TEXTURE), "no byte outside", line);
+    }
+}
+#define DRAWN(words, memory, start, number, place) drawn_as((words), COUNT(words), (memory), (start), (number), (place), __LINE__)
+
+/* A block of 3 by 2 texels from the second column and row of an image 4 wide, to tile 1 of 16 bytes a row from byte 24 on; its
+   second row is turned. It is copied to pixels (2,1) to (4,2), from rows and columns at, above and left of the block. */
+static void load_and_copy(void) {
+    const uint64_t image = texture_image(4, 64), tile = set_tile(1, 2, 3), load = LOAD_TILE(1, 1, 1, 3, 2), place = pixels(1, 2, 1, 4, 2);
+    const uint64_t whole[] = {COPY, S2, S3, image, tile, load, LOAD, place, from_texel(1, 1)};
+    const uint64_t above[] = {COPY, S2, S3, image, tile, load, LOAD, place, from_texel(1, 0)};
+    const uint64_t left[] = {COPY, S2, S3, image, tile, load, LOAD, place, from_texel(-1, 1)};
+    const uint64_t resized[] = {COPY, S2, S3, image, tile, load, TILE_SIZE(1, 1, 2), LOAD, place, from_texel(1, 1)};
+    const Texel block[] = {{24, 74}, {26, 76}, {28, 78}, {44, 82}, {46, 84}, {40, 86}};
+    const Texel at[] = {{20, 74}, {22, 76}, {24, 78}, {36, 82}, {38, 84}, {40, 86}};
+    /* row -1 is odd: bytes 8, 10, 12 turned */
+    const Texel one_up[] = {{20, OF_TEXTURE(12)}, {22, OF_TEXTURE(14)}, {24, OF_TEXTURE(8)}, {36, 74}, {38, 76}, {40, 78}};
+    /* columns -2, -1 and 0: bytes 20, 22, 24, and in the odd row 36, 38, 40 turned */
+    const Texel two_left[] = {{20, OF_TEXTURE(20)}, {22, OF_TEXTURE(22)}, {24, 74}, {36, OF_TEXTURE(32)}, {38, OF_TEXTURE(34)}, {40, 82}};
+    COPIES(whole, at, block);
+    COPIES(above, one_up, block);
+    COPIES(left, two_left, block);
+    COPIES(resized, one_up, block); /* Set Tile Size takes the place of the size that the load left */
+}
+
+/* A texture image inside the colour image is loaded as drawn so far; of texels and of pixels that share bytes the later stays. */
+static void later_bytes_stay(void) {
+    const uint64_t first = set_tile(0, 1, 0), second = set_tile(1, 1, 8);
+    const uint64_t inside[] = {COPY, S2, S3, first, second,
+                               texture_image(4, 64), LOAD_TILE(0, 0, 0, 1, 0), LOAD, pixels(0, 0, 0, 1, 0), from_texel(0, 0), LOAD,
+                               texture_image(4, 2), LOAD_TILE(1, 0, 0, 1, 0), LOAD, pixels(1, 4, 1, 5, 1), from_texel(0, 0)};
+    const Texel inside_copied[] = {{0, 64}, {2, 66}, {24, 66}, {26, 4}}, inside_loaded[] = {{0, 64}, {2, 66}, {64, 66}, {66, 4}};
+    /* an image 2 wide under pixels (0,0) to (3,1): the second row begins at byte 4 */
+    const uint64_t narrow[] = {COPY, 0x3F10000100000000u, S3, first, pixels(0, 0, 0, 3, 1), from_texel(0, 0)};
+    const Texel narrow_copied[] = {{0, OF_TEXTURE(0)}, {2, OF_TEXTURE(2)}, {4, OF_TEXTURE(12)},
+                                   {6, OF_TEXTURE(14)}, {8, OF_TEXTURE(8)}, {10, OF_TEXTURE(10)}};
+    /* a tile of no bytes a row: the third row over the first */
+    const uint64_t flat[] = {texture_image(4, 64), set_tile(0, 0, 0), LOAD_TILE(0, 0, 0, 1, 2)};
+    const Texel flat_loaded[] = {{0, 80}, {2, 82}, {4, 72}, {6, 74}};
+    COPIES(inside, inside_copied, inside_loaded);
+    copies(narrow, COUNT(narrow), MEMORY, 0, 0, COUNT(narrow), narrow_copied, COUNT(narrow_copied), NULL, 0, __LINE__);
+    copies(flat, COUNT(flat), MEMORY, 0, 0, COUNT(flat), NULL, 0, flat_loaded, COUNT(flat_loaded), __LINE__);
+}
+
+/* Scissor and field drop pixels, and the others read what they read without; a load or a rectangle may cover nothing. */
+static void kept_pixels(void) {
+    const uint64_t tile = set_tile(0, 1, 0), place = pixels(0, 0, 0, 2, 2);
+    const uint64_t scissor[] = {COPY, S2, 0x2D00400400020010u, tile, place, from_texel(0, 0)};
+    const uint64_t field[] = {COPY, S2, 0x2D00400403020010u, tile, place, from_texel(0, 0)};
+    const Texel kept[] = {{18, OF_TEXTURE(14)}, {20, OF_TEXTURE(8)}, {34, OF_TEXTURE(18)}, {36, OF_TEXTURE(20)}};
+    /* a load of nothing leaves its upper left, (2, 0), as the tile's size */
+    const uint64_t nothing[] = {COPY, S2, S3, texture_image(1, 0), tile, LOAD_TILE(0, 2, 0, 1, 0), LOAD, pixels(0, 1, 1, 1, 1), from_texel(3, 0)};
+    const Texel one_on[] = {{18, OF_TEXTURE(2)}};
+    const uint64_t covers_none[] = {COPY, S2, S3, tile, pixels(0, 3, 0, 2, 5), from_texel(-1000, -1000)};
+    copies(scissor, COUNT(scissor), MEMORY, 0, 0, COUNT(scissor), kept, 4, NULL, 0, __LINE__);
+    copies(field, COUNT(field), MEMORY, 0, 0, COUNT(field), kept, 2, NULL, 0, __LINE__);
+    copies(nothing, COUNT(nothing), MEMORY, 0, 0, COUNT(nothing), one_on, 1, NULL, 0, __LINE__);
+    copies(covers_none, COUNT(covers_none), 0, 0, 0, COUNT(covers_none), NULL, 0, NULL, 0, __LINE__);
+}
+
+/* 16: after the check, of every list that passes it, and before 10. */
+static void texture_length(void) {
+    static const size_t lengths[] = {0, 1, 4095, 4097, ROOM};
+    const uint64_t i[] = {S, C, R}, g[] = {S, R, C}, one_cycle[] = {0x2F00000000000000u, S2, S3, R};
+    size_t k;
+    for (k = 0; k < COUNT(lengths); k++) {
+        fresh(&an_out);
+        fresh(&a_texture);
+        ANSWERS(lanyardrove_draw(a_list.bytes, LIST(i), an_out.bytes, 64, 0, a_texture.bytes, lengths[k]), 16, 0, 0);
+        ANSWERS(lanyardrove_draw(a_list.bytes, 0, an_out.bytes, 64, 0, a_texture.bytes, lengths[k]), 16, 0, 0);
+        ANSWERS(lanyardrove_draw(a_list.bytes, LIST(g), an_out.bytes, 64, 0, a_texture.bytes, lengths[k]), 9, 0, 4);
+        ANSWERS(lanyardrove_draw(a_list.bytes, LIST(one_cycle), an_out.bytes, 64, 0, a_texture.bytes, lengths[k]), 16, 0, 0);
+        CHECK(untouched_from(&an_out, 0) && untouched_from(&a_texture, 0));
+    }
+}
+
+/* 10: Fill Rectangle in FILL mode and 0x24 in COPY mode are drawn, and nothing else is in any mode. */
+static void drawn_or_not(void) {
+    static const unsigned numbers[] = {0x08, 0x09, 0x0A, 0x0B, 0x0C, 0x0D, 0x0E, 0x0F, 0x24, 0x25, 0x36};
+    uint64_t cycle_type;
+    size_t k;
+    for (cycle_type = 0; cycle_type < 4; cycle_type++)
+        for (k = 0; k < COUNT(numbers); k++) {
+            uint64_t words[4 + 22] = {0x2F00000000000000u | cycle_type << 52, S2, S3, set_tile(0, 1, 0), (uint64_t)numbers[k] << 56};
+            const size_t n = 4 + (size_t)lanyardrove_words(words[4]);
+            const int drawn = (numbers[k] == 0x24 && cycle_type == 2) || (numbers[k] == 0x36 && cycle_type == 3);
+            if (numbers[k] == 0x24) words[5] = from_texel(0, 0);
+            drawn_as(words, n, MEMORY, 0, drawn ? 0 : 10, drawn ? (unsigned)n : 4, __LINE__);
+        }
+}
+
+/* A list with one bit of one word turned over: refused at the place where the bit is one of a mask, else accepted. */
+static void every_bit(const uint64_t *words, size_t n, size_t word, uint64_t skipped, uint64_t refusing, unsigned place, int line) {
+    uint64_t changed[8];
+    int bit;
+    for (bit = 0; bit < 64; bit++) {
+        const uint64_t turned = (uint64_t)1 << bit;
+        const int refused = (turned & refusing) != 0;
+        if (turned & skipped) continue;
+        memcpy(changed, words, 8 * n);
+        changed[word] ^= turned;
+        drawn_as(changed, n, 0, 0, refused ? 17 : 0, refused ? place : (unsigned)n, line);
+    }
+}
+#define COMMAND 0x3F00000000000000u /* the bits of a command's number */
+#define EVERY_BIT(words, word, skipped, refusing, place) every_bit((words), COUNT(words), (word), (skipped), (refusing), (place), __LINE__)
+
+/* Each need of a COPY rectangle, also where no pixel is kept: everything else is free. */
+static void copy_needs(void) {
+    const uint64_t words[] = {COPY, S2, S3, set_tile(5, 1, 0), TILE_SIZE(5, 0, 0), pixels(5, 100, 100, 101, 101), from_texel(0, 0)};
+    const uint64_t not_set[] = {COPY, S2, S3, TILE_SIZE(5, 0, 0), pixels(5, 0, 0, 0, 0), from_texel(0, 0)};
+    const uint64_t no_size[] = {COPY, S2, S3, set_tile(5, 1, 0), pixels(5, 100, 100, 101, 101), from_texel(0, 0)};
+    const uint64_t quarters[] = {COPY, S2, S3, texture_image(1, 0), set_tile(5, 1, 0), LOAD_TILE(5, 2, 0, 1, 0) | (uint64_t)1 << 44,
+                                 LOAD, pixels(5, 100, 100, 101, 101), from_texel(0, 0)};
+    DRAWN(words, 0, 0, 0, 7);
+    EVERY_BIT(words, 0, COMMAND | (uint64_t)3 << 52, (uint64_t)1 << 51 | (uint64_t)1 << 47 | 1, 5); /* perspective, look-up, alpha compare */
+    EVERY_BIT(words, 1, COMMAND | 0x3F, (uint64_t)3 << 51, 5);                                      /* an image not of 16 bits */
+    EVERY_BIT(words, 3, COMMAND, (uint64_t)0x1F << 51 | 7u << 24 | 0x1FFu << 10 | 0x1FFu, 5); /* the tile, 16-bit RGBA, mirror, mask, shift */
+    EVERY_BIT(words, 4, COMMAND, (uint64_t)3 << 44 | (uint64_t)3 << 32, 5);                   /* the tile's upper left in whole texels */
+    EVERY_BIT(words, 5, ~((uint64_t)7 << 24), (uint64_t)7 << 24, 5);
+    EVERY_BIT(words, 6, 0, (uint64_t)31 << 48 | (uint64_t)31 << 32 | 0xFFFFFFFFu, 5);         /* s and t likewise, dsdx, dtdy */
+    DRAWN(not_set, MEMORY, 0, 17, 4);
+    DRAWN(no_size, 0, 0, 0, 6);
+    DRAWN(quarters, MEMORY, 0, 17, 7); /* a load leaves its raw corners as the size */
+}
+
+/* Those of Load Tile, also where nothing is loaded; Load TLUT and Load Block are refused with all of them. */
+static void load_needs(void) {
+    const uint64_t words[] = {texture_image(1, 0), set_tile(5, 1, 0), LOAD_TILE(5, 2, 0, 1, 0)};
+    const uint64_t no_image[] = {set_tile(5, 1, 0), LOAD_TILE(5, 2, 0, 1, 0)}, no_tile[] = {texture_image(1, 0), LOAD_TILE(5, 2, 0, 1, 0)};
+    const uint64_t tlut[] = {words[0], words[1], area(0x30, 5, 0, 0, 0, 0)}, block[] = {words[0], words[1], area(0x33, 5, 0, 0, 0, 0)};
+    const uint64_t k[] = {S, R, PIPE, L};
+    DRAWN(words, 0, 0, 0, 3);
+    EVERY_BIT(words, 0, COMMAND, (uint64_t)0x1F << 51, 2);
+    EVERY_BIT(words, 1, COMMAND, (uint64_t)0x1F << 51 | 7u << 24, 2);
+    EVERY_BIT(words, 2, ~((uint64_t)7 << 24), (uint64_t)7 << 24, 2);
+    DRAWN(no_image, MEMORY, 0, 17, 1);
+    DRAWN(no_tile, MEMORY, 0, 17, 1);
+    DRAWN(tlut, MEMORY, 0, 17, 2);
+    DRAWN(block, MEMORY, 0, 17, 2);
+    DRAWN(k, MEMORY, 0, 17, 5);
+}
+
+/* One draw with every ground of refusal, which are taken away one by one; and one load, which 11 does not ask. */
+static void order_at_an_act(void) {
+    uint64_t draws[] = {0x2F00000000000000u, S2 | 32, S3, set_tile(0, 1, 511), pixels(0, 0, 0, 4, 0), from_texel(0, 0) ^ 1};
+    uint64_t loads[] = {COPY, S2 | 32, S3, texture_image(8, 0) | (uint64_t)1 << 51, set_tile(0, 1, 511), LOAD_TILE(0, 0, 0, 4, 0)};
+    DRAWN(draws, 9, 0, 10, 4);
+    draws[0] = COPY;
+    DRAWN(draws, 9, 0, 11, 4);
+    draws[1] = S2;
+    DRAWN(draws, 9, 0, 17, 4);
+    draws[5] = from_texel(0, 0);
+    DRAWN(draws, 9, 0, 12, 4);
+    draws[5] = from_texel(1, 0);
+    DRAWN(draws, 9, 0, 12, 4); /* the fourth pixel's texel is outside, and only the fifth pixel's address */
+    DRAWN(draws, 10, 0, 18, 4);
+    draws[5] = from_texel(-1, 0);
+    DRAWN(draws, 10, 0, 0, 6);
+    DRAWN(loads, 9, 0, 17, 5);
+    loads[3] = texture_image(8, 0);
+    DRAWN(loads, 9, 0, 12, 5);
+    DRAWN(loads, 10, 0, 18, 5);
+    loads[4] = set_tile(0, 1, 510);
+    DRAWN(loads, 10, 0, 0, 6);
+}
+
+/* Memory that ends and begins with the first and last byte that a load or a copy needs. */
+static void edges_of_memory(void) {
+    const uint64_t load[] = {texture_image(4, 64), set_tile(1, 2, 3), LOAD_TILE(1, 1, 1, 3, 2)}; /* bytes 74 to 87 */
+    const uint64_t odd[] = {texture_image(4, 65), load[1], load[2]};
+    const uint64_t copy[] = {COPY, S2, S3, set_tile(1, 2, 3), pixels(1, 2, 1, 4, 2), from_texel(0, 0)}; /* bytes 20 to 41 */
+    DRAWN(load, 14, 74, 0, 3);
+    DRAWN(load, 13, 74, 12, 2);
+    DRAWN(load, 14, 75, 12, 2);
+    DRAWN(load, 14, 73, 12, 2);
+    DRAWN(load, 0, 0, 12, 2);
+    DRAWN(odd, 14, 75, 0, 3);
+    DRAWN(odd, 13, 75, 12, 2);
+    DRAWN(odd, 20, 76, 12, 2);
+    DRAWN(copy, 22, 20, 0, 6);
+    DRAWN(copy, 21, 20, 12, 4);
+    DRAWN(copy, 22, 21, 12, 4);
+    DRAWN(copy, 22, 19, 12, 4);
+}
+
+/* The same for texture memory: bytes 4,095 and 4,096, 0 and -1, in even and in turned rows, loaded to and read for kept pixels. */
+static void edges_of_texture(void) {
+    uint64_t load[] = {texture_image(8, 0), set_tile(0, 1, 511), LOAD_TILE(0, 0, 0, 3, 0)};
+    uint64_t copy[] = {COPY, S2, S3, set_tile(0, 1, 511), pixels(0, 0, 0, 3, 0), from_texel(0, 0)};
+    DRAWN(load, MEMORY, 0, 0, 3);
+    load[2] = LOAD_TILE(0, 0, 0, 4, 0);
+    DRAWN(load, MEMORY, 0, 18, 2);
+    load[1] = set_tile(0, 1, 510);
+    DRAWN(load, MEMORY, 0, 0, 3);
+    load[2] = LOAD_TILE(0, 0, 0, 4, 1);
+    DRAWN(load, MEMORY, 0, 18, 2);
+    load[2] = LOAD_TILE(0, 0, 0, 3, 1);
+    DRAWN(load, MEMORY, 0, 0, 3);
+
+    DRAWN(copy, MEMORY, 0, 0, 6);
+    copy[5] = from_texel(1, 0);
+    DRAWN(copy, MEMORY, 0, 18, 4);
+    copy[4] = pixels(0, 5, 0, 8, 0); /* the scissor drops the pixel that would read outside */
+    DRAWN(copy, MEMORY, 0, 0, 6);
+    copy[5] = from_texel(0, 1); /* an odd row, whose bytes are 4,096 and up */
+    DRAWN(copy, MEMORY, 0, 18, 4);
+    copy[3] = set_tile(0, 1, 0);
+    DRAWN(copy, MEMORY, 0, 0, 6);
+    copy[5] = from_texel(-1, 0);
+    DRAWN(copy, MEMORY, 0, 18, 4);
+    copy[5] = from_texel(0, -1);
+    DRAWN(copy, MEMORY, 0, 18, 4);
+    copy[3] = set_tile(0, 1, 1);
+    DRAWN(copy, MEMORY, 0, 0, 6);
+    copy[5] = from_texel(-1, -1);
+    DRAWN(copy, MEMORY, 0, 18, 4);
+}
+
+/* A load and a copy that could be done, then a refusal: neither memory changes. */
+static void refused_after_work(void) {
+    const uint64_t work[] = {COPY, S2, S3, texture_image(4, 64), set_tile(0, 1, 0), LOAD_TILE(0, 0, 0, 3, 1),
+                             LOAD, pixels(0, 0, 0, 3, 1), from_texel(0, 0)};
+    const uint64_t last[][3] = {{LOAD, BLOCK, 17}, {LOAD, LOAD_TILE(0, 0, 0, 3, 15), 12}, {TILE, set_tile(0, 1, 511), 18},
+                                {LOAD, LOAD_TILE(0, 0, 0, 3, 1), 0}, {N, 0x3600000000000000u, 10}};
+    uint64_t words[13];
+    size_t k;
+    memcpy(words, work, sizeof work);
+    for (k = 0; k < COUNT(last); k++) {
+        const unsigned number = (unsigned)last[k][2];
+        const size_t n = number == 18 ? 13 : 11;
+        words[9] = last[k][0];
+        words[10] = last[k][1];
+        words[11] = pixels(0, 0, 0, 4, 0);
+        words[12] = from_texel(0, 0);
+        drawn_as(words, n, MEMORY, 0, number, number == 0 || number == 18 ? 11 : 10, __LINE__);
+    }
 }
 
 /* ---- Unassigned numbers (document 02, #107): refused by 19 after 4 and before 5, by every function that judges lists. */
@@ -490,7 +825,7 @@ static const uint8_t UNASSIGNED[] = {0x01, 0x02, 0x03, 0x04, 0x05, 0x06, 0x07, 0
 /* The word of one of them, with any bits besides, those that are ignored too. */
 static uint64_t unassigned_word(size_t i) { return (random_word() & 0xC0FFFFFFFFFFFFFFu) | (uint64_t)UNASSIGNED[i] << 56; }
 
-/* What the check, a repair with too little room and a drawing answer; a refusal leaves the buffers. */
+/* What the check, a repair and a drawing with too little room answer; a refusal leaves the buffers. */
 static void judged(size_t length, unsigned number, unsigned place, int line) {
     expect_answer(lanyardrove_check(a_list.bytes, length), number, (unsigned)(length / 8), place, line);
     fresh(&a_work);
@@ -498,8 +833,10 @@ static void judged(size_t length, unsigned number, unsigned place, int line) {
     expect_answer(lanyardrove_repair(a_list.bytes, length, a_work.bytes, 0, an_out.bytes, 0), number, 0, place, line);
     expect_answer(lanyardrove_repair(a_list.bytes, length, a_work.bytes, ROOM, an_out.bytes, 0), number, 0, place, line);
     expect_answer(lanyardrove_repair(a_list.bytes, length, a_work.bytes, ROOM, an_out.bytes, ROOM), number, 0, place, line);
-    expect_answer(lanyardrove_draw(a_list.bytes, length, an_out.bytes, 64, 0), number, 0, place, line);
-    expect(untouched_from(&a_work, 0) && untouched_from(&an_out, 0), "a refusal leaves all bytes", line);
+    fresh(&a_texture);
+    expect_answer(draw(length, 64, 0), number, 0, place, line);
+    expect_answer(lanyardrove_draw(a_list.bytes, length, an_out.bytes, 64, 0, a_texture.bytes, 0), number, 0, place, line);
+    expect(untouched_from(&a_work, 0) && untouched_from(&an_out, 0) && untouched_from(&a_texture, 0), "a refusal leaves all bytes", line);
 }
 #define JUDGED(length, number, place) judged((length), (number), (place), __LINE__)
 
@@ -532,8 +869,9 @@ static void unassigned_and_syncs(uint64_t u) {
     ANSWERS(lanyardrove_check(a_list.bytes, length), 9, 3, 4);
     REPAIR_REFUSES(length, 19, 5);
     fresh(&an_out);
-    ANSWERS(lanyardrove_draw(a_list.bytes, length, an_out.bytes, 64, 0), 9, 0, 4);
-    CHECK(untouched_from(&an_out, 0));
+    fresh(&a_texture);
+    ANSWERS(draw(length, 64, 0), 9, 0, 4);
+    CHECK(untouched_from(&an_out, 0) && untouched_from(&a_texture, 0));
     JUDGED(LIST(passed), 19, 4);
 }
 
@@ -731,21 +1069,24 @@ static void exact_blocks(void) {
     size_t length;
     for (length = 1; length <= 8 * 9; length++) {
         uint8_t *list = (uint8_t *)malloc(length), *work = (uint8_t *)malloc(2 * length), *out = (uint8_t *)malloc(2 * length);
+        uint8_t *texture = (uint8_t *)calloc(LANYARDROVE_TEXTURE_BYTES, 1);
         uint64_t *fields = (uint64_t *)malloc(8);
-        CHECK(list && work && out && fields);
-        if (list && work && out && fields) {
+        CHECK(list && work && out && texture && fields);
+        if (list && work && out && texture && fields) {
+            const unsigned drawn = length % 8 ? 2 : length < 8 * 7 ? 0 : 17; /* L has no texture image */
             list_of(words, 9);
             memcpy(list, a_list.bytes, length);
             memset(work, OLD, 2 * length);
             memset(out, OLD, 2 * length);
             CHECK(lanyardrove_check(list, length) == lanyardrove_check(a_list.bytes, length));
             CHECK(lanyardrove_number(lanyardrove_repair(list, length, work, 2 * length, out, 2 * length)) == (length % 8 ? 2 : 0));
-            CHECK(lanyardrove_number(lanyardrove_draw(list, length, out, 2 * length, 0)) == (length % 8 ? 2 : 0));
+            CHECK(lanyardrove_number(lanyardrove_draw(list, length, out, 2 * length, 0, texture, LANYARDROVE_TEXTURE_BYTES)) == drawn);
             CHECK(lanyardrove_number(lanyardrove_decode(list, length, fields, 1)) == (length < 8 ? 3 : 14));
         }
         free(list);
         free(work);
         free(out);
+        free(texture);
         free(fields);
     }
 }
@@ -1174,6 +1515,231 @@ static void stream_any_bytes(void) {
     }
 }
 
+/* ---- Display lists (document 02, #108, and document 003's formats): a memory of commands, and the RDP list that one stands for. */
+
+#define END 0xDF00000000000000u
+#define CALL(offset) (0xDE00000000000000u | (offset))
+#define GO(offset) (0xDE01000000000000u | (offset))
+#define PIPE_SYNC 0xE700000000000000u
+#define TEXRECT 0xE412345678ABCDEFu
+#define HALF_1 0xE1FFFFFF00100020u /* the bits above a half-word do not count */
+#define HALF_2 0xF1FFFFFF04000400u
+
+/* A display list in a_list from an offset: the words written, with exactly the room needed, and 14 with a byte less. */
+static void translates(size_t length, uint32_t start, const uint64_t *written, size_t m, unsigned read, int line) {
+    fresh(&an_out);
+    if (m) expect_answer(lanyardrove_translate(a_list.bytes, length, start, an_out.bytes, 8 * m - 1), 14, read, (unsigned)m, line);
+    if (m) expect_answer(lanyardrove_translate(a_list.bytes, length, start, NULL, 0), 14, read, (unsigned)m, line);
+    expect(untouched_from(&an_out, 0), "14 leaves the output", line);
+    expect_answer(lanyardrove_translate(a_list.bytes, length, start, an_out.bytes, 8 * m), 0, read, (unsigned)m, line);
+    expect(begins(an_out.bytes, written, m) && untouched_from(&an_out, 8 * m), "the words, and nothing beyond", line);
+    fresh(&an_out);
+    expect_answer(lanyardrove_translate(a_list.bytes, length, start, an_out.bytes, ROOM), 0, read, (unsigned)m, line);
+    expect(begins(an_out.bytes, written, m) && untouched_from(&an_out, 8 * m), "the words, with room to spare", line);
+    expect(untouched_from(&a_list, length), "nothing beside the memory", line);
+}
+#define TRANSLATES(words, written, read) translates(LIST(words), 0, (written), COUNT(written), (read), __LINE__)
+
+/* The refusal, with room and without. */
+static void translate_refuses(size_t length, uint32_t start, unsigned number, unsigned place, unsigned read, int line) {
+    fresh(&an_out);
+    expect_answer(lanyardrove_translate(a_list.bytes, length, start, an_out.bytes, ROOM), number, read, place, line);
+    expect_answer(lanyardrove_translate(a_list.bytes, length, start, NULL, 0), number, read, place, line);
+    expect(untouched_from(&an_out, 0), "a refusal leaves the output", line);
+}
+#define TRANSLATE_REFUSES(words, number, place, read) translate_refuses(LIST(words), 0, (number), (place), (read), __LINE__)
+
+/* Straight commands, a texture rectangle with its half-words, and where a list begins. */
+static void translate_words(void) {
+    const uint64_t nothing[] = {END};
+    const uint64_t straight[] = {PIPE_SYNC, 0xFF10013F00100000u, 0xF0FFFFFFFFFFFFFFu, END, PIPE_SYNC};
+    const uint64_t straight_written[] = {PIPE, 0x3F10013F00100000u, 0x30FFFFFFFFFFFFFFu};
+    const uint64_t rectangles[] = {TEXRECT, HALF_1, HALF_2, 0xE500000007000000u, 0xE100000089ABCDEFu, 0xF100000012345678u, END};
+    const uint64_t rectangles_written[] = {0x2412345678ABCDEFu, 0x0010002004000400u, 0x2500000007000000u, 0x89ABCDEF12345678u};
+    translates(LIST(nothing), 0, NULL, 0, 1, __LINE__);
+    TRANSLATES(straight, straight_written, 4);
+    translates(LIST(straight), 8, straight_written + 1, 2, 3, __LINE__);
+    translates(LIST(straight), 24, NULL, 0, 1, __LINE__);
+    TRANSLATES(rectangles, rectangles_written, 7);
+    CHECK(begins(a_list.bytes, rectangles, COUNT(rectangles)));
+}
+
+/* 0xE2 and 0xE3 change a word each, keep the other, and write the whole setting; 0xEF sets it. Every shift and count is tried. */
+static void translate_modes(void) {
+    /* the render mode, 29 bits from bit 3 on; the cycle type, 2 bits from bit 20 of the high word on; alpha compare, 2 bits from bit 0 */
+    const uint64_t words[] = {0xE200001C00504240u, 0xE3000A0100300000u, 0xE2001E0100000001u, 0xEFABCDEF0123456Fu, 0xE2001E0100000001u, END};
+    const uint64_t written[] = {0x2F00000000504240u, 0x2F30000000504240u, 0x2F30000000504241u, 0x2FABCDEF0123456Fu, 0x2FABCDEF0123456Du};
+    const uint64_t called[] = {0xEFFFFFFFFFFFFFFFu, CALL(32), 0xE300001F00000000u, END, 0xE2001F0000000000u, END};
+    const uint64_t called_written[] = {0x2FFFFFFFFFFFFFFFu, 0x2FFFFFFFFFFFFFFEu, 0x2F000000FFFFFFFEu}; /* the setting lasts over calls */
+    uint64_t shift, count;
+    TRANSLATES(words, written, 6);
+    TRANSLATES(called, called_written, 6);
+    for (shift = 0; shift < 256; shift++)
+        for (count = 0; count < 256; count++) {
+            const uint64_t set = 0xEF00FF00FF00FF00u, data = 0x8000000000000001u * (shift & 1) & 0xFFFFFFFFu; /* bits outside the mask too */
+            const uint64_t one[] = {set, 0xE200000000000000u | shift << 40 | count << 32 | data, END};
+            const uint64_t cleared = shift + count < 32 ? (((uint64_t)1 << (count + 1)) - 1) << (31 - shift - count) : 0;
+            const uint64_t one_written[] = {set & ~((uint64_t)0xC0 << 56), (0x2F00FF00FF00FF00u & ~cleared) | data};
+            if (shift + count < 32)
+                TRANSLATES(one, one_written, 3);
+            else
+                TRANSLATE_REFUSES(one, 23, 8, 1);
+        }
+}
+
+/* Calls return, to eight deep; going for good takes no depth, and its end is that of the list that went. */
+static void translate_calls(void) {
+    const uint64_t twice[] = {CALL(32), PIPE_SYNC, CALL(32), END, 0xE600000000000000u, END}, twice_written[] = {LOAD, PIPE, LOAD};
+    const uint64_t gone[] = {CALL(24), PIPE_SYNC, END, GO(40), PIPE_SYNC, 0xE800000000000000u, END}, gone_written[] = {TILE, PIPE};
+    const uint64_t itself[] = {CALL(0), END}, circle[] = {PIPE_SYNC, GO(0)};
+    uint64_t deep[22], written[] = {PIPE};
+    size_t k;
+    TRANSLATES(twice, twice_written, 8);
+    TRANSLATES(gone, gone_written, 6);
+    for (k = 0; k < 11; k++) { /* list k at 16 * k calls the next */
+        deep[2 * k] = CALL(16 * (k + 1));
+        deep[2 * k + 1] = END;
+    }
+    TRANSLATE_REFUSES(deep, 23, 128, 8);
+    deep[16] = PIPE_SYNC;
+    TRANSLATES(deep, written, 18);
+    translate_refuses(LIST(deep), 17, 20, 17, 0, __LINE__);
+    deep[0] = GO(16); /* a call fewer is open */
+    deep[16] = CALL(144);
+    deep[18] = PIPE_SYNC;
+    TRANSLATES(deep, written, 1 + 8 + 2 + 8);
+    TRANSLATE_REFUSES(itself, 23, 0, 8);
+    TRANSLATE_REFUSES(circle, 21, 0, 4096);
+}
+
+/* Each half-word is judged at its own offset; the rectangle counts as read, and a half-word that is refused does not. */
+static void translate_half_words(void) {
+    static const uint64_t others[] = {END, HALF_2, PIPE_SYNC, TEXRECT, GO(0), 0xFD00000001000000u, N};
+    size_t k;
+    for (k = 0; k < COUNT(others); k++) {
+        const uint64_t first[] = {TEXRECT, others[k], HALF_2, END}, second[] = {TEXRECT, HALF_1, others[k] == HALF_2 ? HALF_1 : others[k], END};
+        TRANSLATE_REFUSES(first, 22, 8, 1);
+        TRANSLATE_REFUSES(second, 22, 16, 2);
+        translate_refuses(LIST(first) - 24, 0, 20, 8, 1, __LINE__);
+        translate_refuses(LIST(first) - 17, 0, 20, 8, 1, __LINE__);
+        translate_refuses(LIST(second) - 16, 0, 20, 16, 2, __LINE__);
+    }
+}
+
+/* Every number, as the first command: those that 02 names, and 22. */
+static void translate_numbers(void) {
+    uint64_t number;
+    for (number = 0; number < 256; number++) {
+        const uint64_t words[] = {number << 56 | 0x0001020300000000u, HALF_1, HALF_2, END};
+        const uint64_t as_command[] = {number << 58 >> 2 | 0x0001020300000000u};
+        if (number == 0xDF)
+            translates(LIST(words), 0, NULL, 0, 1, __LINE__);
+        else if (number == 0xE4 || number == 0xE5)
+            CHECK(lanyardrove_number(lanyardrove_translate(a_list.bytes, LIST(words), 0, an_out.bytes, ROOM)) == 0);
+        else if (number >= 0xE6 && number != 0xF1) {
+            TRANSLATE_REFUSES(words, 22, 8, 1); /* a half-word out of place */
+            put(a_list.bytes + 8, END);
+            translates(sizeof words, 0, as_command, 1, 2, __LINE__);
+        } else if (number == 0xDE)
+            TRANSLATE_REFUSES(words, 21, 0, 4096); /* its parameter is 01, and it goes to itself */
+        else if (number == 0xE2 || number == 0xE3)
+            TRANSLATE_REFUSES(words, 22, 8, 1);
+        else
+            TRANSLATE_REFUSES(words, 22, 0, 0);
+    }
+}
+
+/* 20: an offset that is no multiple of 8, or a command that is not all in the memory; also where a call or a return leads. */
+static void translate_outside(void) {
+    const uint64_t words[] = {PIPE_SYNC, END}, to_odd[] = {CALL(12), END}, to_end[] = {GO(16), END}, far_off[] = {PIPE_SYNC, CALL(0xFFFFF8)};
+    const uint64_t calls_last[] = {GO(16), END, CALL(8)};
+    uint32_t start;
+    size_t length;
+    for (start = 1; start < 32; start++)
+        if (start % 8 || start > 8) translate_refuses(LIST(words), start, 20, start, 0, __LINE__);
+    translate_refuses(LIST(words), UINT32_MAX, 20, UINT32_MAX, 0, __LINE__);
+    translate_refuses(LIST(words), UINT32_MAX - 7, 20, UINT32_MAX - 7, 0, __LINE__);
+    for (length = 0; length < 16; length++) translate_refuses(length, 0, 20, length < 8 ? 0 : 8, length < 8 ? 0 : 1, __LINE__);
+    TRANSLATE_REFUSES(to_odd, 20, 12, 1);
+    TRANSLATE_REFUSES(to_end, 20, 16, 1);
+    TRANSLATE_REFUSES(far_off, 20, 0xFFFFF8, 2);
+    TRANSLATE_REFUSES(calls_last, 20, 24, 3);
+}
+
+/* 23: addresses with a top byte, of 0xDE and 0xFD to 0xFF alone, and parameters of 0xDE. */
+static void translate_settings(void) {
+    uint64_t number, parameter, bit;
+    for (bit = 0; bit < 32; bit++) {
+        const uint64_t address = (uint64_t)1 << bit, called[] = {CALL(address), END}, gone[] = {GO(address), END};
+        const unsigned refusal = bit > 23 ? 23 : bit == 3 ? 0 : 20;
+        for (number = 0xF2; number < 0x100; number++) {
+            const uint64_t words[] = {number << 56 | address, END}, written[] = {number << 58 >> 2 | address};
+            if (number > 0xFC && bit > 23)
+                TRANSLATE_REFUSES(words, 23, 0, 0);
+            else
+                TRANSLATES(words, written, 2);
+        }
+        if (refusal == 0) {
+            translates(LIST(called), 0, NULL, 0, 3, __LINE__);
+            translates(LIST(gone), 0, NULL, 0, 2, __LINE__);
+        } else {
+            TRANSLATE_REFUSES(called, refusal, refusal == 23 ? 0 : (unsigned)address, refusal == 23 ? 0 : 1);
+            TRANSLATE_REFUSES(gone, refusal, refusal == 23 ? 0 : (unsigned)address, refusal == 23 ? 0 : 1);
+        }
+    }
+    for (parameter = 2; parameter < 256; parameter++) {
+        const uint64_t words[] = {CALL(8) | parameter << 48, END};
+        TRANSLATE_REFUSES(words, 23, 0, 0);
+    }
+}
+
+/* A memory of 0xE7 from the first on, so many, and then these commands; its length. */
+static size_t after_syncs(size_t count, const uint64_t *last, size_t n) {
+    size_t k;
+    fresh(&a_list);
+    for (k = 0; k < count; k++) put(a_list.bytes + 8 * k, PIPE_SYNC);
+    for (k = 0; k < n; k++) put(a_list.bytes + 8 * (count + k), last[k]);
+    return 8 * (count + n);
+}
+
+/* 4,096 commands are read, half-words among them; at the next 20 comes before 21, and 21 before 22 and 23. */
+static void translate_most_commands(void) {
+    const uint64_t end[] = {END}, rectangle[] = {TEXRECT, HALF_1, HALF_2, END}, odd[] = {GO(12)}, unnamed[] = {N}, ninth[] = {GO(0xFF000000u)};
+    static uint64_t written[4095];
+    size_t k;
+    for (k = 0; k < COUNT(written); k++) written[k] = PIPE;
+    translates(after_syncs(4095, end, 1), 0, written, 4095, 4096, __LINE__);
+    translate_refuses(after_syncs(4096, end, 1), 0, 21, 8 * 4096, 4096, __LINE__);
+    translate_refuses(after_syncs(4096, end, 0), 0, 20, 8 * 4096, 4096, __LINE__);
+    written[4092] = 0x2412345678ABCDEFu;
+    written[4093] = 0x0010002004000400u;
+    translates(after_syncs(4092, rectangle, 4), 0, written, 4094, 4096, __LINE__);
+    translate_refuses(after_syncs(4093, rectangle, 4), 0, 21, 8 * 4096, 4096, __LINE__);
+    translate_refuses(after_syncs(4094, rectangle, 4), 0, 21, 8 * 4096, 4096, __LINE__);
+    translate_refuses(after_syncs(4095, rectangle, 4), 0, 21, 8 * 4096, 4096, __LINE__);
+    translate_refuses(after_syncs(4095, odd, 1), 0, 20, 12, 4096, __LINE__);
+    translate_refuses(after_syncs(4096, unnamed, 1), 0, 21, 8 * 4096, 4096, __LINE__);
+    translate_refuses(after_syncs(4096, ninth, 1), 0, 21, 8 * 4096, 4096, __LINE__);
+    translate_refuses(after_syncs(4095, unnamed, 1), 0, 22, 8 * 4095, 4095, __LINE__);
+    translate_refuses(after_syncs(4095, ninth, 1), 0, 23, 8 * 4095, 4095, __LINE__);
+}
+
+/* What lies beyond 4,294,967,288 bytes counts as not lent. Two pages are touched; where there is no such block, this is left out. */
+static void translate_most_memory(void) {
+    const size_t most = 4294967288u;
+    uint8_t *memory = sizeof(size_t) > 4 ? (uint8_t *)calloc(most + 64, 1) : NULL;
+    if (memory == NULL) return;
+    put(memory + most - 8, PIPE_SYNC);
+    put(memory + most, END);
+    ANSWERS(lanyardrove_translate(memory, most + 64, (uint32_t)(most - 8), NULL, 0), 20, 1, (unsigned)most);
+    ANSWERS(lanyardrove_translate(memory, most + 64, (uint32_t)most, NULL, 0), 20, 0, (unsigned)most);
+    put(memory + most - 8, END);
+    ANSWERS(lanyardrove_translate(memory, most + 64, (uint32_t)(most - 8), NULL, 0), 0, 1, 0);
+    ANSWERS(lanyardrove_translate(memory, most, (uint32_t)(most - 8), NULL, 0), 0, 1, 0);
+    ANSWERS(lanyardrove_translate(memory, most - 1, (uint32_t)(most - 8), NULL, 0), 20, 0, (unsigned)(most - 8));
+    free(memory);
+}
+
 int main(void) {
     parts();
     null_pointers();
@@ -1183,6 +1749,17 @@ int main(void) {
     repair_lists();
     random_repairs();
     draw_lists();
+    load_and_copy();
+    later_bytes_stay();
+    kept_pixels();
+    texture_length();
+    drawn_or_not();
+    copy_needs();
+    load_needs();
+    order_at_an_act();
+    edges_of_memory();
+    edges_of_texture();
+    refused_after_work();
     unassigned_numbers();
     every_number();
     exact_blocks();
@@ -1197,6 +1774,15 @@ int main(void) {
     stream_cycles();
     stream_most_cycles();
     stream_any_bytes();
+    translate_words();
+    translate_modes();
+    translate_calls();
+    translate_half_words();
+    translate_numbers();
+    translate_outside();
+    translate_settings();
+    translate_most_commands();
+    translate_most_memory();
     if (failures)
         printf("test_boundary: %lu checks, %lu FAILED\n", checks, failures);
     else
