@@ -17,6 +17,9 @@ enum { STATUS_ACCEPTED = 0, STATUS_REFUSED = 1, STATUS_ERROR = 2 };
 #define REPAIR_LIMIT 16384u
 #define FILE_LIMIT (1024u * 1024u)
 
+/* texture memory, in bytes */
+#define TEXTURE_BYTES 4096u
+
 /* -- answer.c: the parts of an answer, and what it means ---------------- */
 
 typedef struct {
@@ -51,6 +54,7 @@ int status_of(Answer answer);
 Meaning meaning_of(const List *list, Answer answer, Purpose purpose);
 void print_answer(FILE *stream, const List *list, Answer answer, Purpose purpose);
 const char *reason_of(unsigned number);
+extern const char copy_needs[];
 
 /* -- source.c: the bytes of a list where they are ----------------------- */
 
@@ -204,6 +208,16 @@ void pixel_rgb(const uint8_t *pixel, uint32_t bits, uint8_t *rgb);
 uint8_t *image_rgb(const Image *image, const Memory *memory);
 uint8_t *image_png(const Image *image, const uint8_t *rgb, size_t *length);
 uint8_t *image_ppm(const Image *image, const uint8_t *rgb, size_t *length);
+
+/* -- memory.c: what drawing is lent ------------------------------------- */
+
+typedef struct {
+    Memory memory, texture;
+} Lent;
+
+bool lend(uint64_t length, uint64_t start, Lent *lent);
+Answer draw_into(const List *list, const Lent *lent);
+void lent_free(Lent *lent);
 
 /* -- message.c: messages, and names that are shown ---------------------- */
 

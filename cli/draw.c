@@ -1,4 +1,4 @@
-/* lanyardrove draw: the fill rectangles of a list, drawn into memory. */
+/* lanyardrove draw: a list drawn into memory. */
 #include "cli.h"
 
 #include <inttypes.h>
@@ -62,24 +62,25 @@ static int refuse(const List *list, Answer answer, const Memory *memory)
     if (answer.number == LANYARDROVE_OUTSIDE_MEMORY) {
         memory_text(memory, text, sizeof text);
         printf("--memory and --start give %s\n", text);
-    }
+    } else if (answer.number == LANYARDROVE_NOT_COPYABLE)
+        printf("%s\n", copy_needs);
     return STATUS_REFUSED;
 }
 
 /* Draws, and writes what was asked for; nothing where the list is refused. */
-static int draw_list(const Arguments *arguments, const List *list, const Memory *memory)
+static int draw_list(const Arguments *arguments, const List *list, const Lent *lent)
 {
-    Answer answer = answer_of(lanyardrove_draw(list->bytes, list->length, memory->bytes, memory->length, memory->start));
+    Answer answer = draw_into(list, lent);
     bool memory_alone = !arguments->has_image && form_of(arguments->output) == AS_BIN;
     Image image = arguments->image;
     char written[TEXT_ROOM];
     if (!is_accepted(answer))
-        return refuse(list, answer, memory);
+        return refuse(list, answer, &lent->memory);
     if (!memory_alone && !arguments->has_image && !image_of_list(list, &image)) {
         complain("the list draws no picture: give --image ADDRESS,WIDTH,HEIGHT,SIZE");
         return STATUS_ERROR;
     }
-    if (!write_drawn(arguments->output, memory_alone ? NULL : &image, memory, written, sizeof written))
+    if (!write_drawn(arguments->output, memory_alone ? NULL : &image, &lent->memory, written, sizeof written))
         return STATUS_ERROR;
     print_answer(stdout, list, answer, FOR_DRAW);
     print_shown(stdout, arguments->output);
@@ -90,18 +91,15 @@ static int draw_list(const Arguments *arguments, const List *list, const Memory 
 static int draw_file(const Arguments *arguments)
 {
     List list;
-    Memory memory = { NULL, (size_t)arguments->memory, arguments->start };
+    Lent lent = { 0 };
+    int status = STATUS_ERROR;
     if (!list_read(arguments->paths[0], &list, &to_judge, &arguments->input))
         return STATUS_ERROR;
-    memory.bytes = calloc(1, memory.length + 1);
-    int status = STATUS_ERROR;
     if (is_refused(list.verdict)) /* drawing runs the whole check first */
-        status = refuse(&list, list.verdict, &memory);
-    else if (memory.bytes == NULL)
-        complain("not enough memory");
-    else
-        status = draw_list(arguments, &list, &memory);
-    free(memory.bytes);
+        status = refuse(&list, list.verdict, &lent.memory);
+    else if (lend(arguments->memory, arguments->start, &lent))
+        status = draw_list(arguments, &list, &lent);
+    lent_free(&lent);
     list_free(&list);
     return status;
 }

@@ -29,9 +29,10 @@ static const Entry entries[] = {
       "the hazards go on as if it had run." },
     { OF_DRAW, "draw", run_draw, 1,
       "draw FILE --memory BYTES -o OUT [OPTION]..\n"
-      "Draws the fill rectangles of a list into memory of zeros, and writes the\n"
-      "picture in it. Nothing is written where the list is refused. Numbers are\n"
-      "decimal, or hexadecimal after 0x." },
+      "Draws a list into memory of zeros, and writes the picture in it: fill\n"
+      "rectangles, and what texture rectangles copy of the tiles that are loaded.\n"
+      "Nothing is written where the list is refused. Numbers are decimal, or\n"
+      "hexadecimal after 0x." },
     { OF_REPORT, "report", run_report, 1,
       "report FILE -o OUT\n"
       "Writes a page in HTML, which needs no other file: the verdict with the cycles\n"

@@ -75,8 +75,8 @@ static const Option options[] = {
     { OF_DRAW, "image", 0, "ADDRESS,WIDTH,HEIGHT,SIZE", set_image, 0,
       "ADDRESS,WIDTH,HEIGHT,SIZE with sides of 1 to 4096 and SIZE 8, 16 or 32",
       "the picture, with SIZE bits a pixel (8, 16 or 32); if not\n"
-      "given, the colour image of the last Fill Rectangle, as\n"
-      "high as the scissor" },
+      "given, the colour image of the last rectangle, as high as\n"
+      "the scissor" },
     { OF_REPAIR, "check", 0, FLAG(dry), "write nothing; status 1 where a sync would be inserted" },
     { OF_REPAIR, "in-place", 'i', FLAG(in_place), "write each list over itself, where a sync is inserted" },
     { OF_REPAIR, "output", 'o', OUTPUT, "the file to write; it may be FILE itself" },

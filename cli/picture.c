@@ -6,7 +6,7 @@
 #include <stdlib.h>
 #include <string.h>
 
-/* The colour image of the last Fill Rectangle of a list, as high as the scissor there. */
+/* The colour image of the last rectangle of a list that can be drawn, as high as the scissor there. */
 bool image_of_list(const List *list, Image *image)
 {
     Command command;
@@ -19,7 +19,7 @@ bool image_of_list(const List *list, Image *image)
             set.bits = 4u << command.fields[LANYARDROVE_IMAGE_SIZE];
         } else if (command.number == LANYARDROVE_SET_SCISSOR)
             set.height = ((uint32_t)command.fields[LANYARDROVE_SCISSOR_LOWER_RIGHT_Y] + 3) / 4;
-        else if (command.number == LANYARDROVE_FILL_RECTANGLE) {
+        else if (command.number == LANYARDROVE_FILL_RECTANGLE || command.number == LANYARDROVE_TEXTURE_RECTANGLE) {
             *image = set;
             drawn = true;
         }

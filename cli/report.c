@@ -53,23 +53,26 @@ static void find_missing(Report *report)
         report->missing = (Insertion){ report->answer.place, syncs[report->answer.number - LANYARDROVE_SYNC_LOAD_MISSING] };
 }
 
-/* Draws a list and makes the PNG of its picture, if there is one. */
+/* The PNG of the picture that a list has drawn, if there is one. */
+static bool make_png(Report *report, const List *list, const Memory *memory)
+{
+    if (!image_of_list(list, &report->image) || !image_inside(&report->image, memory))
+        return true;
+    uint8_t *rgb = image_rgb(&report->image, memory);
+    report->png = rgb != NULL ? image_png(&report->image, rgb, &report->png_length) : NULL;
+    free(rgb);
+    return report->png != NULL;
+}
+
 static bool draw_picture(Report *report, const List *list)
 {
-    Memory memory = { calloc(1, MEMORY_BYTES), MEMORY_BYTES, 0 };
-    if (memory.bytes == NULL) {
-        complain("not enough memory for the picture");
-        return false;
+    Lent lent;
+    bool done = lend(MEMORY_BYTES, 0, &lent);
+    if (done) {
+        report->drawing = draw_into(list, &lent);
+        done = is_refused(report->drawing) || make_png(report, list, &lent.memory);
     }
-    bool done = true;
-    report->drawing = answer_of(lanyardrove_draw(list->bytes, list->length, memory.bytes, memory.length, memory.start));
-    if (is_accepted(report->drawing) && image_of_list(list, &report->image) && image_inside(&report->image, &memory)) {
-        uint8_t *rgb = image_rgb(&report->image, &memory);
-        report->png = rgb != NULL ? image_png(&report->image, rgb, &report->png_length) : NULL;
-        done = report->png != NULL;
-        free(rgb);
-    }
-    free(memory.bytes);
+    lent_free(&lent);
     return done;
 }
 

@@ -160,6 +160,8 @@ static void add_picture(Text *text, const Report *report)
         text_add(text, "<p>The %slist cannot be drawn: ", repaired ? "repaired " : "");
         add_answer(text, &report->list, report->drawing, FOR_DRAW);
         text_add(text, ".</p>\n");
+        if (report->drawing.number == LANYARDROVE_NOT_COPYABLE)
+            text_add(text, "<p class=\"note\">%s</p>\n", copy_needs);
     }
     text_add(text, "</section>\n");
 }

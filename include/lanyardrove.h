@@ -50,13 +50,18 @@ enum lanyardrove_ground {
     LANYARDROVE_SYNC_LOAD_MISSING = 7,  /* A Sync Load is missing before the command at the place. */
     LANYARDROVE_SYNC_TILE_MISSING = 8,  /* A Sync Tile is missing before the command at the place. */
     LANYARDROVE_SYNC_PIPE_MISSING = 9,  /* A Sync Pipe is missing before the command at the place. */
-    LANYARDROVE_NOT_A_FILL = 10,        /* Drawing: any draw but a Fill Rectangle in FILL mode; place its first word. */
+    LANYARDROVE_NOT_A_FILL = 10,        /* Drawing: any draw but a Fill Rectangle in FILL mode and a Texture Rectangle (0x24) in
+                                           COPY mode; place its first word. */
     LANYARDROVE_MISALIGNED = 11,        /* Drawing: the colour image's address is no multiple of 64; the draw's first word. */
-    LANYARDROVE_OUTSIDE_MEMORY = 12,    /* Drawing: a byte of a kept pixel is outside the memory; the draw's first word. */
+    LANYARDROVE_OUTSIDE_MEMORY = 12,    /* Drawing: a byte of a kept pixel or of a loaded texel is outside the memory; the
+                                           command's first word. */
     LANYARDROVE_WORK_TOO_SHORT = 13,    /* Repair: the work buffer is below 16 bytes a command; place the commands. */
     LANYARDROVE_OUTPUT_TOO_SHORT = 14,  /* The output is too short for all that would be written; place what is needed. */
     LANYARDROVE_NOT_ENCODABLE = 15,     /* Encoding: a field exceeds its bits, the number is none of 0 to 63, or the fields or
                                            suffix bytes are not as many as are due; place 0. */
+    LANYARDROVE_TEXTURE_LENGTH = 16,    /* Drawing: the texture memory is not 4,096 bytes; place 0. */
+    LANYARDROVE_NOT_COPYABLE = 17,      /* Drawing: a load or a copy that lanyardrove_draw does not take; its first word. */
+    LANYARDROVE_OUTSIDE_TEXTURE = 18,   /* Drawing: a byte loaded to or read is outside the texture memory; its first word. */
     LANYARDROVE_UNASSIGNED = 19,        /* A number that no command has (0x01-0x07, 0x10-0x23, 0x31); place its word. */
     LANYARDROVE_RECORD_DAMAGED = 28     /* Stream: the record is none that feeding and closing leave; place 0. */
 };
@@ -146,13 +151,18 @@ uint64_t lanyardrove_repair(const uint8_t *list, size_t list_length,
                             uint8_t *work, size_t work_length,
                             uint8_t *out, size_t out_length);
 
-/* Draws the Fill Rectangles of a list into memory: memory[i] is the byte at address start + i of the console's memory, which
-   the colour image's address counts in. start is any number, and no sum of it wraps.
-   Answers 0 at the words of the list; or the first refusal of the check (1 to 9 and 19), then the first of 10 to 12 along the
-   draws.
-   A refusal leaves every byte of memory as it was: nothing is drawn before all is tested. */
+/* Draws a list into memory: its Fill Rectangles in FILL mode, and its Texture Rectangles (0x24) in COPY mode, of the texels
+   that Load Tile puts into texture memory. memory[i] is the byte at address start + i of the console's memory, which the
+   addresses of colour and texture images count in. start is any number, and no sum of it wraps. texture is 4,096 bytes.
+   Answers 0 at the words of the list; or the first refusal of the check (1 to 9 and 19), then 16 at 0, then the first along the
+   commands: of a draw 10, 11, 17, 12, 18, of a load 17, 12, 18.
+   17 is a Load TLUT or Load Block; a Load Tile whose texture image or tile is not set or not 16-bit RGBA; a rectangle in COPY
+   mode whose tile is not, or on a colour image not of 16 bits, or with dsdx not 0x1000, dtdy not 0x0400, s, t or the tile's
+   upper left not whole texels, or mask, shift, mirror, perspective, look-up or alpha compare on.
+   A refusal leaves every byte of both memories as it was: nothing is drawn before all is tested. */
 uint64_t lanyardrove_draw(const uint8_t *list, size_t list_length,
-                          uint8_t *memory, size_t memory_length, uint64_t start);
+                          uint8_t *memory, size_t memory_length, uint64_t start,
+                          uint8_t *texture, size_t texture_length);
 
 /* The longest command's words, and the most fields that a command has. */
 #define LANYARDROVE_MOST_WORDS 22
