@@ -17,7 +17,8 @@ enum { STATUS_ACCEPTED = 0, STATUS_REFUSED = 1, STATUS_ERROR = 2 };
 #define REPAIR_LIMIT 16384u
 #define FILE_LIMIT (1024u * 1024u)
 
-/* texture memory, in bytes */
+/* the most memory, and texture memory */
+#define MEMORY_LIMIT (256u * 1024u * 1024u)
 #define TEXTURE_BYTES 4096u
 
 /* -- answer.c: the parts of an answer, and what it means ---------------- */
@@ -209,16 +210,6 @@ uint8_t *image_rgb(const Image *image, const Memory *memory);
 uint8_t *image_png(const Image *image, const uint8_t *rgb, size_t *length);
 uint8_t *image_ppm(const Image *image, const uint8_t *rgb, size_t *length);
 
-/* -- memory.c: what drawing is lent ------------------------------------- */
-
-typedef struct {
-    Memory memory, texture;
-} Lent;
-
-bool lend(uint64_t length, uint64_t start, Lent *lent);
-Answer draw_into(const List *list, const Lent *lent);
-void lent_free(Lent *lent);
-
 /* -- message.c: messages, and names that are shown ---------------------- */
 
 void complain(const char *format, ...) __attribute__((format(printf, 1, 2)));
@@ -250,7 +241,8 @@ typedef struct {
     bool help, brief, quiet, verbose, failures, all, dry, in_place, has_memory, has_image;
     const struct Format *format; /* of what check tells */
     Number from, to, around; /* places that dump shows */
-    uint64_t memory, start;
+    const char *memory_file, *texture; /* files of memory and of texture memory; NULL where they are zeros */
+    uint64_t memory, start; /* the length of zeros, and the address of the first byte */
     Image image;
 } Arguments;
 
@@ -280,6 +272,17 @@ typedef struct {
 
 int run_entry(const Entry *entry, int argc, char **argv);
 const Option *option_at(unsigned command, size_t index);
+
+/* -- memory.c: what drawing is lent ------------------------------------- */
+
+typedef struct {
+    Memory memory, texture;
+} Lent;
+
+bool memory_read(const char *path, Memory *memory);
+bool lend(const Arguments *arguments, uint64_t length, Lent *lent);
+Answer draw_into(const List *list, const Lent *lent);
+void lent_free(Lent *lent);
 
 /* -- help.c ------------------------------------------------------------- */
 

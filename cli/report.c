@@ -67,7 +67,7 @@ static bool make_png(Report *report, const List *list, const Memory *memory)
 static bool draw_picture(Report *report, const List *list)
 {
     Lent lent;
-    bool done = lend(MEMORY_BYTES, 0, &lent);
+    bool done = lend(report->arguments, report->arguments->has_memory ? report->arguments->memory : MEMORY_BYTES, &lent);
     if (done) {
         report->drawing = draw_into(list, &lent);
         done = is_refused(report->drawing) || make_png(report, list, &lent.memory);
@@ -106,12 +106,24 @@ static int write_report(Report *report, const char *output)
     return status;
 }
 
+/* Why the arguments do not go together; NULL where they do. */
+static const char *fault_of(const Arguments *arguments)
+{
+    if (arguments->output == NULL)
+        return "report needs -o OUT";
+    if (is_same_file(arguments->paths[0], arguments->output))
+        return "the output is the list itself";
+    if (is_same_file(arguments->memory_file, arguments->output) || is_same_file(arguments->texture, arguments->output))
+        return "the output is memory that the list is drawn into";
+    return NULL;
+}
+
 int run_report(const Arguments *arguments)
 {
-    const char *path = arguments->paths[0];
-    Report report = { .path = strcmp(path, "-") == 0 ? "standard input" : path };
-    if (arguments->output == NULL || is_same_file(path, arguments->output)) {
-        complain("%s", arguments->output == NULL ? "report needs -o OUT" : "the output is the list itself");
+    const char *path = arguments->paths[0], *fault = fault_of(arguments);
+    Report report = { .path = strcmp(path, "-") == 0 ? "standard input" : path, .arguments = arguments };
+    if (fault != NULL) {
+        complain("%s", fault);
         return usage_error(arguments->command);
     }
     if (!list_read(path, &report.list, &to_show, &arguments->input))

@@ -48,9 +48,9 @@ class Page(html.parser.HTMLParser):
         return png_pixels(base64.b64decode(self.images[0][len(head):], validate=True))
 
 
-def reported(data, status, name="list.rdp"):
+def reported(data, status, name="list.rdp", *more):
     write(name, data)
-    same(run("report", name, "-o", "out.html"), (status, "", ""), name)
+    same(run("report", name, "-o", "out.html", *more), (status, "", ""), name)
     page = Page(read("out.html").decode())
     assert not page.tags & {"script", "link", "iframe"}, page.tags
     assert not re.search(r"https?:|@import|url\(|\033", page.source), "the page needs another file"
