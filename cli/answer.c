@@ -45,9 +45,11 @@ static const char *refusal_text(unsigned number)
     case LANYARDROVE_SYNC_LOAD_MISSING: return "requires Sync Load";
     case LANYARDROVE_SYNC_TILE_MISSING: return "requires Sync Tile";
     case LANYARDROVE_SYNC_PIPE_MISSING: return "requires Sync Pipe";
-    case LANYARDROVE_NOT_A_FILL: return "is not drawn: only Fill Rectangle in FILL mode is";
+    case LANYARDROVE_NOT_A_FILL: return "is not drawn: only Fill Rectangle in FILL mode and Texture Rectangle in COPY mode are";
     case LANYARDROVE_MISALIGNED: return "draws on a colour image whose address is no multiple of 64";
-    case LANYARDROVE_OUTSIDE_MEMORY: return "draws a pixel outside memory";
+    case LANYARDROVE_OUTSIDE_MEMORY: return "reads or writes outside memory";
+    case LANYARDROVE_NOT_COPYABLE: return "is not drawn: only plain copies of 16-bit RGBA texels are";
+    case LANYARDROVE_OUTSIDE_TEXTURE: return "reads or writes outside texture memory";
     case LANYARDROVE_UNASSIGNED: return "number, which no command has: often data or a stray pointer";
     default: return "is refused for a reason that this tool does not know";
     }
@@ -69,6 +71,7 @@ static void explain(const List *list, Answer answer, Purpose purpose, Meaning *m
         break;
     case LANYARDROVE_TOO_LONG: snprintf(text, room, "the list is over %s bytes", purpose == FOR_REPAIR ? "16,384" : "32,768"); break;
     case LANYARDROVE_NOT_WORDS: snprintf(text, room, "the length of %zu bytes is no multiple of 8", list->length); break;
+    case LANYARDROVE_TEXTURE_LENGTH: snprintf(text, room, "texture memory is not 4,096 bytes"); break;
     default:
         meaning->start = (size_t)snprintf(text, room, "word %u: ", place);
         snprintf(text + meaning->start, room - meaning->start, "%s %s", name_at(list, place), refusal_text(answer.number));
@@ -96,6 +99,12 @@ void print_answer(FILE *stream, const List *list, Answer answer, Purpose purpose
     Meaning meaning = meaning_of(list, answer, purpose);
     fprintf(stream, "%u %u\n%s\n", answer.number, (unsigned)answer.place, meaning.text);
 }
+
+/* What a load or a copy needs to be drawn, for a person who does not know the rule. */
+const char copy_needs[] =
+    "Load Tile needs a texture image and a tile that are set, both of 16-bit RGBA. Texture Rectangle in COPY mode needs such a tile, a "
+    "colour image of 16 bits, dsdx 4.00 and dtdy 1.00, s, t and the tile's upper left in whole texels, and no mask, shift, mirror, "
+    "perspective, look-up or alpha compare. Load TLUT and Load Block are not drawn.";
 
 /* Why the check refuses, for a person who does not know the rule. */
 const char *reason_of(unsigned number)

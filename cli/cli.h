@@ -17,6 +17,10 @@ enum { STATUS_ACCEPTED = 0, STATUS_REFUSED = 1, STATUS_ERROR = 2 };
 #define REPAIR_LIMIT 16384u
 #define FILE_LIMIT (1024u * 1024u)
 
+/* the most memory, and texture memory */
+#define MEMORY_LIMIT (256u * 1024u * 1024u)
+#define TEXTURE_BYTES 4096u
+
 /* -- answer.c: the parts of an answer, and what it means ---------------- */
 
 typedef struct {
@@ -51,6 +55,7 @@ int status_of(Answer answer);
 Meaning meaning_of(const List *list, Answer answer, Purpose purpose);
 void print_answer(FILE *stream, const List *list, Answer answer, Purpose purpose);
 const char *reason_of(unsigned number);
+extern const char copy_needs[];
 
 /* -- source.c: the bytes of a list where they are ----------------------- */
 
@@ -236,7 +241,8 @@ typedef struct {
     bool help, brief, quiet, verbose, failures, all, dry, in_place, has_memory, has_image;
     const struct Format *format; /* of what check tells */
     Number from, to, around; /* places that dump shows */
-    uint64_t memory, start;
+    const char *memory_file, *texture; /* files of memory and of texture memory; NULL where they are zeros */
+    uint64_t memory, start; /* the length of zeros, and the address of the first byte */
     Image image;
 } Arguments;
 
@@ -266,6 +272,17 @@ typedef struct {
 
 int run_entry(const Entry *entry, int argc, char **argv);
 const Option *option_at(unsigned command, size_t index);
+
+/* -- memory.c: what drawing is lent ------------------------------------- */
+
+typedef struct {
+    Memory memory, texture;
+} Lent;
+
+bool memory_read(const char *path, Memory *memory);
+bool lend(const Arguments *arguments, uint64_t length, Lent *lent);
+Answer draw_into(const List *list, const Lent *lent);
+void lent_free(Lent *lent);
 
 /* -- help.c ------------------------------------------------------------- */
 

@@ -1,4 +1,4 @@
-/* lanyardrove draw: the fill rectangles of a list, drawn into memory. */
+/* lanyardrove draw: a list drawn into memory. */
 #include "cli.h"
 
 #include <inttypes.h>
@@ -55,68 +55,91 @@ static bool write_drawn(const char *output, const Image *image, const Memory *me
     return write_picture(output, image, memory);
 }
 
-static int refuse(const List *list, Answer answer, const Memory *memory)
+static int refuse(const List *list, Answer answer, const Lent *lent)
 {
     char text[TEXT_ROOM];
     print_answer(stdout, list, answer, FOR_DRAW);
     if (answer.number == LANYARDROVE_OUTSIDE_MEMORY) {
-        memory_text(memory, text, sizeof text);
+        memory_text(&lent->memory, text, sizeof text);
         printf("--memory and --start give %s\n", text);
-    }
+    } else if (answer.number == LANYARDROVE_TEXTURE_LENGTH)
+        printf("--texture gives %zu bytes\n", lent->texture.length);
+    else if (answer.number == LANYARDROVE_NOT_COPYABLE)
+        printf("%s\n", copy_needs);
     return STATUS_REFUSED;
 }
 
-/* Draws, and writes what was asked for; nothing where the list is refused. */
-static int draw_list(const Arguments *arguments, const List *list, const Memory *memory)
+static void print_written(const char *path, const char *what)
 {
-    Answer answer = answer_of(lanyardrove_draw(list->bytes, list->length, memory->bytes, memory->length, memory->start));
+    print_shown(stdout, path);
+    printf(": %s\n", what);
+}
+
+/* Writes what was asked for: what is drawn first, so that where it fails texture memory is still what it was. */
+static int write_all(const Arguments *arguments, const List *list, Answer answer, const Lent *lent)
+{
     bool memory_alone = !arguments->has_image && form_of(arguments->output) == AS_BIN;
     Image image = arguments->image;
     char written[TEXT_ROOM];
-    if (!is_accepted(answer))
-        return refuse(list, answer, memory);
     if (!memory_alone && !arguments->has_image && !image_of_list(list, &image)) {
         complain("the list draws no picture: give --image ADDRESS,WIDTH,HEIGHT,SIZE");
         return STATUS_ERROR;
     }
-    if (!write_drawn(arguments->output, memory_alone ? NULL : &image, memory, written, sizeof written))
+    if (!write_drawn(arguments->output, memory_alone ? NULL : &image, &lent->memory, written, sizeof written))
+        return STATUS_ERROR;
+    if (arguments->texture != NULL && !file_write(arguments->texture, lent->texture.bytes, lent->texture.length))
         return STATUS_ERROR;
     print_answer(stdout, list, answer, FOR_DRAW);
-    print_shown(stdout, arguments->output);
-    printf(": %s\n", written);
+    print_written(arguments->output, written);
+    if (arguments->texture != NULL)
+        print_written(arguments->texture, "texture memory");
     return STATUS_ACCEPTED;
+}
+
+/* Draws; nothing is written where the list is refused. */
+static int draw_list(const Arguments *arguments, const List *list)
+{
+    Lent lent;
+    int status = STATUS_ERROR;
+    if (lend(arguments, arguments->memory, &lent)) {
+        Answer answer = draw_into(list, &lent);
+        status = is_accepted(answer) ? write_all(arguments, list, answer, &lent) : refuse(list, answer, &lent);
+    }
+    lent_free(&lent);
+    return status;
 }
 
 static int draw_file(const Arguments *arguments)
 {
     List list;
-    Memory memory = { NULL, (size_t)arguments->memory, arguments->start };
     if (!list_read(arguments->paths[0], &list, &to_judge, &arguments->input))
         return STATUS_ERROR;
-    memory.bytes = calloc(1, memory.length + 1);
-    int status = STATUS_ERROR;
-    if (is_refused(list.verdict)) /* drawing runs the whole check first */
-        status = refuse(&list, list.verdict, &memory);
-    else if (memory.bytes == NULL)
-        complain("not enough memory");
-    else
-        status = draw_list(arguments, &list, &memory);
-    free(memory.bytes);
+    /* drawing runs the whole check first */
+    int status = is_refused(list.verdict) ? refuse(&list, list.verdict, NULL) : draw_list(arguments, &list);
     list_free(&list);
     return status;
 }
 
+/* Why the arguments do not go together; NULL where they do. */
+static const char *fault_of(const Arguments *arguments)
+{
+    if (!arguments->has_memory)
+        return "draw needs --memory BYTES or --memory FILE";
+    if (arguments->output == NULL)
+        return "draw needs -o OUT";
+    if (form_of(arguments->output) == AS_UNKNOWN)
+        return "the name of the output ends in none of .png, .ppm and .bin";
+    if (is_same_file(arguments->paths[0], arguments->output))
+        return "the output is the list itself";
+    if (is_same_file(arguments->paths[0], arguments->texture) || is_same_file(arguments->memory_file, arguments->texture)
+        || is_same_file(arguments->output, arguments->texture))
+        return "texture memory has a file of its own";
+    return NULL;
+}
+
 int run_draw(const Arguments *arguments)
 {
-    const char *fault = NULL;
-    if (!arguments->has_memory)
-        fault = "draw needs --memory BYTES";
-    else if (arguments->output == NULL)
-        fault = "draw needs -o OUT";
-    else if (form_of(arguments->output) == AS_UNKNOWN)
-        fault = "the name of the output ends in none of .png, .ppm and .bin";
-    else if (is_same_file(arguments->paths[0], arguments->output))
-        fault = "the output is the list itself";
+    const char *fault = fault_of(arguments);
     if (fault == NULL)
         return draw_file(arguments);
     complain("%s", fault);

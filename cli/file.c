@@ -11,9 +11,12 @@
 #include <sys/stat.h>
 #include <unistd.h>
 
+/* Names that are NULL, and files that are not there, are the same as none. */
 bool is_same_file(const char *path, const char *other)
 {
     struct stat one, two;
+    if (path == NULL || other == NULL)
+        return false;
     return stat(path, &one) == 0 && stat(other, &two) == 0 && one.st_dev == two.st_dev && one.st_ino == two.st_ino;
 }
 

@@ -12,7 +12,7 @@ static const char overview[] =
     "  check    say whether a list is accepted, or the first refusal\n"
     "  repair   insert the syncs that a list misses, at the fewest cycles\n"
     "  dump     show a list command by command\n"
-    "  draw     draw the fill rectangles of a list into memory\n"
+    "  draw     draw the rectangles of a list into memory\n"
     "  report   write a page about a list, for a browser\n\n"
     "'lanyardrove help COMMAND' or 'lanyardrove COMMAND --help' tells more of a\n"
     "command; 'lanyardrove -V' or '--version' prints the version. A FILE of - is\n"

@@ -12,14 +12,14 @@ _lanyardrove()
     case ${COMP_WORDS[1]} in
     check) options="-q --quiet -v --verbose --failures --all --format $input" ;;
     repair) options="--check -i --in-place -o --output $input" ;;
-    report) options="-o --output $input" ;;
+    report) options="--memory --start --texture -o --output $input" ;;
     dump) options="--brief --from --to --around $input" ;;
     help) mapfile -t COMPREPLY < <(compgen -W "check repair dump draw report" -- "$current"); return ;;
-    draw) options="--memory --start --image -o --output $input" ;;
+    draw) options="--memory --start --texture --image -o --output $input" ;;
     *) return ;;
     esac
     case $previous in
-    --memory) mapfile -t COMPREPLY < <(compgen -W "64K 1M 4M 8M" -- "$current"); return ;;
+    --memory) mapfile -t COMPREPLY < <(compgen -W "64K 1M 4M 8M" -- "$current"; compgen -f -- "$current"); return ;;
     --format) mapfile -t COMPREPLY < <(compgen -W "text gcc github json sarif" -- "$current"); return ;;
     --start|--image|--offset|--length|--from|--to|--around) return ;;
     esac

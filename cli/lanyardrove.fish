@@ -22,8 +22,9 @@ complete -c lanyardrove -n "__fish_seen_subcommand_from dump" -l from -x
 complete -c lanyardrove -n "__fish_seen_subcommand_from dump" -l to -x
 complete -c lanyardrove -n "__fish_seen_subcommand_from dump" -l around -x
 
-complete -c lanyardrove -n "__fish_seen_subcommand_from draw" -l memory -x -a "64K 1M 4M 8M"
-complete -c lanyardrove -n "__fish_seen_subcommand_from draw" -l start -x
+complete -c lanyardrove -n "__fish_seen_subcommand_from draw report" -l memory -r -F -a "64K 1M 4M 8M"
+complete -c lanyardrove -n "__fish_seen_subcommand_from draw report" -l start -x
+complete -c lanyardrove -n "__fish_seen_subcommand_from draw report" -l texture -r -F
 complete -c lanyardrove -n "__fish_seen_subcommand_from draw" -l image -x
 
 complete -c lanyardrove -n "__fish_seen_subcommand_from repair draw report" -s o -l output -r -F

@@ -3,9 +3,10 @@
 
 _lanyardrove()
 {
-    local -a commands input options
+    local -a commands input options memory
     commands=(check repair dump draw report)
     input=('--offset=:byte:' '--length=:bytes:' --swap --hex -h --help '*:list:_files')
+    memory=('--memory=:memory:{compadd 64K 1M 4M 8M; _files}' '--start=:address:' '--texture=:texture:_files')
     if (( CURRENT == 2 )); then
         compadd -- $commands help --help --version
         return
@@ -14,8 +15,8 @@ _lanyardrove()
     check) options=(-q --quiet -v --verbose --failures --all '--format=:form:(text gcc github json sarif)') ;;
     repair) options=(--check -i --in-place '-o:output:_files' '--output=:output:_files') ;;
     dump) options=(--brief '--from=:place:' '--to=:place:' '--around=:place:') ;;
-    draw) options=('--memory=:bytes:(64K 1M 4M 8M)' '--start=:address:' '--image=:image:' '-o:output:_files' '--output=:output:_files') ;;
-    report) options=('-o:output:_files' '--output=:output:_files') ;;
+    draw) options=($memory '--image=:image:' '-o:output:_files' '--output=:output:_files') ;;
+    report) options=($memory '-o:output:_files' '--output=:output:_files') ;;
     help) compadd -- $commands; return ;;
     *) return ;;
     esac

@@ -28,16 +28,17 @@ static const Entry entries[] = {
       "command stands why, and the command that it has to wait for is marked. After it\n"
       "the hazards go on as if it had run." },
     { OF_DRAW, "draw", run_draw, 1,
-      "draw FILE --memory BYTES -o OUT [OPTION]..\n"
-      "Draws the fill rectangles of a list into memory of zeros, and writes the\n"
-      "picture in it. Nothing is written where the list is refused. Numbers are\n"
-      "decimal, or hexadecimal after 0x." },
+      "draw FILE --memory BYTES|FILE -o OUT [OPTION]..\n"
+      "Draws a list into memory, and writes the picture in it: fill rectangles, and\n"
+      "what texture rectangles copy of the tiles that are loaded. Nothing is written\n"
+      "where the list is refused. Numbers are decimal, or hexadecimal after 0x." },
     { OF_REPORT, "report", run_report, 1,
-      "report FILE -o OUT\n"
+      "report FILE -o OUT [OPTION]..\n"
       "Writes a page in HTML, which needs no other file: the verdict with the cycles\n"
       "waited, the hazards along the list, the syncs that a repair would insert, the\n"
       "picture if it can be drawn, and the commands, with links to the refused one and\n"
-      "to the one that it has to wait for. It is written for a refused list too." }
+      "to the one that it has to wait for. It is written for a refused list too.\n"
+      "The list is drawn into zeros at every address, or into what --memory gives." }
 };
 
 static void print_version(void)

@@ -38,10 +38,20 @@ static bool set_output(void *member, const char *value)
     return true;
 }
 
+static bool set_file(void *member, const char *value)
+{
+    const char **file = member;
+    *file = value;
+    return true;
+}
+
+/* What begins with a digit is a number of bytes, anything else the name of a file. */
 static bool set_memory(void *member, const char *value)
 {
     Arguments *arguments = member;
-    return arguments->has_memory = take_bytes(value, &arguments->memory);
+    bool is_file = value[0] != '\0' && digit_of(value[0]) >= 10;
+    arguments->memory_file = is_file ? value : NULL;
+    return arguments->has_memory = is_file || take_bytes(value, &arguments->memory);
 }
 
 static bool set_image(void *member, const char *value)
@@ -52,6 +62,7 @@ static bool set_image(void *member, const char *value)
 
 #define FLAG(member) NULL, set_flag, offsetof(Arguments, member), NULL
 #define NUMBER(value, member) value, set_number, offsetof(Arguments, member), "a number"
+#define TEXTURE "FILE", set_file, offsetof(Arguments, texture), NULL
 #define OUTPUT "OUT", set_output, offsetof(Arguments, output), NULL
 
 static const Option options[] = {
@@ -70,13 +81,22 @@ static const Option options[] = {
     { OF_DUMP, "from", 0, NUMBER("PLACE", from), "show the commands from this word on" },
     { OF_DUMP, "to", 0, NUMBER("PLACE", to), "show the commands up to this word" },
     { OF_DUMP, "around", 0, NUMBER("PLACE", around), "show eight commands before the one of this word, and\neight after" },
-    { OF_DRAW, "memory", 0, "BYTES", set_memory, 0, "a number of bytes up to 256M", "the length of memory; K and M may follow" },
-    { OF_DRAW, "start", 0, "ADDRESS", set_address, offsetof(Arguments, start), "an address", "the address of its first byte; 0 if not given" },
+    { OF_DRAW | OF_REPORT, "memory", 0, "BYTES|FILE", set_memory, 0, "a number of bytes up to 256M",
+      "so many bytes of zeros, K and M may follow the number; or\n"
+      "the bytes of a file. What begins with a digit is a\n"
+      "number, all else a file: ./64 is the file 64" },
+    { OF_DRAW | OF_REPORT, "start", 0, "ADDRESS", set_address, offsetof(Arguments, start), "an address",
+      "the address of the first byte of memory; 0 if not given" },
+    { OF_DRAW, "texture", 0, TEXTURE,
+      "the file of texture memory, 4,096 bytes: drawing begins\n"
+      "with it, and what is left is written back. If not given,\n"
+      "it is zeros and nothing is kept" },
+    { OF_REPORT, "texture", 0, TEXTURE, "the file of texture memory, 4,096 bytes; it is not\nwritten" },
     { OF_DRAW, "image", 0, "ADDRESS,WIDTH,HEIGHT,SIZE", set_image, 0,
       "ADDRESS,WIDTH,HEIGHT,SIZE with sides of 1 to 4096 and SIZE 8, 16 or 32",
       "the picture, with SIZE bits a pixel (8, 16 or 32); if not\n"
-      "given, the colour image of the last Fill Rectangle, as\n"
-      "high as the scissor" },
+      "given, the colour image of the last rectangle, as high as\n"
+      "the scissor" },
     { OF_REPAIR, "check", 0, FLAG(dry), "write nothing; status 1 where a sync would be inserted" },
     { OF_REPAIR, "in-place", 'i', FLAG(in_place), "write each list over itself, where a sync is inserted" },
     { OF_REPAIR, "output", 'o', OUTPUT, "the file to write; it may be FILE itself" },

@@ -6,12 +6,11 @@
 #include <stdlib.h>
 #include <string.h>
 
-/* The colour image of the last Fill Rectangle of a list, as high as the scissor there. */
+/* The colour image of the last rectangle of a list that can be drawn, as high as the scissor there; false where there is none. */
 bool image_of_list(const List *list, Image *image)
 {
     Command command;
-    Image set = { 0 };
-    bool drawn = false;
+    Image set = { 0 }, drawn = { 0 };
     for (size_t place = 0; command_at(list, place, &command) && command.whole; place += command.words) {
         if (command.number == LANYARDROVE_SET_COLOR_IMAGE) {
             set.address = command.fields[LANYARDROVE_IMAGE_ADDRESS];
@@ -19,12 +18,13 @@ bool image_of_list(const List *list, Image *image)
             set.bits = 4u << command.fields[LANYARDROVE_IMAGE_SIZE];
         } else if (command.number == LANYARDROVE_SET_SCISSOR)
             set.height = ((uint32_t)command.fields[LANYARDROVE_SCISSOR_LOWER_RIGHT_Y] + 3) / 4;
-        else if (command.number == LANYARDROVE_FILL_RECTANGLE) {
-            *image = set;
-            drawn = true;
-        }
+        else if (command.number == LANYARDROVE_FILL_RECTANGLE || command.number == LANYARDROVE_TEXTURE_RECTANGLE)
+            drawn = set;
     }
-    return drawn && image->height > 0 && image->width > 0 && image->bits >= 8;
+    bool is_picture = drawn.height > 0 && drawn.width > 0 && drawn.bits >= 8;
+    if (is_picture)
+        *image = drawn;
+    return is_picture;
 }
 
 size_t image_length(const Image *image)

@@ -53,23 +53,26 @@ static void find_missing(Report *report)
         report->missing = (Insertion){ report->answer.place, syncs[report->answer.number - LANYARDROVE_SYNC_LOAD_MISSING] };
 }
 
-/* Draws a list and makes the PNG of its picture, if there is one. */
+/* The PNG of the picture that a list has drawn, if there is one. */
+static bool make_png(Report *report, const List *list, const Memory *memory)
+{
+    if (!image_of_list(list, &report->image) || !image_inside(&report->image, memory))
+        return true;
+    uint8_t *rgb = image_rgb(&report->image, memory);
+    report->png = rgb != NULL ? image_png(&report->image, rgb, &report->png_length) : NULL;
+    free(rgb);
+    return report->png != NULL;
+}
+
 static bool draw_picture(Report *report, const List *list)
 {
-    Memory memory = { calloc(1, MEMORY_BYTES), MEMORY_BYTES, 0 };
-    if (memory.bytes == NULL) {
-        complain("not enough memory for the picture");
-        return false;
+    Lent lent;
+    bool done = lend(report->arguments, report->arguments->has_memory ? report->arguments->memory : MEMORY_BYTES, &lent);
+    if (done) {
+        report->drawing = draw_into(list, &lent);
+        done = is_refused(report->drawing) || make_png(report, list, &lent.memory);
     }
-    bool done = true;
-    report->drawing = answer_of(lanyardrove_draw(list->bytes, list->length, memory.bytes, memory.length, memory.start));
-    if (is_accepted(report->drawing) && image_of_list(list, &report->image) && image_inside(&report->image, &memory)) {
-        uint8_t *rgb = image_rgb(&report->image, &memory);
-        report->png = rgb != NULL ? image_png(&report->image, rgb, &report->png_length) : NULL;
-        done = report->png != NULL;
-        free(rgb);
-    }
-    free(memory.bytes);
+    lent_free(&lent);
     return done;
 }
 
@@ -103,12 +106,24 @@ static int write_report(Report *report, const char *output)
     return status;
 }
 
+/* Why the arguments do not go together; NULL where they do. */
+static const char *fault_of(const Arguments *arguments)
+{
+    if (arguments->output == NULL)
+        return "report needs -o OUT";
+    if (is_same_file(arguments->paths[0], arguments->output))
+        return "the output is the list itself";
+    if (is_same_file(arguments->memory_file, arguments->output) || is_same_file(arguments->texture, arguments->output))
+        return "the output is memory that the list is drawn into";
+    return NULL;
+}
+
 int run_report(const Arguments *arguments)
 {
-    const char *path = arguments->paths[0];
-    Report report = { .path = strcmp(path, "-") == 0 ? "standard input" : path };
-    if (arguments->output == NULL || is_same_file(path, arguments->output)) {
-        complain("%s", arguments->output == NULL ? "report needs -o OUT" : "the output is the list itself");
+    const char *path = arguments->paths[0], *fault = fault_of(arguments);
+    Report report = { .path = strcmp(path, "-") == 0 ? "standard input" : path, .arguments = arguments };
+    if (fault != NULL) {
+        complain("%s", fault);
         return usage_error(arguments->command);
     }
     if (!list_read(path, &report.list, &to_show, &arguments->input))

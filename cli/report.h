@@ -32,6 +32,7 @@ typedef struct {
 
 typedef struct {
     const char *path;
+    const Arguments *arguments;
     List list;
     Answer answer;
     Rows rows;

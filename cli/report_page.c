@@ -148,18 +148,29 @@ static void add_png(Text *text, const Report *report)
     text_add(text, "\"></p>\n");
 }
 
+static void add_outside(Text *text, const Report *report)
+{
+    char size[128];
+    image_text(&report->image, size, sizeof size);
+    text_add(text, "<p>The picture, %s, is not inside memory.</p>\n", size);
+}
+
 static void add_picture(Text *text, const Report *report)
 {
     bool repaired = report->repaired.count > 0;
     text_add(text, "<section>\n<h2>Picture</h2>\n");
     if (report->png != NULL)
         add_png(text, report);
+    else if (report->image.width > 0)
+        add_outside(text, report);
     else if (is_accepted(report->drawing))
         text_add(text, "<p>The list draws no picture.</p>\n");
     else {
         text_add(text, "<p>The %slist cannot be drawn: ", repaired ? "repaired " : "");
         add_answer(text, &report->list, report->drawing, FOR_DRAW);
         text_add(text, ".</p>\n");
+        if (report->drawing.number == LANYARDROVE_NOT_COPYABLE)
+            text_add(text, "<p class=\"note\">%s</p>\n", copy_needs);
     }
     text_add(text, "</section>\n");
 }

@@ -3,7 +3,6 @@
 
 #include <string.h>
 
-#define MEMORY_LIMIT (256u * 1024u * 1024u)
 #define SIDE_LIMIT 4096u
 
 /* The value of a hexadecimal digit, by its place; 16 of what is none. */

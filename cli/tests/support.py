@@ -19,6 +19,11 @@ BLOCK, SET_TILE = 0x33 << 56, 0x35 << 56
 LOAD, PIPE, TILE, FULL = 0x26 << 56, 0x27 << 56, 0x28 << 56, 0x29 << 56
 ONE_CYCLE = 0x2F00000000000000
 
+# 02's copy mode: a texture image of width 4 at address 64 and tile 0, of one word a line, both of 16-bit RGBA; the modes; a load of 4 by 2 texels;
+# and a copy of them onto the pixels (1,1) to (4,2)
+TEXELS = [0x3D10000300000040, 0x3510020000000000]
+COPY, LOAD_4_BY_2, COPIED = 0x2F20000000000000, 0x340000000000C004, [0x2401000800004004, 0x0000000010000400]
+
 
 def test(function):
     TESTS.append(function)

@@ -24,12 +24,12 @@ WRONG = {
     "takes one list": [["dump", "a", "b"], ["draw", "a", "b"], ["report", "a", "b", "-o", "x.html"]],
     "not one of text, gcc, github, json and sarif": [["check", "--format", "xml", "a"], ["check", "--format=", "a"]],
     "needs a list; - is standard input": [[command] for command in COMMANDS] + [["check", "-q"], ["check", "--"]],
-    "draw needs --memory BYTES": [["draw", "a"], ["draw", "a", "-o", "x.bin"]],
+    "draw needs --memory BYTES or --memory FILE": [["draw", "a"], ["draw", "a", "-o", "x.bin"]],
     "draw needs -o OUT": [DRAW],
     "report needs -o OUT": [["report", "a"]],
     "ends in none of .png, .ppm and .bin": [[*DRAW, "-o", name] for name in ("x.gif", "x", ".png", "-", "")],
     "not a number of bytes up to 256M": [["draw", "a", "--memory", text, "-o", "x.bin"] for text in (
-        "", "-1", "+1", " 1", "64x", "K", "0x", "0xG", "0x0x5", "1KK", "257M", "268435457", "99999999999999999999", "17592186044416M",
+        "", "64x", "0x", "0xG", "0x0x5", "1KK", "257M", "268435457", "99999999999999999999", "17592186044416M",
         "18446744073709551616")],
     "not an address": [[*DRAW, "--start", text, "-o", "x.bin"] for text in ("", "x", "1,", "-1", "0x10000000000000000", "18446744073709551616")],
     "not ADDRESS,WIDTH,HEIGHT,SIZE": [[*DRAW, "--image", text, "-o", "x.png"] for text in (

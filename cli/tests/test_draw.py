@@ -41,7 +41,7 @@ def draw_writes_nothing_at_a_refusal():
     same(run("draw", "odd.rdp", "--memory", "64", "-o", "out.bin")[1].split("\n")[1],
          "word 3: Fill Rectangle draws on a colour image whose address is no multiple of 64")
     same(run("draw", example("i.rdp"), "--memory", "20", "--start", "19", "-o", "out.bin")[1].split("\n")[1:], [
-        "word 4: Fill Rectangle draws a pixel outside memory", "--memory and --start give 20 bytes of memory from address 0x13", ""])
+        "word 4: Fill Rectangle reads or writes outside memory", "--memory and --start give 20 bytes of memory from address 0x13", ""])
     same(files(), ["cycle.rdp", "odd.rdp"])
 
 

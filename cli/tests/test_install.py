@@ -243,7 +243,9 @@ def completion_offers_commands_options_and_files():
     for typed, expected in ((["d"], ["dump", "draw"]), (["draw", "--m"], ["--memory"]), (["check", "--f"], ["--failures", "--format"]), (["check", "--format", "g"], ["gcc", "github"]),
                             (["check", "li"], ["list one.rdp", "lists"]), (["check", "-q", "list "], ["list one.rdp"]),
                             (["repair", "x", "-o", "li"], ["list one.rdp", "lists"]), (["draw", "--start", "l"], []),
-                            (["draw", "--memory", "6"], ["64K"]), (["what", "li"], [])):
+                            (["draw", "--memory", "6"], ["64K"]),
+                            (["report", "--memory", "li"], ["list one.rdp", "lists"]), (["draw", "--texture", "li"], ["list one.rdp", "lists"]),
+                            (["what", "li"], [])):
         same(sorted(completed(*typed)), sorted(expected), typed)
 
 

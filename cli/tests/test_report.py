@@ -6,7 +6,7 @@ import re
 import struct
 
 from rules import commands_of, hazards_along
-from support import (C, FULL, L, N, ONE_CYCLE, PIPE, R, S, SET_TILE, TILE, example, inserted, memory_of_i,
+from support import (C, FULL, L, N, ONE_CYCLE, PIPE, R, S, SET_TILE, TEXELS, TILE, example, inserted, memory_of_i,
                      png_pixels, read, rgb_of, run, same, test, words, write)
 
 
@@ -48,9 +48,9 @@ class Page(html.parser.HTMLParser):
         return png_pixels(base64.b64decode(self.images[0][len(head):], validate=True))
 
 
-def reported(data, status, name="list.rdp"):
+def reported(data, status, name="list.rdp", *more):
     write(name, data)
-    same(run("report", name, "-o", "out.html"), (status, "", ""), name)
+    same(run("report", name, "-o", "out.html", *more), (status, "", ""), name)
     page = Page(read("out.html").decode())
     assert not page.tags & {"script", "link", "iframe"}, page.tags
     assert not re.search(r"https?:|@import|url\(|\033", page.source), "the page needs another file"
@@ -137,11 +137,11 @@ def report_of_lists_that_cannot_be_drawn_or_repaired():
 
 @test
 def report_knows_the_places_of_the_given_list_only():
-    page = reported(words(*S, R, L, R, C, ONE_CYCLE, R), 1)  # repaired: S R Load L Load R Pipe C ONE_CYCLE R
-    same(re.findall(r"Sync \w+ before word \d+", page.text), ["Sync Load before word 4", "Sync Load before word 5", "Sync Pipe before word 6"])
-    assert "The repaired list cannot be drawn: 10 8, word 8: Fill Rectangle is not drawn" in page.text, page.text
-    assert max(map(int, re.findall(r"[Ww]ords? (\d+)", page.text))) == 8, page.text
-    same(page.text.count("pipe: before the commands at words 4 to 6"), 1)  # up to the inserted Sync Pipe
+    page = reported(words(*TEXELS, *S, R, L, R, C, ONE_CYCLE, R), 1)  # repaired: TEXELS S R Load L Load R Pipe C ONE_CYCLE R
+    same(re.findall(r"Sync \w+ before word \d+", page.text), ["Sync Load before word 6", "Sync Load before word 7", "Sync Pipe before word 8"])
+    assert "The repaired list cannot be drawn: 10 10, word 10: Fill Rectangle is not drawn" in page.text, page.text
+    assert max(map(int, re.findall(r"[Ww]ords? (\d+)", page.text))) == 10, page.text
+    same(page.text.count("pipe: before the commands at words 6 to 8"), 1)  # up to the inserted Sync Pipe
 
 
 @test
