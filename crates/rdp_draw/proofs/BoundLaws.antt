@@ -41,7 +41,8 @@ act-known start len a = tt
 known : (list : List ℕ) (start len size n p : ℕ) → Holds list start len size n p → T (among n drawNumbers)
 known list start len size n p (atCheck m q h) = among-front m checkNumbers (10 ∷ 11 ∷ 12 ∷ 16 ∷ 17 ∷ 18 ∷ []) (check-holds list m q h)
 known list start len size n p (atTexture h) = tt
-known list start len size n p (atAct before d after m e r) = among-gives (λ k. among k drawNumbers) m (actRefusals start len (d .act)) (act-known start len (d .act)) r
+known list start len size n p (atAct before d after m e r) = among-gives (λ k. among k drawNumbers) m (actRefusals start len (d .act))
+    (act-known start len (d .act)) r
 
 pub draw-numbers : (list : List ℕ) (start len size : ℕ) → T (among (drawAnswer list start len size .number) drawNumbers)
 draw-numbers list start len size =

@@ -47,7 +47,8 @@ module _ (start words : ℕ) where
   clear-next : (len : ℕ) (p : Placed) (acts : List Placed) → Clear len (p ∷ acts) → (actRefusal start len (p .act) ≡ 0) × Clear len acts
   clear-next len p acts e = refused-none _ (p .place) _ (ap (λ (x : Answer). x .number) (sym (first-next start len words p acts)) ∙ e)
 
-  clear-split : (len : ℕ) (before : List Placed) (p : Placed) (after : List Placed) → Clear len (before ++ p ∷ after) → (actRefusal start len (p .act) ≡ 0) × Clear len after
+  clear-split : (len : ℕ) (before : List Placed) (p : Placed) (after : List Placed) → Clear len (before ++ p ∷ after) →
+      (actRefusal start len (p .act) ≡ 0) × Clear len after
   clear-split len [] p after e = clear-next len p after e
   clear-split len (b ∷ before) p after e = clear-split len before p after (clear-next len b (before ++ p ∷ after) e .1)
 
@@ -134,7 +135,8 @@ module _ (start : ℕ) where
   loaded-none (copying c) m b e = refl
   loaded-none (loading l) m b e = loaded-free start (m .memory) (loadMoves l) (m .texture) b e
 
-  all-unloaded : (acts : List Placed) (m : Memories) (b : ℕ) → someAct (actLoads b) acts ≡ false → getD (actedAll start acts m .texture) b 0 ≡ getD (m .texture) b 0
+  all-unloaded : (acts : List Placed) (m : Memories) (b : ℕ) → someAct (actLoads b) acts ≡ false → 
+      getD (actedAll start acts m .texture) b 0 ≡ getD (m .texture) b 0
   unfolding actedAll someAct
   all-unloaded [] m b e = refl
   all-unloaded (p ∷ acts) m b e =
@@ -204,7 +206,8 @@ module _ (list : List ℕ) (start : ℕ) (m : Memories) where
           )
 
       -- the fill colour's byte
-      pub memory-filled : (f : FillFields) → LastAct (actWrites (start + i)) list (filling f) → getD (drawn list start m .memory) i 0 ≡ colorByte (f .color) (start + i)
+      pub memory-filled : (f : FillFields) → LastAct (actWrites (start + i)) list (filling f) → getD (drawn list start m .memory) i 0 ≡
+          colorByte (f .color) (start + i)
       memory-filled f l =
           let long : i < length (before l .memory) = rw (all-long start (l .before) m) h in
           by-last (filling f) l .1 ∙

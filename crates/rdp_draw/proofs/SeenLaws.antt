@@ -213,7 +213,8 @@ module _ (file c : List ℕ) (there : wholeWords c ≡ 0 → ⊥) where
         (λ f.
         by-test (eqb n 0x24) (λ y. of-copy (eqb-true _ _ y))
         (λ g.
-        by-test (eqb n 0x25) (λ y. of-flip (eqb-true _ _ y)) (λ h. by-test (eqb n 0x36) (λ y. of-fill (eqb-true _ _ y)) (λ i. absurd (false≢true (rw (f, g, h, i) at t))))))
+        by-test (eqb n 0x25) (λ y. of-flip (eqb-true _ _ y))
+        (λ h. by-test (eqb n 0x36) (λ y. of-fill (eqb-true _ _ y)) (λ i. absurd (false≢true (rw (f, g, h, i) at t))))))
 
   -- ---- a load, with the file after it: it does not read the size that it sets
 
@@ -259,7 +260,8 @@ module _ (file c : List ℕ) (there : wholeWords c ≡ 0 → ⊥) where
       ap (actOfDecoded r) (decodes c there) ∙
       by-test (eqb n 0x30) (λ y. of-tlut v (eqb-true _ _ y))
       (λ f.
-      by-test (eqb n 0x33) (λ y. of-block v (eqb-true _ _ y)) (λ g. by-test (eqb n 0x34) (λ y. of-load v (eqb-true _ _ y)) (λ h. absurd (false≢true (rw (f, g, h) at e)))))
+      by-test (eqb n 0x33) (λ y. of-block v (eqb-true _ _ y))
+      (λ g. by-test (eqb n 0x34) (λ y. of-load v (eqb-true _ _ y)) (λ h. absurd (false≢true (rw (f, g, h) at e)))))
 
 with-act : (file : List ℕ) (n w v at : ℕ) (acts : List Placed) → withAct at (actBy file n w v) acts ≡ record { place = at; act = actBy file n w v } ∷ acts
 unfolding actBy
@@ -279,7 +281,9 @@ with-act file n w v at acts =
     o = colorImageIn (word file 14)
 
     any : (a b d e p q : Bool) →
-        let x = cond a (cond p (filling f) (otherDraw (f .image))) (cond b (cond q (copying c) (otherDraw (c .image))) (cond d (loading l) (cond e otherLoad (otherDraw o)))) in
+        let x =
+        cond a (cond p (filling f) (otherDraw (f .image)))
+        (cond b (cond q (copying c) (otherDraw (c .image))) (cond d (loading l) (cond e otherLoad (otherDraw o)))) in
         withAct at x acts ≡ record { place = at; act = x } ∷ acts
     any true b d e true q = refl
     any true b d e false q = refl
@@ -301,7 +305,8 @@ unfolding actsFrom
 due-none {list} {at} d h =
     sym (d .are) ∙ rw (commands-past list at _ refl (omega (arith, h, some-words list at _ refl)))
 
-module _ {list : List ℕ} {at : ℕ} {file : List ℕ} {acts : List Placed} (d : Due list at file acts) (more : at < length list / 8) (n : ℕ) (is : n ≡ numberIn (wordAt list at)) where
+module _ {list : List ℕ} {at : ℕ} {file : List ℕ} {acts : List Placed} (d : Due list at file acts) (more : at < length list / 8) (n : ℕ)
+    (is : n ≡ numberIn (wordAt list at)) where
   whole-at : at + wordsOf n ≤ length list / 8
   whole-at =
       by-test (ltb (length list / 8) (at + wordsOf n))
@@ -351,7 +356,8 @@ module _ {list : List ℕ} {at : ℕ} {file : List ℕ} {acts : List Placed} (d 
       sym (d .are) ∙
       rw (commands-at list at n is whole-at, command-number list at n is whole-at)
       (ap
-      (λ (q : Registers). withAct at (actOfDecoded (registersIn file) (decodeOf c)) (actsFrom q (at + wordsOf n) (commandsOf (drop (8 * (at + wordsOf n)) list))))
+      (λ (q : Registers). withAct at (actOfDecoded (registersIn file) (decodeOf c))
+      (actsFrom q (at + wordsOf n) (commandsOf (drop (8 * (at + wordsOf n)) list))))
       (sym stored))
 
   onward : Due list (at + wordsOf n) file′ rest
@@ -435,7 +441,12 @@ module _ {list : List ℕ} {from : ℕ} {before : List ℕ} {words : ℕ} {file 
 
     module _ (f : b ≡ false) where
       pub walk-skip : (s : Bool) → s ≡ isAmong 0xFFBD_FC00_0000_0000 n → s ≡ false → Walks list from before words file (at + 1)
-      walk-skip s is-s e = record { count = w .count; onward = omega (arith, w .onward); due = λ acts d. skip (w .due acts d) inside n is (sym is-b ∙ f) (sym (is-s ∙ sets-by n low) ∙ e) }
+      walk-skip s is-s e =
+          record {
+            count = w .count;
+            onward = omega (arith, w .onward);
+            due = λ acts d. skip (w .due acts d) inside n is (sym is-b ∙ f) (sym (is-s ∙ sets-by n low) ∙ e);
+          }
 
       -- the word is stored
       module _ (v : ℕ) (is-v : v ≡ wordAt list at) (stored : List ℕ) (is-stored : stored ≡ wordsAfter file (n % 64) v) (load : Bool)
@@ -447,7 +458,9 @@ module _ {list : List ℕ} {from : ℕ} {before : List ℕ} {words : ℕ} {file 
         walk-load t = (
           w .onward,
           λ acts d. record {
-            some = λ l. subst (λ (x : List ℕ). Next list (record { place = at; number = n }) x acts) same (loaded (w .due acts d) inside n is (sym (is-load ∙ loads-by n low) ∙ t));
+            some =
+                λ l. subst (λ (x : List ℕ). Next list (record { place = at; number = n }) x acts) same
+                (loaded (w .due acts d) inside n is (sym (is-load ∙ loads-by n low) ∙ t));
             none = λ l. absurd (omega arith);
           },
         )
@@ -457,5 +470,7 @@ module _ {list : List ℕ} {from : ℕ} {before : List ℕ} {words : ℕ} {file 
             record {
               count = w .count;
               onward = omega (arith, w .onward);
-              due = λ acts d. subst (λ (x : List ℕ). Due list (at + 1) x acts) same (step (w .due acts d) inside n is (sym is-b ∙ f) (sym (is-load ∙ loads-by n low) ∙ e));
+              due =
+                  λ acts d. subst (λ (x : List ℕ). Due list (at + 1) x acts) same
+                  (step (w .due acts d) inside n is (sym is-b ∙ f) (sym (is-load ∙ loads-by n low) ∙ e));
             }

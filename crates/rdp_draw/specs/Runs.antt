@@ -28,7 +28,7 @@ endRow f = endKept (f .rectangle .«lower_right» .y) (f .scissor .«lower_right
 
 -- with field set every second row is kept, from the first that is
 abbrev pub firstKeptRow : FillFields → ℕ
-firstKeptRow f = keptFrom (f .scissor) (firstRow f)
+firstKeptRow f = keptFrom (f .scissor .«field») (f .scissor .odd) (firstRow f)
 
 unfoldable pub keptRows : FillFields → ℕ
 keptRows f = cond (f .scissor .«field») ((endRow f - firstKeptRow f + 1) / 2) (endRow f - firstKeptRow f)

@@ -31,8 +31,9 @@ fn count(first: u64, end: u64) -> u64
 fn kept_rows(fill: FillFields) -> u64
     ensures { λ r. ⌜ (r ≡ keptRows fill) × (r ≤ 16384) ⌝ }
 {
-    let scissor = fill.scissor;
-    let first = rdp_pixels::first_kept_row(fill.rectangle.upper_left.y, scissor);
+    let clip = fill.scissor.upper_left.y;
+    let near = fill.rectangle.upper_left.y;
+    let first = rdp_pixels::first_kept_row(near, clip, fill.scissor.field, fill.scissor.odd);
     let end = rdp_pixels::end_kept(fill.rectangle.lower_right.y, fill.scissor.lower_right.y);
     let rows = count(first, end);
     if fill.scissor.field {
@@ -74,8 +75,9 @@ pub fn area_of(fill: FillFields) -> Area
 {
     let image = fill.image;
     let x = rdp_pixels::first_kept(fill.rectangle.upper_left.x, fill.scissor.upper_left.x);
-    let scissor = fill.scissor;
-    let y = rdp_pixels::first_kept_row(fill.rectangle.upper_left.y, scissor);
+    let clip = fill.scissor.upper_left.y;
+    let near = fill.rectangle.upper_left.y;
+    let y = rdp_pixels::first_kept_row(near, clip, fill.scissor.field, fill.scissor.odd);
     Area {
         first: pixel_address(image, x, y),
         size: run_bytes(fill),

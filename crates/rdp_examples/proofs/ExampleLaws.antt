@@ -18,10 +18,10 @@ use Rattle.rdp_check.specs.Repair.{repairOf, outAfter, workAfter}
 use Rattle.rdp_pixels.specs.Overlay.{overlay}
 use Rattle.rdp_texels.specs.Load.{loadNeeds}
 use Rattle.rdp_draw.specs.Fill.{colorByte, bytesPerPixel, pixelAddress, oneOf, someByte}
-use Rattle.rdp_pixels.specs.Kept.{rowKept, kept}
+use Rattle.rdp_pixels.specs.Kept.{lineKept, kept}
 use Rattle.rdp_draw.specs.Draw.{actOf, actsFrom, actRefusals, actGrounds, drawAnswer, actedAll, drawn}
 use Rattle.rdp_examples.specs.Examples.{examples, allRight}
 
 pub examples-right : T (allRight examples)
-unfolding examples halfOf wordAt overwrite kindOf wordsOf layout commandOf wholeWords decodeOf nextOf requiredOf commandsFrom restFrom noRegisters registersAfter afterCommand ownRefusals syncRefusals judge outcomeWithin awaited latest causeOf syncAt waitOf clearedBy withOption totalWith choiceOf prefer chosen best plan applied planned repairedBytes commandGrounds groundsOf repairOf outAfter workAfter overlay colorByte bytesPerPixel pixelAddress rowKept kept oneOf someByte actOf actsFrom actRefusals actGrounds drawAnswer actedAll drawn loadNeeds
+unfolding examples halfOf wordAt overwrite kindOf wordsOf layout commandOf wholeWords decodeOf nextOf requiredOf commandsFrom restFrom noRegisters registersAfter afterCommand ownRefusals syncRefusals judge outcomeWithin awaited latest causeOf syncAt waitOf clearedBy withOption totalWith choiceOf prefer chosen best plan applied planned repairedBytes commandGrounds groundsOf repairOf outAfter workAfter overlay colorByte bytesPerPixel pixelAddress lineKept kept oneOf someByte actOf actsFrom actRefusals actGrounds drawAnswer actedAll drawn loadNeeds
 examples-right = tt

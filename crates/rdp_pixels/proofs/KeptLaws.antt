@@ -7,7 +7,7 @@ use borrow.Author.Tests.{eqb-true, eqb-false, eq-eqb}
 use Rattle.rdp_command.specs.declared.Scissor.{Scissor}
 use Rattle.rdp_words.proofs.Tests.{by-test}
 use Rattle.rdp_pixels.specs.Overlay.{within}
-use Rattle.rdp_pixels.specs.Kept.{kept, rowKept, keptFrom}
+use Rattle.rdp_pixels.specs.Kept.{kept, lineKept, rowKept, keptFrom}
 use Rattle.rdp_pixels.proofs.BoolLaws.{and-is, and-true-of}
 use Rattle.rdp_pixels.proofs.OverlayLaws.{within-true, within-is}
 
@@ -15,16 +15,16 @@ use Rattle.rdp_pixels.proofs.OverlayLaws.{within-true, within-is}
 
 module _ (s : Scissor) (y : ℕ) where
   pub row-kept-is : rowKept s y ≡ true → s .«field» ≡ true → y % 2 ≡ cond (s .odd) 1 0
-  unfolding rowKept
+  unfolding lineKept
   row-kept-is e h = eqb-true (y % 2) (cond (s .odd) 1 0) (rw h at e)
 
   pub row-kept-true : (s .«field» ≡ true → y % 2 ≡ cond (s .odd) 1 0) → rowKept s y ≡ true
-  unfolding rowKept
+  unfolding lineKept
   row-kept-true h = by-test (s .«field») (λ e. rw e (eq-eqb (y % 2) (cond (s .odd) 1 0) (h e))) (λ e. rw e)
 
 -- of two rows in a row, one is kept
 pub row-kept-next : (s : Scissor) (y : ℕ) → rowKept s y ≡ false → rowKept s (y + 1) ≡ true
-unfolding rowKept
+unfolding lineKept
 row-kept-next s y e =
     row-kept-true s (y + 1)
     (λ h. next (s .odd) (eqb-false (y % 2) (cond (s .odd) 1 0) (rw h at e)))
@@ -35,15 +35,15 @@ row-kept-next s y e =
 
 -- the first kept row from one on
 module _ (s : Scissor) (y : ℕ) where
-  pub from-near : (y ≤ keptFrom s y) × (keptFrom s y ≤ y + 1)
+  pub from-near : (y ≤ keptFrom (s .«field») (s .odd) y) × (keptFrom (s .«field») (s .odd) y ≤ y + 1)
   unfolding keptFrom
   from-near = by-test (rowKept s y) (λ e. rw e (omega arith, omega arith)) (λ e. rw e (omega arith, omega arith))
 
-  pub from-kept : rowKept s (keptFrom s y) ≡ true
+  pub from-kept : rowKept s (keptFrom (s .«field») (s .odd) y) ≡ true
   unfolding keptFrom
   from-kept = by-test (rowKept s y) (λ e. rw e e) (λ e. rw e (row-kept-next s y e))
 
-  pub from-least : (k : ℕ) → y ≤ k → rowKept s k ≡ true → keptFrom s y ≤ k
+  pub from-least : (k : ℕ) → y ≤ k → rowKept s k ≡ true → keptFrom (s .«field») (s .odd) y ≤ k
   unfolding keptFrom
   from-least k h kept-k =
       by-test (rowKept s y) (λ e. rw e h)

@@ -5,9 +5,12 @@ use lib.Dec.{eqb}
 use Rattle.rdp_command.specs.declared.Scissor.{Scissor}
 use Rattle.rdp_pixels.specs.Overlay.{within}
 
--- "with field set, when y mod 2 equals odd"
-unfoldable pub rowKept : Scissor → ℕ → Bool
-rowKept s y = cond (s .«field») (eqb (y % 2) (cond (s .odd) 1 0)) true
+-- "with field set, when y mod 2 equals odd", by the scissor's two flags
+unfoldable pub lineKept : Bool → Bool → ℕ → Bool
+lineKept «field» odd y = cond «field» (eqb (y % 2) (cond odd 1 0)) true
+
+abbrev pub rowKept : Scissor → ℕ → Bool
+rowKept s y = lineKept (s .«field») (s .odd) y
 
 -- "a pixel (x, y) is kept when 4x and 4y are at least the scissor's upper left and below its lower right"
 unfoldable pub kept : Scissor → ℕ → ℕ → Bool
@@ -23,5 +26,5 @@ abbrev pub endKept : ℕ → ℕ → ℕ
 endKept far clip = min (far / 4 + 1) ((clip + 3) / 4)
 
 -- the first row from y on that the scissor's field setting keeps: with field set, of two rows in a row one is kept
-unfoldable pub keptFrom : Scissor → ℕ → ℕ
-keptFrom s y = cond (rowKept s y) y (y + 1)
+unfoldable pub keptFrom : Bool → Bool → ℕ → ℕ
+keptFrom «field» odd y = cond (lineKept «field» odd y) y (y + 1)

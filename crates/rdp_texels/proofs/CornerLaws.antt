@@ -82,7 +82,8 @@ module _ (keeps : ℕ → Bool) (g : Grid) (q : Span) where
       (λ y l u. by-test (keeps y) (λ k. rw k (each-none (λ x. gridMove g y x ∷ []) (q .left) (q .right - q .left) (λ x l′ u′. absurd (omega arith))))
       (λ k. rw k)))
       (λ h. split (q .bottom) (q .top) (λ k. each-none rowOf (q .top) (q .bottom - q .top) (λ y l u. absurd (omega arith)))
-      (λ k. absurd (false≢true (sym e ∙ and-true-of (ltb (q .left) (q .right)) (ltb (q .top) (q .bottom)) (lt-ltb (q .left) (q .right) h) (lt-ltb (q .top) (q .bottom) k)))))
+      (λ k. absurd (false≢true (sym e ∙ and-true-of (ltb (q .left) (q .right)) (ltb (q .top) (q .bottom)) (lt-ltb (q .left) (q .right) h)
+      (lt-ltb (q .top) (q .bottom) k)))))
 
   -- where there is one, and the first and the last row are kept
   module _ (columns : q .left < q .right) (rows : q .top < q .bottom) (first : keeps (q .top) ≡ true) (last : keeps (q .bottom - 1) ≡ true) where
@@ -107,7 +108,8 @@ module _ (keeps : ℕ → Bool) (g : Grid) (q : Span) where
           sound y (m .1) (m .6) (omega arith) (omega arith))
           (λ none.
           let one = complete (q .top) (q .left) (never none (q .top) (q .left) (omega arith) rows first (omega arith) columns) in
-          let two = complete (q .bottom - 1) (q .right - 1) (never none (q .bottom - 1) (q .right - 1) (omega arith) (omega arith) last (omega arith) (omega arith)) in
+          let two = complete (q .bottom - 1) (q .right - 1)
+          (never none (q .bottom - 1) (q .right - 1) (omega arith) (omega arith) last (omega arith) (omega arith)) in
           and-true-of (leb low (base + q .top * stride + 2 * q .left)) (leb (base + (q .bottom - 1) * stride + 2 * q .right) (low + size))
           (le-leb low (base + q .top * stride + 2 * q .left) (one .0))
           (le-leb (base + (q .bottom - 1) * stride + 2 * q .right) (low + size) (omega arith)))

@@ -126,7 +126,8 @@ stands-by start i m h = λ j. one (m .address) (m .address - start) (omega arith
         (λ t. let is : start + i ≡ a = eqb-true (start + i) a t in eq-eqb i k (omega arith))
         (λ t. let is : i ≡ k = eqb-true i k t in eq-eqb (start + i) a (omega arith))
 
-some-by : (start len i : ℕ) (ms : List Move) → some (outsideMemory start len) ms ≡ false → some (standsAt (start + i)) ms ≡ some (λ m. oneOfTwo i (m .address - start)) ms
+some-by : (start len i : ℕ) (ms : List Move) → some (outsideMemory start len) ms ≡ false → some (standsAt (start + i)) ms ≡ some
+    (λ m. oneOfTwo i (m .address - start)) ms
 unfolding some
 some-by start len i [] e = refl
 some-by start len i (m ∷ ms) e =

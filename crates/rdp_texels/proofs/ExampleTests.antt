@@ -12,7 +12,7 @@ use Rattle.rdp_texels.specs.Texels.{turned, some, each, loaded, copied}
 use Rattle.rdp_texels.specs.Load.{loadNeeds, loadMoves}
 use Rattle.rdp_texels.specs.Copy.{stepNeeds, copyNeeds, copyMoves}
 use Rattle.rdp_texels.specs.Refusals.{loadRefusal, copyRefusal}
-use Rattle.rdp_pixels.specs.Kept.{kept, rowKept}
+use Rattle.rdp_pixels.specs.Kept.{kept, lineKept}
 
 -- tile 0 of 16-bit RGBA texels, 8 bytes a row, at tmem
 abbrev tileAt : ℕ → TileDescriptor
@@ -89,17 +89,17 @@ copy t tmem =
 
 -- what was loaded comes back
 copies-back : copied 0 turnedBytes (copyMoves (copy (pos 0) 0)) (replicate 16 0) ≡ bytes
-unfolding copy bytes turnedBytes copied copyMoves each turned kept rowKept
+unfolding copy bytes turnedBytes copied copyMoves each turned kept lineKept
 copies-back = refl
 
 -- rows -1 and 0 of a tile that begins at byte 8: row -1 is odd, and stands at byte 0; with the tile at byte 0 it is below 0
 copies-above : copied 0 turnedBytes (copyMoves (copy (negsuc 31) 1)) (replicate 16 0)
     ≡ 4 ∷ 5 ∷ 6 ∷ 7 ∷ 0 ∷ 1 ∷ 2 ∷ 3 ∷ 12 ∷ 13 ∷ 14 ∷ 15 ∷ 8 ∷ 9 ∷ 10 ∷ 11 ∷ []
-unfolding copy turnedBytes copied copyMoves each turned kept rowKept
+unfolding copy turnedBytes copied copyMoves each turned kept lineKept
 copies-above = refl
 
 copies-below-0 : copyRefusal (copy (negsuc 31) 0) 0 16 ≡ 18
-unfolding copy copyRefusal copyNeeds stepNeeds copyMoves each some turned kept rowKept
+unfolding copy copyRefusal copyNeeds stepNeeds copyMoves each some turned kept lineKept
 copies-below-0 = refl
 
 -- half a texel is no whole one

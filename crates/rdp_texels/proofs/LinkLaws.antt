@@ -9,7 +9,7 @@ use native.Mathlib.Omega.{arith}
 use lib.Dec.{eqb}
 use Rattle.rdp_command.specs.declared.Scissor.{Scissor}
 use Rattle.rdp_words.proofs.Tests.{by-test}
-use Rattle.rdp_pixels.specs.Kept.{kept, rowKept}
+use Rattle.rdp_pixels.specs.Kept.{kept, lineKept, rowKept}
 use Rattle.rdp_pixels.specs.Kept.{firstKept, endKept}
 use Rattle.rdp_pixels.proofs.KeptLaws.{row-kept-next, from-near, from-kept, from-least, kept-is, kept-true}
 use Rattle.rdp_command.specs.declared.LoadFields.{LoadFields}
@@ -67,11 +67,11 @@ module _ (l : LoadFields) where
 -- ---- rows that the scissor keeps
 
 module _ (s : Scissor) (y : ℕ) where
-  bottom-near : (bottomFrom s y ≤ y) × (y ≤ bottomFrom s y + 1)
+  bottom-near : (bottomFrom (s .«field») (s .odd) y ≤ y) × (y ≤ bottomFrom (s .«field») (s .odd) y + 1)
   unfolding bottomFrom
   bottom-near = by-test (rowKept s (y - 1)) (λ e. rw e (omega arith, omega arith)) (λ e. rw e (omega arith, omega arith))
 
-  bottom-kept : 0 < bottomFrom s y → rowKept s (bottomFrom s y - 1) ≡ true
+  bottom-kept : 0 < bottomFrom (s .«field») (s .odd) y → rowKept s (bottomFrom (s .«field») (s .odd) y - 1) ≡ true
   unfolding bottomFrom
   bottom-kept =
       by-test (rowKept s (y - 1)) (λ e. rw e (λ h. e))
@@ -80,7 +80,7 @@ module _ (s : Scissor) (y : ℕ) where
       (λ k. let before : y - 1 - 1 + 1 ≡ y - 1 = omega arith in
       absurd (false≢true (sym e ∙ rw before at (row-kept-next s (y - 1 - 1) k))))))
 
-  bottom-greatest : (k : ℕ) → k < y → rowKept s k ≡ true → k < bottomFrom s y
+  bottom-greatest : (k : ℕ) → k < y → rowKept s k ≡ true → k < bottomFrom (s .«field») (s .odd) y
   unfolding bottomFrom
   bottom-greatest k h kept-k =
       by-test (rowKept s (y - 1)) (λ e. rw e h)
@@ -88,9 +88,9 @@ module _ (s : Scissor) (y : ℕ) where
       (let apart : k ≡ y - 1 → ⊥ = λ same. false≢true (sym e ∙ rw same at kept-k) in
       omega (arith, apart)))
 
-pub bottom-zero : (s : Scissor) → 0 ≡ bottomFrom s 0
+pub bottom-zero : (b o : Bool) → 0 ≡ bottomFrom b o 0
 unfolding bottomFrom
-bottom-zero s = by-test (rowKept s (0 - 1)) (λ e. rw e) (λ e. rw e)
+bottom-zero b o = by-test (lineKept b o (0 - 1)) (λ e. rw e) (λ e. rw e)
 
 -- ---- a copy rectangle
 
@@ -149,7 +149,8 @@ module _ (c : CopyFields) where
       (λ h. (omega arith, omega arith))
       ∙ each-cong (pixel y) (λ x. gridMove (copyGrid c) y x ∷ []) (q .left) (q .right - q .left)
       (λ x l r.
-      rw (kept-true (c .scissor) x y (record { across = (omega arith, omega arith); down = (omega arith, omega arith); row = e })) (ap (λ (m : Move). m ∷ []) (copy-move y x)))
+      rw (kept-true (c .scissor) x y (record { across = (omega arith, omega arith); down = (omega arith, omega arith); row = e }))
+      (ap (λ (m : Move). m ∷ []) (copy-move y x)))
 
   row-is : (y : ℕ) → copySpan c .top ≤ y → y < copySpan c .bottom
       → row y ≡ cond (rowKept (c .scissor) y) (rowMoves (copyGrid c) (copySpan c) y) []

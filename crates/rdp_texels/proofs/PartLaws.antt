@@ -117,7 +117,11 @@ module _ (turnTo turnFrom : Bool) (s d : ℕ) (from to : List ℕ) (inside : (i 
       → p7 ≡ inRow turnTo (d + 7) → v7 ≡ getD from (inRow turnFrom (s + 7)) 0
       → set (set (set (set (set (set (set (set to p0 v0) p1 v1) p2 v2) p3 v3) p4 v4) p5 v5) p6 v6) p7 v7 ≡ part turnTo turnFrom s d 0 8 from to
   part-eight a0 b0 a1 b1 a2 b2 a3 b3 a4 b4 a5 b5 a6 b6 a7 b7 =
-      more 7 (omega arith) (more 6 (omega arith) (more 5 (omega arith) (more 4 (omega arith) (more 3 (omega arith) (more 2 (omega arith) (more 1 (omega arith) (more 0 (omega arith) (part-none turnTo turnFrom s d from to 0 0 (omega arith)) a0 b0) a1 b1) a2 b2) a3 b3) a4 b4) a5 b5) a6 b6) a7 b7
+      more 7 (omega arith) (more 6 (omega arith)
+      (more 5 (omega arith) (more 4 (omega arith)
+      (more 3 (omega arith) (more 2 (omega arith)
+      (more 1 (omega arith) (more 0 (omega arith)
+      (part-none turnTo turnFrom s d from to 0 0 (omega arith)) a0 b0) a1 b1) a2 b2) a3 b3) a4 b4) a5 b5) a6 b6) a7 b7
 
 -- ---- in a loop: bytes a up to k are taken
 
@@ -152,7 +156,8 @@ taken-part {turnTo} {turnFrom} {s} {d} {a} {k} {from} {before} {after} t h n e =
     }
 
 -- a row in three parts, the middle one in groups
-pub part-three : {turnTo turnFrom : Bool} {s d first n r : ℕ} {from : List ℕ} (before : List ℕ) {one two three : List ℕ} → one ≡ part turnTo turnFrom s d 0 first from before
+pub part-three : {turnTo turnFrom : Bool} {s d first n r : ℕ} {from : List ℕ} (before : List ℕ) {one two three : List ℕ} →
+    one ≡ part turnTo turnFrom s d 0 first from before
     → GroupsAre turnTo turnFrom s d first n from one two r → three ≡ part turnTo turnFrom s d r n from two → three ≡ part turnTo turnFrom s d 0 n from before
 part-three {turnTo} {turnFrom} {s} {d} {first} {n} {r} {from} before a g c =
     c

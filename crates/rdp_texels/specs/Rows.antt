@@ -6,8 +6,7 @@ use mathlib.Core.Path.{_≡_}
 use lib.Dec.{eqb, leb, ltb}
 use lib.ListN.{getD}
 use Rattle.rdp_pixels.specs.Overlay.{overlay, within}
-use Rattle.rdp_pixels.specs.Kept.{rowKept, firstKept, endKept, keptFrom}
-use Rattle.rdp_command.specs.declared.Scissor.{Scissor}
+use Rattle.rdp_pixels.specs.Kept.{lineKept, firstKept, endKept, keptFrom}
 use Rattle.rdp_command.specs.declared.LoadFields.{LoadFields}
 use Rattle.rdp_command.specs.declared.CopyFields.{CopyFields}
 use Rattle.rdp_texels.specs.declared.Grid.{Grid}
@@ -84,8 +83,8 @@ copyGrid c =
     (aheadOf (c .rectangle .step .t) / 32) (aheadOf (c .rectangle .step .s) / 32) (rowsUp c) (columnsLeft c)
 
 -- the end of the rows before one that the scissor's field setting keeps
-unfoldable pub bottomFrom : Scissor → ℕ → ℕ
-bottomFrom s y = cond (rowKept s (y - 1)) y (y - 1)
+unfoldable pub bottomFrom : Bool → Bool → ℕ → ℕ
+bottomFrom «field» odd y = cond (lineKept «field» odd (y - 1)) y (y - 1)
 
 unfoldable pub copySpan : CopyFields → Span
 copySpan c =
@@ -94,8 +93,8 @@ copySpan c =
     record {
       left = firstKept (r .«upper_left» .x) (s .«upper_left» .x);
       right = endKept (r .«lower_right» .x) (s .«lower_right» .x);
-      top = keptFrom s (firstKept (r .«upper_left» .y) (s .«upper_left» .y));
-      bottom = bottomFrom s (endKept (r .«lower_right» .y) (s .«lower_right» .y));
+      top = keptFrom (s .«field») (s .odd) (firstKept (r .«upper_left» .y) (s .«upper_left» .y));
+      bottom = bottomFrom (s .«field») (s .odd) (endKept (r .«lower_right» .y) (s .«lower_right» .y));
     }
 
 -- ---- refusals by the corners

@@ -4,7 +4,6 @@ use crate::Span;
 use crate::Step;
 use rdp_command::CopyFields;
 use rdp_command::LoadFields;
-use rdp_command::Scissor;
 use rdp_command::TextureStep;
 ghost use mathlib.Core.Path.{_≡_};
 ghost use Prim.Native.Nat.{_+_, _-_, _*_, _/_, _<_, _≤_};
@@ -48,14 +47,14 @@ pub fn step_of(step: TextureStep) -> Step
 }
 
 // The end of the rows before one that the scissor's field setting keeps.
-fn bottom_from(scissor: Scissor, y: u64) -> u64
+fn bottom_from(field: bool, odd: bool, y: u64) -> u64
     requires { ⌜ y ≤ 16384 ⌝ }
-    ensures { λ r. ⌜ (r ≡ bottomFrom scissor y) × (r ≤ 16384) ⌝ }
+    ensures { λ r. ⌜ (r ≡ bottomFrom «field» odd y) × (r ≤ 16384) ⌝ }
 {
     if y == 0 {
         return 0;
     }
-    if rdp_pixels::row_kept(scissor, y - 1) {
+    if rdp_pixels::row_kept(field, odd, y - 1) {
         y
     } else {
         y - 1
@@ -174,14 +173,20 @@ pub fn copy_grid(copy: CopyFields) -> Grid
 pub fn copy_span(copy: CopyFields) -> Span
     ensures { λ r. ⌜ (r ≡ copySpan copy) × SmallSpan r ⌝ }
 {
-    let scissor = copy.scissor;
+    let field = copy.scissor.field;
+    let odd = copy.scissor.odd;
+    let left = copy.scissor.upper_left.x;
+    let right = copy.scissor.lower_right.x;
+    let top = copy.scissor.upper_left.y;
+    let bottom = copy.scissor.lower_right.y;
     Span {
-        left: rdp_pixels::first_kept(copy.rectangle.upper_left.x, scissor.upper_left.x),
-        right: rdp_pixels::end_kept(copy.rectangle.lower_right.x, scissor.lower_right.x),
-        top: rdp_pixels::first_kept_row(copy.rectangle.upper_left.y, scissor),
+        left: rdp_pixels::first_kept(copy.rectangle.upper_left.x, left),
+        right: rdp_pixels::end_kept(copy.rectangle.lower_right.x, right),
+        top: rdp_pixels::first_kept_row(copy.rectangle.upper_left.y, top, field, odd),
         bottom: bottom_from(
-            scissor,
-            rdp_pixels::end_kept(copy.rectangle.lower_right.y, scissor.lower_right.y),
+            field,
+            odd,
+            rdp_pixels::end_kept(copy.rectangle.lower_right.y, bottom),
         ),
     }
 }

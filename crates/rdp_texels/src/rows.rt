@@ -39,7 +39,7 @@ fn copy_kept_row(
     requires { ⌜ (length (now texture) ≡ 4096) × Ready grid span start (length (now memory)) × (span .top ≤ y) × (y < span .bottom) ⌝ }
     ensures { λ _. ⌜ now (memory .exit) ≡ copied start (now (texture .entry)) (cond (rowKept scissor y) (rowMoves grid span y) []) (now (memory .entry)) ⌝ }
 {
-    if rdp_pixels::row_kept(scissor, y) {
+    if rdp_pixels::row_kept(scissor.field, scissor.odd, y) {
         copy_grid_row(texture, memory, start, grid, span, y);
         return;
     }

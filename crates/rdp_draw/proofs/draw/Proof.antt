@@ -40,9 +40,12 @@ first-refusal-requires c κs =
 
 returns-3 : tie.Need-returns-3
 returns-3 c =
-    let s = c .before .before .before .before .before .before .before .before .before .before .args in
+    let a = c .before .before .before in
+    let b = a .before in
+    let d = b .before .before .before .before .before .before in
+    let s = d .args in
     let m = memories (s .memory .now) (s .texture .now) in
-    let r = c .before .before .first-refusal .ensures ∙ answer-acts (s .list .now) (s .start) m (accepts (c .before .before .before .before)) (c .before .before .before .if2 .left) in
+    let r = c .before .before .first-refusal .ensures ∙ answer-acts (s .list .now) (s .start) m (accepts b) (a .if2 .left) in
     let kept = drawn-kept (s .list .now) (s .start) m _ r (c .if3 .taken) in
     (r, (ap (λ x. x .memory) kept, ap (λ x. x .texture) kept))
 
@@ -60,10 +63,16 @@ same-length-2 c = search needs
 
 returns-4 : tie.Need-returns-4
 returns-4 c =
-    let s = c .before .before .before .before .before .before .before .before .before .before .before .before .before .before .before .before .before .args in
+    let a = c .before .before .before .before in
+    let b = a .before .before .before in
+    let d = b .before .before in
+    let e = d .before in
+    let g = e .before in
+    let h = g .before .before .before .before .before .before in
+    let s = h .args in
     let m = memories (s .memory .now) (s .texture .now) in
-    let r = c .before .before .before .before .before .before .before .before .before .first-refusal .ensures ∙ answer-acts (s .list .now) (s .start) m (accepts (c .before .before .before .before .before .before .before .before .before .before .before)) (c .before .before .before .before .before .before .before .before .before .before .if2 .left) in
-    let done = c .before .before .before .before .act-all .ensures ∙ drawn-acted (s .list .now) (s .start) m _ r (c .before .before .before .before .before .before .before .if3 .left) in
+    let r = d .first-refusal .ensures ∙ answer-acts (s .list .now) (s .start) m (accepts g) (e .if2 .left) in
+    let done = a .act-all .ensures ∙ drawn-acted (s .list .now) (s .start) m _ r (b .if3 .left) in
     (r, (ap (λ x. x .memory) done, ap (λ x. x .texture) done))
 
 pub draw-spec : {M : Type 1} → statement M

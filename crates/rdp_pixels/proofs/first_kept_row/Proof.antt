@@ -3,7 +3,7 @@ use mathlib.Core.Path.{_≡_}
 use mathlib.Core.Bool.{true, false}
 use native.Mathlib.Omega.{arith}
 use borrow.Author.Needs.{needs}
-use Rattle.rdp_pixels.specs.Kept.{rowKept, firstKept, keptFrom}
+use Rattle.rdp_pixels.specs.Kept.{lineKept, firstKept, keptFrom}
 use Rattle.rdp_pixels.proofs.first_kept_row.Statement.{statement}
 use Rattle.rdp_pixels.proofs.first_kept_row.Tie as tie
 
@@ -20,14 +20,14 @@ returns : tie.Need-returns
 unfolding keptFrom
 returns c =
     let a = c .before .before .before .args in
-    let kept : rowKept (a .scissor) (firstKept (a .near) (a .scissor .«upper_left» .y)) ≡ true = cc in
+    let kept : lineKept (a .«field») (a .odd) (firstKept (a .near) (a .clip)) ≡ true = cc in
     (rw kept (c .before .before .first-kept .ensures .0), omega arith)
 
 returns-2 : tie.Need-returns-2
 unfolding keptFrom
 returns-2 c =
     let a = c .before .before .before .args in
-    let kept : rowKept (a .scissor) (firstKept (a .near) (a .scissor .«upper_left» .y)) ≡ false = cc in
+    let kept : lineKept (a .«field») (a .odd) (firstKept (a .near) (a .clip)) ≡ false = cc in
     (rw kept (cc), omega arith)
 
 pub first-kept-row-spec : {M : Type 1} → statement M

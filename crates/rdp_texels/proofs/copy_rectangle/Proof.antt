@@ -37,9 +37,13 @@ same-length c = search needs
 returns-3 : tie.Need-returns-3
 unfolding copyMemory
 returns-3 c =
-    let s = c .before .before .before .before .before .before .before .before .before .args in
-    let e = right-size (length (now (s .texture))) (c .before .before .before .before .before .before .if1 .left) (c .before .before .before .before .before .copy-refusal .ensures) in
-    let h = c .before .before .before .before .if2 .left in
+    let a = c .before .before .before .before in
+    let b = a .before in
+    let d = b .before in
+    let g = d .before .before .before in
+    let s = g .args in
+    let e = right-size (length (now (s .texture))) (d .if1 .left) (b .copy-refusal .ensures) in
+    let h = a .if2 .left in
     (sym h ∙ e, done (now (s .memory)) e h (c .before .before .copy-pixels .ensures))
 
 pub copy-rectangle-spec : {M : Type 1} → statement M

@@ -23,8 +23,11 @@ corners-requires c κs = (c .before .copy-grid .ensures .1, c .copy-span .ensure
 
 returns-2 : tie.Need-returns-2
 returns-2 c =
-    let s = c .before .before .before .before .before .args in
-    copy-refusal-is (s .copy) (s .start) (s .len) (sym (c .before .before .before .before .copy-needs .ensures) ∙ not-false _ (c .before .before .before .if1 .left)) (c .before .before .copy-grid .ensures .0)
+    let a = c .before .before .before in
+    let b = a .before in
+    let d = b .before in
+    let s = d .args in
+    copy-refusal-is (s .copy) (s .start) (s .len) (sym (b .copy-needs .ensures) ∙ not-false _ (a .if1 .left)) (c .before .before .copy-grid .ensures .0)
     (c .before .copy-span .ensures .0) (c .corners .ensures)
 
 pub copy-refusal-spec : {M : Type 1} → statement M

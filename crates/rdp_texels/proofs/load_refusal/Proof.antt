@@ -23,8 +23,11 @@ corners-requires c κs = (c .before .load-grid .ensures .1, c .load-span .ensure
 
 returns-2 : tie.Need-returns-2
 returns-2 c =
-    let s = c .before .before .before .before .before .args in
-    load-refusal-is (s .load) (s .start) (s .len) (sym (c .before .before .before .before .load-needs .ensures) ∙ not-false _ (c .before .before .before .if1 .left)) (c .before .before .load-grid .ensures .0)
+    let a = c .before .before .before in
+    let b = a .before in
+    let d = b .before in
+    let s = d .args in
+    load-refusal-is (s .load) (s .start) (s .len) (sym (b .load-needs .ensures) ∙ not-false _ (a .if1 .left)) (c .before .before .load-grid .ensures .0)
     (c .before .load-span .ensures .0) (c .corners .ensures)
 
 pub load-refusal-spec : {M : Type 1} → statement M

@@ -20,20 +20,30 @@ is-some-requires c κs = search needs
 
 load-rows-requires : tie.Need-load-rows-requires
 load-rows-requires c κs =
-    let s = c .before .before .before .before .before .before .before .args in
-    let p = c .before .before .before .before .before .before .before .pre in
-    let g = c .before .before .before .before .load-grid .ensures in
-    let q = c .before .before .before .load-span .ensures in
-    (p .0, load-ready (s .load) (s .start) (length (now (s .memory))) (g .0) (q .0) (g .1) (q .1) (sym (c .before .before .is-some .ensures) ∙ c .before .if1 .taken) (p .1))
+    let a = c .before .before .before in
+    let b = a .before in
+    let d = b .before .before .before in
+    let s = d .args in
+    let p = d .pre in
+    let g = b .load-grid .ensures in
+    let q = a .load-span .ensures in (
+      p .0,
+      load-ready (s .load) (s .start) (length (now (s .memory))) (g .0) (q .0) (g .1) (q .1)
+          (sym (c .before .before .is-some .ensures) ∙ c .before .if1 .taken) (p .1),
+    )
 
 same-length : tie.Need-same-length
 same-length c = search needs
 
 returns : tie.Need-returns
 returns c =
-    let s = c .before .before .before .before .before .before .before .before .before .before .args in
+    let a = c .before .before .before .before .before .before in
+    let b = a .before in
+    let d = b .before .before .before in
+    let s = d .args in
     c .before .before .load-rows .ensures
-    ∙ ap (λ (ms : List Move). loaded (s .start) (now (s .memory)) ms (now (s .texture))) (load-are (s .load) (c .before .before .before .before .before .before .before .load-grid .ensures .0) (c .before .before .before .before .before .before .load-span .ensures .0))
+    ∙ ap (λ (ms : List Move). loaded (s .start) (now (s .memory)) ms (now (s .texture)))
+    (load-are (s .load) (b .load-grid .ensures .0) (a .load-span .ensures .0))
 
 returns-2 : tie.Need-returns-2
 unfolding loaded

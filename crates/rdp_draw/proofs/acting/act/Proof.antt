@@ -10,8 +10,10 @@ fill-at-requires c κs = search needs
 
 paint-fill-requires : tie.Need-paint-fill-requires
 paint-fill-requires c κs =
-    let a = c .before .before .before .before .before .before .before .args in
-    fill-inside (a .start) (now (a .memory)) (now (a .texture)) (a .file .now) (a .list .now) (a .at .place) (a .at .number) (c .before .before .before .before .before .before .before .pre .1) (c .before .before .if1 .taken) _
+    let b = c .before .before .before .before .before .before .before in
+    let a = b .args in
+    fill-inside (a .start) (now (a .memory)) (now (a .texture)) (a .file .now) (a .list .now) (a .at .place) (a .at .number) (b .pre .1)
+    (c .before .before .if1 .taken) _
     (c .fill-at .ensures)
 
 same-length : tie.Need-same-length
@@ -19,9 +21,12 @@ same-length c = search needs
 
 returns : tie.Need-returns
 returns c =
-    let a = c .before .before .before .before .before .before .before .before .before .before .args in
-    fill-left (a .start) (now (a .memory)) (now (a .texture)) (a .file .now) (a .list .now) (a .at .place) (a .at .number) (c .before .before .before .before .before .before .before .before .before .before .pre .1) (c .before .before .before .before .before .if1 .taken) _
-    (c .before .before .before .fill-at .ensures) _ (c .before .before .paint-fill .ensures)
+    let b = c .before .before .before in
+    let d = b .before .before in
+    let e = d .before .before .before .before .before in
+    let a = e .args in
+    fill-left (a .start) (now (a .memory)) (now (a .texture)) (a .file .now) (a .list .now) (a .at .place) (a .at .number) (e .pre .1) (d .if1 .taken) _
+    (b .fill-at .ensures) _ (c .before .before .paint-fill .ensures)
 
 copy-at-requires : tie.Need-copy-at-requires
 copy-at-requires c κs = c .before .before .before .before .before .before .before .before .before .pre .0 .0
@@ -37,10 +42,13 @@ same-length-3 c = search needs
 
 returns-2 : tie.Need-returns-2
 returns-2 c =
-    let a = c .before .before .before .before .before .before .before .before .before .before .before .before .before .args in
-    let p = c .before .before .before .before .before .before .before .before .before .before .before .before .before .pre in
-    copy-left (a .start) (now (a .memory)) (now (a .texture)) (a .file .now) (a .list .now) (a .at .place) (a .at .number) (p .1) (p .0 .1) (c .before .before .before .before .before .before .if2 .taken) _
-    (c .before .before .before .copy-at .ensures) _ (c .before .before .copy-rectangle .ensures .1)
+    let b = c .before .before .before in
+    let d = b .before .before .before in
+    let e = d .before .before .before .before .before .before .before in
+    let a = e .args in
+    let p = e .pre in
+    copy-left (a .start) (now (a .memory)) (now (a .texture)) (a .file .now) (a .list .now) (a .at .place) (a .at .number) (p .1) (p .0 .1) (d .if2 .taken) _
+    (b .copy-at .ensures) _ (c .before .before .copy-rectangle .ensures .1)
 
 load-at-requires : tie.Need-load-at-requires
 load-at-requires c κs = search needs
@@ -56,10 +64,14 @@ same-length-5 c = search needs
 
 returns-3 : tie.Need-returns-3
 returns-3 c =
-    let a = c .before .before .before .before .before .before .before .before .before .before .before .before .before .args in
-    let p = c .before .before .before .before .before .before .before .before .before .before .before .before .before .pre in
-    load-left (a .start) (now (a .memory)) (now (a .texture)) (a .file .now) (a .list .now) (a .at .place) (a .at .number) (p .1) (p .0 .1) (c .before .before .before .before .before .before .before .before .if1 .left)
-    (c .before .before .before .before .before .before .if2 .left) _ (c .before .before .before .load-at .ensures) _ (c .before .before .load-tile .ensures .1)
+    let b = c .before .before .before in
+    let d = b .before .before .before in
+    let e = d .before .before in
+    let g = e .before .before .before .before .before in
+    let a = g .args in
+    let p = g .pre in
+    load-left (a .start) (now (a .memory)) (now (a .texture)) (a .file .now) (a .list .now) (a .at .place) (a .at .number) (p .1) (p .0 .1) (e .if1 .left)
+    (d .if2 .left) _ (b .load-at .ensures) _ (c .before .before .load-tile .ensures .1)
 
 pub act-spec : {M : Type 1} → statement M
 act-spec =

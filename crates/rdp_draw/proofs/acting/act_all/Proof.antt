@@ -21,22 +21,28 @@ next-act-requires c κs = search needs
 
 loop-holds : tie.Need-loop-holds Inv-loop μ-loop
 loop-holds c =
-    let p = c .before .before .before .before .before .pre in
-    reaching-first _ _ _ (p .0 .0) (p .0 .1 .1) (record { long = refl; long-texture = refl; size = p .1 .0; clear = p .1 .1; same = refl }) _ _ (c .next-act .ensures)
+    let a = c .before .before .before .before .before in
+    let p = a .pre in
+    reaching-first _ _ _ (p .0 .0) (p .0 .1 .1) (record { long = refl; long-texture = refl; size = p .1 .0; clear = p .1 .1; same = refl }) _ _
+    (c .next-act .ensures)
 
 act-requires : tie.Need-act-requires Inv-loop μ-loop
 act-requires c κs =
-    let l = c .before .before .before in
+    let a = c .before .before .before in
+    let b = a .before .before .before .before .before .before .before .before in
+    let l = a in
     let i = l .before .before .loop .inv in
-    ((omega (arith, l .if1 .taken, c .before .before .before .before .before .before .before .before .before .before .before .pre .0 .1 .0), does-size i (l .if1 .taken)), does-clear i (l .if1 .taken))
+    ((omega (arith, l .if1 .taken, b .pre .0 .1 .0), does-size i (l .if1 .taken)), does-clear i (l .if1 .taken))
 
 words-of-requires : tie.Need-words-of-requires Inv-loop μ-loop
 words-of-requires c κs = search needs
 
 add-next : tie.Need-add-next Inv-loop μ-loop
 add-next c =
-    let l = c .before .before .before .before .before .before .before .before .before .before in
-    let p = c .before .before .before .before .before .before .before .before .before .before .before .before .before .before .before .before .before .before .pre .0 in
+    let a = c .before .before .before .before .before .before .before .before .before .before in
+    let b = a .before .before .before .before .before .before .before .before in
+    let l = a in
+    let p = b .pre .0 in
     omega (arith, c .before .words-of .ensures, next (l .before .before .loop .inv) (l .if1 .taken) .inside, p .0, p .1 .0)
 
 next-act-requires-2 : tie.Need-next-act-requires-2 Inv-loop μ-loop
@@ -44,13 +50,18 @@ next-act-requires-2 c κs = search needs
 
 loop-less : tie.Need-loop-less Inv-loop μ-loop
 loop-less c =
-    let l = c .before .before .before .before .before .before .before .before .before .before .before .before in
-    omega (arith, l .if1 .taken, falls (l .before .before .loop .inv) (l .if1 .taken) _ (c .before .before .before .words-of .ensures) _ _ (c .next-act2 .ensures))
+    let a = c .before .before .before in
+    let b = a .before .before .before .before .before .before .before .before .before in
+    let l = b in
+    omega (arith, l .if1 .taken, falls (l .before .before .loop .inv) (l .if1 .taken) _ (a .words-of .ensures) _ _ (c .next-act2 .ensures))
 
 loop-again : tie.Need-loop-again Inv-loop μ-loop
 loop-again c =
-    let l = c .before .before .before .before .before .before .before .before .before .before .before .before in
-    does-again (l .before .before .loop .inv) (l .if1 .taken) _ (c .before .before .before .before .before .before .before .before .act .ensures) (search needs) (search needs) _ (c .before .before .before .words-of .ensures) _ _
+    let a = c .before .before .before in
+    let b = a .before .before .before .before .before in
+    let d = b .before .before .before .before in
+    let l = d in
+    does-again (l .before .before .loop .inv) (l .if1 .taken) _ (b .act .ensures) (search needs) (search needs) _ (a .words-of .ensures) _ _
     (c .next-act2 .ensures)
 
 same-length : tie.Need-same-length Inv-loop μ-loop

@@ -22,13 +22,13 @@ add-result c = search needs
 
 returns : tie.Need-returns
 returns c =
-    let f = c .before .before .before .before .before .args .fill in
+    let f = c .before .before .before .before .args .fill in
     let rows : c .before .count .result ≡ endRow f - firstKeptRow f = cc in
     (ap (λ (n : ℕ). (n + 1) / 2) rows ∙ sym (rows-half f (c .if1 .taken)), omega arith)
 
 returns-2 : tie.Need-returns-2
 returns-2 c =
-    let f = c .before .before .before .before .before .args .fill in
+    let f = c .before .before .before .before .args .fill in
     let rows : c .before .count .result ≡ endRow f - firstKeptRow f = cc in
     (rows ∙ sym (rows-all f (c .if1 .left)), omega arith)
 

@@ -18,13 +18,21 @@ is-inside-requires c κs = c .area-of .ensures .1
 
 returns-3 : tie.Need-returns-3
 returns-3 c =
-    let a = c .before .before .before .before .before .before .before .args in
-    fill-0 (a .start) (a .len) (a .fill) (c .before .before .before .before .before .if1 .left) (c .before .before .before .if2 .left) _ (c .before .before .area-of .ensures .0) _ (c .before .is-inside .ensures) (c .if3 .taken)
+    let b = c .before .before .before in
+    let d = b .before .before in
+    let e = d .before .before in
+    let a = e .args in
+    fill-0 (a .start) (a .len) (a .fill) (d .if1 .left) (b .if2 .left) _ (c .before .before .area-of .ensures .0) _ (c .before .is-inside .ensures)
+    (c .if3 .taken)
 
 returns-4 : tie.Need-returns-4
 returns-4 c =
-    let a = c .before .before .before .before .before .before .before .args in
-    fill-12 (a .start) (a .len) (a .fill) (c .before .before .before .before .before .if1 .left) (c .before .before .before .if2 .left) _ (c .before .before .area-of .ensures .0) _ (c .before .is-inside .ensures) (c .if3 .left)
+    let b = c .before .before .before in
+    let d = b .before .before in
+    let e = d .before .before in
+    let a = e .args in
+    fill-12 (a .start) (a .len) (a .fill) (d .if1 .left) (b .if2 .left) _ (c .before .before .area-of .ensures .0) _ (c .before .is-inside .ensures)
+    (c .if3 .left)
 
 pub fill-refusal-spec : {M : Type 1} → statement M
 fill-refusal-spec =

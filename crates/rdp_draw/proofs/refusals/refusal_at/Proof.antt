@@ -12,8 +12,10 @@ fill-refusal-requires c κs = search needs
 
 returns : tie.Need-returns
 returns c =
-    let a = c .before .before .before .before .before .args in
-    refusal-fill (a .start) (a .len) (a .file .now) (a .list .now) (a .at .place) (a .at .number) (c .before .before .if1 .taken) _ _ (c .before .fill-at .ensures) (c .fill-refusal .ensures)
+    let b = c .before .before .before .before .before in
+    let a = b .args in
+    refusal-fill (a .start) (a .len) (a .file .now) (a .list .now) (a .at .place) (a .at .number) (c .before .before .if1 .taken) _ _
+    (c .before .fill-at .ensures) (c .fill-refusal .ensures)
 
 copy-at-requires : tie.Need-copy-at-requires
 copy-at-requires c κs = c .before .before .before .before .before .pre
@@ -23,8 +25,10 @@ copy-refusal-requires c κs = search needs
 
 returns-2 : tie.Need-returns-2
 returns-2 c =
-    let a = c .before .before .before .before .before .before .before .args in
-    refusal-copy (a .start) (a .len) (a .file .now) (a .list .now) (a .at .place) (a .at .number) (c .before .before .if2 .taken) _ _ (c .before .copy-at .ensures) (c .copy-refusal .ensures)
+    let b = c .before .before .before .before .before .before .before in
+    let a = b .args in
+    refusal-copy (a .start) (a .len) (a .file .now) (a .list .now) (a .at .place) (a .at .number) (c .before .before .if2 .taken) _ _
+    (c .before .copy-at .ensures) (c .copy-refusal .ensures)
 
 load-at-requires : tie.Need-load-at-requires
 load-at-requires c κs = search needs
@@ -34,18 +38,28 @@ load-refusal-requires c κs = search needs
 
 returns-3 : tie.Need-returns-3
 returns-3 c =
-    let a = c .before .before .before .before .before .before .before .before .before .args in
-    refusal-load (a .start) (a .len) (a .file .now) (a .list .now) (a .at .place) (a .at .number) (c .before .before .if3 .taken) _ _ (c .before .load-at .ensures) (c .load-refusal .ensures)
+    let b = c .before .before .before .before .before .before .before .before .before in
+    let a = b .args in
+    refusal-load (a .start) (a .len) (a .file .now) (a .list .now) (a .at .place) (a .at .number) (c .before .before .if3 .taken) _ _
+    (c .before .load-at .ensures) (c .load-refusal .ensures)
 
 returns-4 : tie.Need-returns-4
 returns-4 c =
-    let a = c .before .before .before .before .before .before .before .before .before .before .args in
-    refusal-17 (a .start) (a .len) (a .file .now) (a .list .now) (a .at .place) (a .at .number) (c .before .before .before .before .before .before .before .if1 .left) (c .before .before .before .before .before .if2 .left) (c .before .before .before .if3 .left) (c .if4 .taken)
+    let b = c .before .before .before in
+    let d = b .before .before in
+    let e = d .before .before in
+    let g = e .before .before .before in
+    let a = g .args in
+    refusal-17 (a .start) (a .len) (a .file .now) (a .list .now) (a .at .place) (a .at .number) (e .if1 .left) (d .if2 .left) (b .if3 .left) (c .if4 .taken)
 
 returns-5 : tie.Need-returns-5
 returns-5 c =
-    let a = c .before .before .before .before .before .before .before .before .before .before .args in
-    refusal-10 (a .start) (a .len) (a .file .now) (a .list .now) (a .at .place) (a .at .number) (c .before .before .before .before .before .before .before .if1 .left) (c .before .before .before .before .before .if2 .left) (c .before .before .before .if3 .left) (c .if4 .left)
+    let b = c .before .before .before in
+    let d = b .before .before in
+    let e = d .before .before in
+    let g = e .before .before .before in
+    let a = g .args in
+    refusal-10 (a .start) (a .len) (a .file .now) (a .list .now) (a .at .place) (a .at .number) (e .if1 .left) (d .if2 .left) (b .if3 .left) (c .if4 .left)
 
 pub refusal-at-spec : {M : Type 1} → statement M
 refusal-at-spec =

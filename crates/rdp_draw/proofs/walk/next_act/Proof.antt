@@ -43,19 +43,34 @@ is-among-requires-3 c κs = search needs
 
 returns-2 : tie.Need-returns-2 Inv-loop μ-loop
 returns-2 c =
-    walk-load (c .before .before .before .before .before .before .before .before .before .before .before .loop .inv) (c .before .before .before .before .before .before .before .before .before .before .loop-test .taken) _ (ap (λ x. x .number) (c .before .before .before .before .before .before .before .before .before .head-at .ensures)) _ (c .before .before .before .before .before .before .before .before .is-among .ensures) (c .before .before .before .before .before .before .before .if1 .left) _
-    (c .before .before .before .word-at .ensures) _ (c .before .before .store .ensures) _ (c .before .is-among3 .ensures) (c .if3 .taken)
+    let a = c .before .before .before in
+    let b = a .before .before .before .before in
+    let d = b .before in
+    let e = d .before in
+    let g = e .before in
+    let h = g .before in
+    walk-load (h .loop .inv) (g .loop-test .taken) _ (ap (λ x. x .number) (e .head-at .ensures)) _ (d .is-among .ensures) (b .if1 .left) _
+    (a .word-at .ensures) _ (c .before .before .store .ensures) _ (c .before .is-among3 .ensures) (c .if3 .taken)
 
 add-at : tie.Need-add-at Inv-loop μ-loop
-add-at c = omega (arith, c .before .before .before .before .before .before .before .before .before .before .loop-test .taken, c .before .before .before .before .before .before .before .before .before .before .before .loop .inv .count)
+add-at c =
+    let a = c .before .before .before .before .before .before .before .before .before .before in
+    let b = a .before in
+    omega (arith, a .loop-test .taken, b .loop .inv .count)
 
 loop-less : tie.Need-loop-less Inv-loop μ-loop
 loop-less c = search needs
 
 loop-again : tie.Need-loop-again Inv-loop μ-loop
 loop-again c =
-    walk-set (c .before .before .before .before .before .before .before .before .before .before .before .loop .inv) (c .before .before .before .before .before .before .before .before .before .before .loop-test .taken) _ (ap (λ x. x .number) (c .before .before .before .before .before .before .before .before .before .head-at .ensures)) _ (c .before .before .before .before .before .before .before .before .is-among .ensures) (c .before .before .before .before .before .before .before .if1 .left) _
-    (c .before .before .before .word-at .ensures) _ (c .before .before .store .ensures) _ (c .before .is-among3 .ensures) (c .if3 .left)
+    let a = c .before .before .before in
+    let b = a .before .before .before .before in
+    let d = b .before in
+    let e = d .before in
+    let g = e .before in
+    let h = g .before in
+    walk-set (h .loop .inv) (g .loop-test .taken) _ (ap (λ x. x .number) (e .head-at .ensures)) _ (d .is-among .ensures) (b .if1 .left) _
+    (a .word-at .ensures) _ (c .before .before .store .ensures) _ (c .before .is-among3 .ensures) (c .if3 .left)
 
 add-at-2 : tie.Need-add-at-2 Inv-loop μ-loop
 add-at-2 c = search needs
@@ -68,7 +83,8 @@ loop-again-2 c =
     let s = c .before in
     let d = s .before .before in
     let l = d .before .before in
-    walk-skip (l .before .loop .inv) (l .loop-test .taken) _ (ap (λ x. x .number) (d .before .head-at .ensures)) _ (d .is-among .ensures) (s .before .if1 .left) _
+    walk-skip (l .before .loop .inv) (l .loop-test .taken) _ (ap (λ x. x .number) (d .before .head-at .ensures)) _ (d .is-among .ensures)
+    (s .before .if1 .left) _
     (s .is-among2 .ensures) (c .if2 .left)
 
 returns-3 : tie.Need-returns-3 Inv-loop μ-loop

@@ -110,7 +110,14 @@ returns c =
     let w : s .s % 8 ≡ 0 = c .before .before .before .before .before .before .before .before .pre .0 in
     let zero : s .s ≡ s .s + 0 = omega arith in
     part-eight false true (s .s) (s .d) (now (s .from)) (now (s .to)) (λ i h. omega arith)
-    (omega arith) (ap (λ (n : ℕ). getD (now (s .from)) n 0) (group-low (s .s) w 0 (omega arith))) refl (ap (λ (n : ℕ). getD (now (s .from)) n 0) (group-low (s .s) w 1 (omega arith))) refl (ap (λ (n : ℕ). getD (now (s .from)) n 0) (group-low (s .s) w 2 (omega arith))) refl (ap (λ (n : ℕ). getD (now (s .from)) n 0) (group-low (s .s) w 3 (omega arith))) refl (ap (λ (n : ℕ). getD (now (s .from)) n 0) (zero ∙ group-high (s .s) w 0 (omega arith))) refl (ap (λ (n : ℕ). getD (now (s .from)) n 0) (group-high (s .s) w 1 (omega arith))) refl (ap (λ (n : ℕ). getD (now (s .from)) n 0) (group-high (s .s) w 2 (omega arith))) refl (ap (λ (n : ℕ). getD (now (s .from)) n 0) (group-high (s .s) w 3 (omega arith)))
+    (omega arith) (ap (λ (n : ℕ). getD (now (s .from)) n 0) (group-low (s .s) w 0 (omega arith))) refl
+    (ap (λ (n : ℕ). getD (now (s .from)) n 0) (group-low (s .s) w 1 (omega arith))) refl
+    (ap (λ (n : ℕ). getD (now (s .from)) n 0) (group-low (s .s) w 2 (omega arith))) refl
+    (ap (λ (n : ℕ). getD (now (s .from)) n 0) (group-low (s .s) w 3 (omega arith))) refl
+    (ap (λ (n : ℕ). getD (now (s .from)) n 0) (zero ∙ group-high (s .s) w 0 (omega arith))) refl
+    (ap (λ (n : ℕ). getD (now (s .from)) n 0) (group-high (s .s) w 1 (omega arith))) refl
+    (ap (λ (n : ℕ). getD (now (s .from)) n 0) (group-high (s .s) w 2 (omega arith))) refl
+    (ap (λ (n : ℕ). getD (now (s .from)) n 0) (group-high (s .s) w 3 (omega arith)))
 
 pub copy-group-spec : {M : Type 1} → statement M
 copy-group-spec =

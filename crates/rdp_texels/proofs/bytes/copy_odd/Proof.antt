@@ -24,7 +24,11 @@ same-length : tie.Need-same-length
 same-length c = search needs
 
 returns : tie.Need-returns
-returns c = part-three (now (c .before .before .before .before .before .before .before .before .before .before .before .before .before .before .before .args .to)) (c .before .before .before .before .before .before .before .before .before .before .copy-turned .ensures) (c .before .before .before .before .before .before .copy-groups .ensures) (c .before .before .copy-turned2 .ensures)
+returns c =
+    let a = c .before .before .before .before .before .before in
+    let b = a .before .before .before .before in
+    let d = b .before .before .before .before .before in
+    part-three (now (d .args .to)) (b .copy-turned .ensures) (a .copy-groups .ensures) (c .before .before .copy-turned2 .ensures)
 
 pub copy-odd-spec : {M : Type 1} → statement M
 copy-odd-spec =

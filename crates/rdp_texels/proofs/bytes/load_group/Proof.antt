@@ -114,11 +114,14 @@ same-length c = simp length-set
 
 returns : tie.Need-returns
 returns c =
-    let s = c .before .before .before .before .before .before .before .before .args in
-    let w : s .d % 8 ≡ 0 = c .before .before .before .before .before .before .before .before .pre .0 in
+    let a = c .before .before .before .before .before .before .before .before in
+    let s = a .args in
+    let w : s .d % 8 ≡ 0 = a .pre .0 in
     let zero : s .d ≡ s .d + 0 = omega arith in
     part-eight true false (s .s) (s .d) (now (s .from)) (now (s .to)) (inside (s .d) w (length (now (s .to))) (omega arith))
-    (group-low (s .d) w 0 (omega arith)) (ap (λ (n : ℕ). getD (now (s .from)) n 0) (omega arith)) (group-low (s .d) w 1 (omega arith)) refl (group-low (s .d) w 2 (omega arith)) refl (group-low (s .d) w 3 (omega arith)) refl (zero ∙ group-high (s .d) w 0 (omega arith)) refl (group-high (s .d) w 1 (omega arith)) refl (group-high (s .d) w 2 (omega arith)) refl (group-high (s .d) w 3 (omega arith)) refl
+    (group-low (s .d) w 0 (omega arith)) (ap (λ (n : ℕ). getD (now (s .from)) n 0) (omega arith)) (group-low (s .d) w 1 (omega arith)) refl
+    (group-low (s .d) w 2 (omega arith)) refl (group-low (s .d) w 3 (omega arith)) refl (zero ∙ group-high (s .d) w 0 (omega arith)) refl
+    (group-high (s .d) w 1 (omega arith)) refl (group-high (s .d) w 2 (omega arith)) refl (group-high (s .d) w 3 (omega arith)) refl
 
 pub load-group-spec : {M : Type 1} → statement M
 load-group-spec =

@@ -24,7 +24,11 @@ same-length : tie.Need-same-length
 same-length c = search needs
 
 returns : tie.Need-returns
-returns c = part-three (now (c .before .before .before .before .before .before .before .before .before .before .before .before .before .before .before .args .to)) (c .before .before .before .before .before .before .before .before .before .before .load-turned .ensures) (c .before .before .before .before .before .before .load-groups .ensures) (c .before .before .load-turned2 .ensures)
+returns c =
+    let a = c .before .before .before .before .before .before in
+    let b = a .before .before .before .before in
+    let d = b .before .before .before .before .before in
+    part-three (now (d .args .to)) (b .load-turned .ensures) (a .load-groups .ensures) (c .before .before .load-turned2 .ensures)
 
 pub load-odd-spec : {M : Type 1} → statement M
 load-odd-spec =

@@ -8,7 +8,7 @@ use Rattle.rdp_texels.proofs.grids.bottom_from.Statement.{statement}
 use Rattle.rdp_texels.proofs.grids.bottom_from.Tie as tie
 
 returns : tie.Need-returns
-returns c = (rw (c .if1 .taken) (bottom-zero (c .before .args .scissor)), omega arith)
+returns c = (rw (c .if1 .taken) (bottom-zero (c .before .args .«field») (c .before .args .odd)), omega arith)
 
 sub-row-kept : tie.Need-sub-row-kept
 sub-row-kept c = search needs

@@ -22,7 +22,9 @@ whole-requires-2 : tie.Need-whole-requires-2
 whole-requires-2 c κs = c .before .before .before .step-of .ensures .1 .right
 
 grid-of-requires : tie.Need-grid-of-requires
-grid-of-requires c κs = (c .before .whole .ensures .1, c .whole2 .ensures .1, c .before .before .before .below .ensures .1, c .before .before .below2 .ensures .1)
+grid-of-requires c κs =
+    let a = c .before .before .before in
+    (c .before .whole .ensures .1, c .whole2 .ensures .1, a .below .ensures .1, c .before .before .below2 .ensures .1)
 
 returns : tie.Need-returns
 unfolding copyGrid

@@ -23,13 +23,13 @@ bottom-from-requires c κs = c .end-kept2 .ensures .1
 returns : tie.Need-returns
 unfolding copySpan
 returns c =
-    let s = c .before .before .before .before .before .before .args .copy .scissor in
+    let s = c .before .before .before .before .before .args .copy .scissor in
     let left = c .before .before .before .before .first-kept .ensures in
     let right = c .before .before .before .end-kept .ensures in
     let top = c .before .before .first-kept-row .ensures in
     let end = c .before .end-kept2 .ensures in
     let bottom = c .bottom-from .ensures in (
-      λ i. record { left = left .0 i; right = right .0 i; top = top .0 i; bottom = (bottom .0 ∙ ap (bottomFrom s) (end .0)) i },
+      λ i. record { left = left .0 i; right = right .0 i; top = top .0 i; bottom = (bottom .0 ∙ ap (bottomFrom (s .«field») (s .odd)) (end .0)) i },
       record { left = left .1; right = right .1; top = top .1; bottom = bottom .1 },
     )
 

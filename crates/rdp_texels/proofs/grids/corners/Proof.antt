@@ -12,7 +12,8 @@ is-some-requires : tie.Need-is-some-requires
 is-some-requires c κs = search needs
 
 returns : tie.Need-returns
-returns c = let s = c .before .before .args in corners-none (s .grid) (s .span) (s .start) (s .len) (sym (c .before .is-some .ensures) ∙ not-true _ (c .if1 .taken))
+returns c =
+    let s = c .before .before .args in corners-none (s .grid) (s .span) (s .start) (s .len) (sym (c .before .is-some .ensures) ∙ not-true _ (c .if1 .taken))
 
 lies-in-requires : tie.Need-lies-in-requires
 lies-in-requires c κs =
@@ -21,19 +22,37 @@ lies-in-requires c κs =
     (omega (arith, p .0 .address), omega (arith, p .0 .pitch), p .1, h .0, h .1)
 
 returns-2 : tie.Need-returns-2
-returns-2 c = let s = c .before .before .before .before .args in corners-memory (s .grid) (s .span) (s .start) (s .len) (sym (c .before .before .before .is-some .ensures) ∙ not-false _ (c .before .before .if1 .left)) (sym (c .before .lies-in .ensures) ∙ not-true _ (c .if2 .taken))
+returns-2 c =
+    let a = c .before .before .before in
+    let b = a .before in
+    let s = b .args in corners-memory (s .grid) (s .span) (s .start) (s .len) (sym (a .is-some .ensures) ∙ not-false _ (c .before .before .if1 .left))
+    (sym (c .before .lies-in .ensures) ∙ not-true _ (c .if2 .taken))
 
 lies-in-requires-2 : tie.Need-lies-in-requires-2
 lies-in-requires-2 c κs =
-    let p = c .before .before .before .before .pre in
-    let h = span-some (c .before .before .before .before .args .span) (sym (c .before .before .before .is-some .ensures) ∙ not-false _ (c .before .before .if1 .left)) in
+    let a = c .before .before .before in
+    let b = a .before in
+    let p = b .pre in
+    let h = span-some (b .args .span) (sym (a .is-some .ensures) ∙ not-false _ (c .before .before .if1 .left)) in
     (p .0 .ahead, p .0 .line, p .1, h .0, h .1)
 
 returns-3 : tie.Need-returns-3
-returns-3 c = let s = c .before .before .before .before .before .before .args in corners-texture (s .grid) (s .span) (s .start) (s .len) (sym (c .before .before .before .before .before .is-some .ensures) ∙ not-false _ (c .before .before .before .before .if1 .left)) (sym (c .before .before .before .lies-in .ensures) ∙ not-false _ (c .before .before .if2 .left)) (sym (c .before .lies-in2 .ensures) ∙ not-true _ (c .if3 .taken))
+returns-3 c =
+    let a = c .before .before .before in
+    let b = a .before in
+    let d = b .before in
+    let e = d .before in
+    let s = e .args in corners-texture (s .grid) (s .span) (s .start) (s .len) (sym (d .is-some .ensures) ∙ not-false _ (b .if1 .left))
+    (sym (a .lies-in .ensures) ∙ not-false _ (c .before .before .if2 .left)) (sym (c .before .lies-in2 .ensures) ∙ not-true _ (c .if3 .taken))
 
 returns-4 : tie.Need-returns-4
-returns-4 c = let s = c .before .before .before .before .before .before .args in corners-clear (s .grid) (s .span) (s .start) (s .len) (sym (c .before .before .before .before .before .is-some .ensures) ∙ not-false _ (c .before .before .before .before .if1 .left)) (sym (c .before .before .before .lies-in .ensures) ∙ not-false _ (c .before .before .if2 .left)) (sym (c .before .lies-in2 .ensures) ∙ not-false _ (c .if3 .left))
+returns-4 c =
+    let a = c .before .before .before in
+    let b = a .before in
+    let d = b .before in
+    let e = d .before in
+    let s = e .args in corners-clear (s .grid) (s .span) (s .start) (s .len) (sym (d .is-some .ensures) ∙ not-false _ (b .if1 .left))
+    (sym (a .lies-in .ensures) ∙ not-false _ (c .before .before .if2 .left)) (sym (c .before .lies-in2 .ensures) ∙ not-false _ (c .if3 .left))
 
 pub corners-spec : {M : Type 1} → statement M
 corners-spec =

@@ -34,7 +34,15 @@ returns c =
     let s = c .before .before .args in
     let a = c .before .texture-bytes .ensures in
     let b = c .texture-bytes2 .ensures in (
-      λ i. record { address = s .address; pitch = 2 * (s .width + 1); ahead = 8 * s .tmem + a .0 i; line = 8 * s .line; behind = b .0 i; turn = s .down + s .up },
+      λ i. record {
+        address = s .address;
+        pitch = 2 *
+            (s .width + 1);
+        ahead = 8 * s .tmem + a .0 i;
+        line = 8 * s .line;
+        behind = b .0 i;
+        turn = s .down + s .up;
+      },
       record { address = omega arith; pitch = omega arith; ahead = omega arith; line = omega arith; behind = omega arith; turn = omega arith },
     )
 

@@ -22,9 +22,17 @@ place-requires-2 c κs = search needs
 
 sub-result : tie.Need-sub-result
 sub-result c =
-    let s = c .before .before .before .args in
-    let p = c .before .before .before .pre in
-    omega (arith, c .place2 .ensures .0, c .before .before .place .ensures .0, c .before .if1 .left, end-after (s .base) (s .stride) (s .span) (s .low) (s .size) (p .3) (p .4))
+    let a = c .before .before .before in
+    let s = a .args in
+    let p = a .pre in
+    omega (
+      arith,
+      c .place2 .ensures .0,
+      c .before .before .place .ensures .0,
+      c .before .if1 .left,
+      end-after (s .base) (s .stride) (s .span) (s .low)
+          (s .size) (p .3) (p .4),
+    )
 
 returns-2 : tie.Need-returns-2
 returns-2 c =

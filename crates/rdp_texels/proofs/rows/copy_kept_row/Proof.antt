@@ -15,7 +15,10 @@ same-length : tie.Need-same-length
 same-length c = search needs
 
 returns : tie.Need-returns
-returns c = rw (sym (c .before .before .before .before .before .row-kept .ensures) ∙ c .before .before .before .before .if1 .taken) (c .before .before .copy-grid-row .ensures)
+returns c =
+    let a = c .before .before .before .before in
+    let b = a .before in
+    rw (sym (b .row-kept .ensures) ∙ a .if1 .taken) (c .before .before .copy-grid-row .ensures)
 
 returns-2 : tie.Need-returns-2
 unfolding copied

@@ -17,20 +17,20 @@ place-requires c κs =
 
 sub-d : tie.Need-sub-d
 sub-d c =
-    let r = c .before .before .before .before .pre .1 in
-    let f = row-fits (c .before .before .before .before .pre .1) (c .before .before .before .before .args .y) (c .before .before .before .before .pre .2) (c .before .before .before .before .pre .3) in
+    let a = c .before .before .before .before in
+    let f = row-fits (a .pre .1) (a .args .y) (a .pre .2) (a .pre .3) in
     omega (arith, c .before .place .ensures .0, f .texture)
 
 place-requires-2 : tie.Need-place-requires-2
 place-requires-2 c κs =
-    let r = c .before .before .before .before .pre .1 in
-    let f = row-fits (c .before .before .before .before .pre .1) (c .before .before .before .before .args .y) (c .before .before .before .before .pre .2) (c .before .before .before .before .pre .3) in
-    (omega (arith, r .grid .address), omega (arith, r .grid .pitch), r .span .left, omega (arith, c .before .before .before .before .pre .3, r .span .bottom))
+    let a = c .before .before .before .before in
+    let r = a .pre .1 in
+    (omega (arith, r .grid .address), omega (arith, r .grid .pitch), r .span .left, omega (arith, a .pre .3, r .span .bottom))
 
 sub-s : tie.Need-sub-s
 sub-s c =
-    let r = c .before .before .before .before .before .pre .1 in
-    let f = row-fits (c .before .before .before .before .before .pre .1) (c .before .before .before .before .before .args .y) (c .before .before .before .before .before .pre .2) (c .before .before .before .before .before .pre .3) in
+    let a = c .before .before .before .before .before in
+    let f = row-fits (a .pre .1) (a .args .y) (a .pre .2) (a .pre .3) in
     omega (arith, c .place2 .ensures .0, f .memory)
 
 sub-n : tie.Need-sub-n
@@ -43,26 +43,35 @@ row : (y bottom : ℕ) → y < bottom → bottom ≤ 16384 → y ≤ 16384
 row y bottom h k = omega arith
 
 is-turned-requires : tie.Need-is-turned-requires
-is-turned-requires c κs = let r = c .before .before .before .before .before .before .pre .1 in (r .grid .turn, row (c .before .before .before .before .before .before .args .y) (c .before .before .before .before .before .before .args .span .bottom) (c .before .before .before .before .before .before .pre .3) (r .span .bottom))
+is-turned-requires c κs =
+    let a = c .before .before .before .before .before .before in
+    let r = a .pre .1 in (r .grid .turn, row (a .args .y) (a .args .span .bottom) (a .pre .3) (r .span .bottom))
 
 load-row-requires : tie.Need-load-row-requires
 load-row-requires c κs =
-    let r = c .before .before .before .before .before .before .before .before .pre .1 in
-    let f = row-fits (c .before .before .before .before .before .before .before .before .pre .1) (c .before .before .before .before .before .before .before .before .args .y) (c .before .before .before .before .before .before .before .before .pre .2) (c .before .before .before .before .before .before .before .before .pre .3) in
-    let t = c .before .before .before .before .before .place .ensures .0 in
-    let m = c .before .before .before .place2 .ensures .0 in
-    (c .before .before .before .before .before .before .before .before .pre .0, omega (arith, t, f .texture-end), omega (arith, m, f .memory-end))
+    let a = c .before .before .before in
+    let b = a .before .before in
+    let d = b .before .before .before in
+    let f = row-fits (d .pre .1) (d .args .y) (d .pre .2) (d .pre .3) in
+    let t = b .place .ensures .0 in
+    let m = a .place2 .ensures .0 in
+    (d .pre .0, omega (arith, t, f .texture-end), omega (arith, m, f .memory-end))
 
 same-length : tie.Need-same-length
 same-length c = search needs
 
 returns : tie.Need-returns
 returns c =
-    let s = c .before .before .before .before .before .before .before .before .before .before .before .args in
-    let p = c .before .before .before .before .before .before .before .before .before .before .before .pre in
-    let t = c .before .before .before .before .before .before .before .before .place .ensures .0 in
-    let m = c .before .before .before .before .before .before .place2 .ensures .0 in
-    loaded-row-is (now (s .texture)) (now (s .memory)) (p .1) (s .y) (p .2) (p .3) (ap (λ (n : ℕ). n - s .grid .behind) t) (ap (λ (n : ℕ). n - s .start) m) refl (c .before .before .before .before .is-turned .ensures) (p .0) (c .before .before .load-row .ensures)
+    let a = c .before .before .before .before in
+    let b = a .before .before in
+    let d = b .before .before in
+    let e = d .before .before .before in
+    let s = e .args in
+    let p = e .pre in
+    let t = d .place .ensures .0 in
+    let m = b .place2 .ensures .0 in
+    loaded-row-is (now (s .texture)) (now (s .memory)) (p .1) (s .y) (p .2) (p .3) (ap (λ (n : ℕ). n - s .grid .behind) t)
+    (ap (λ (n : ℕ). n - s .start) m) refl (a .is-turned .ensures) (p .0) (c .before .before .load-row .ensures)
 
 pub load-grid-row-spec : {M : Type 1} → statement M
 load-grid-row-spec =
