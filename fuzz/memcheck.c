@@ -36,6 +36,29 @@ static void one_repair(const uint8_t *list, size_t length, size_t work_length, s
     free(out);
 }
 
+// Both memories are lent undefined: no answer and no branch goes by what they hold
+static void one_draw(const uint8_t *list, size_t length, size_t memory_length, uint64_t start, size_t texture_length, bool null) {
+    uint8_t *memory = exact(memory_length, null), *texture = exact(texture_length, null);
+    const uint64_t answer = lanyardrove_draw(list, length, memory, memory_length, start, texture, texture_length);
+    calls++;
+    written(&answer, sizeof answer);
+    free(memory);
+    free(texture);
+}
+
+// The bytes as a memory with a display list, the numbers' two high bits set
+static void one_translate(const uint8_t *list, size_t length, uint32_t start, size_t out_length, bool null) {
+    uint8_t *memory = copy(list, length, null), *out = exact(out_length, null);
+    for (size_t at = 0; at < length; at += 8) memory[at] |= 0xC0;
+    if (length > 7) memory[(length - 8) / 8 * 8] = 0xDF;
+    const uint64_t answer = lanyardrove_translate(memory, length, start, out, out_length);
+    calls++;
+    written(&answer, sizeof answer);
+    if (number_of(answer) == 0) written(out, 8 * (size_t)place_of(answer));
+    free(memory);
+    free(out);
+}
+
 static void one_decode(const uint8_t *list, size_t length, size_t count, bool null) {
     uint64_t *fields = (uint64_t *)(void *)exact(8 * count, null);
     const uint64_t answer = lanyardrove_decode(list, length, fields, count);
@@ -87,15 +110,13 @@ static void one_list(const uint8_t *bytes, size_t length) {
         for (size_t w = 0; w < sizeof room / sizeof *room; w++)
             for (size_t o = 0; o < sizeof room / sizeof *room; o++) one_repair(list, length, room[w], room[o], null);
         const uint64_t starts[] = {0, 1, 18, 64, 0x3FFFFC0, UINT64_MAX - 3, UINT64_MAX};
-        const size_t memories[] = {0, 1, 4, 37, 38, 64, 4099};
+        const size_t memories[] = {0, 1, 4, 37, 38, 64, 4099}, textures[] = {4096, 0, 4095, 4097};
         for (size_t s = 0; s < sizeof starts / sizeof *starts; s++)
-            for (size_t m = 0; m < sizeof memories / sizeof *memories; m++) {
-                uint8_t *memory = exact(memories[m], null);
-                const uint64_t answer = lanyardrove_draw(list, length, memory, memories[m], starts[s]);
-                calls++;
-                written(&answer, sizeof answer);
-                free(memory);
-            }
+            for (size_t m = 0; m < sizeof memories / sizeof *memories; m++)
+                for (size_t t = 0; t < sizeof textures / sizeof *textures; t++) one_draw(list, length, memories[m], starts[s], textures[t], null);
+        const uint32_t offsets[] = {0, 4, 8, (uint32_t)length, UINT32_MAX - 7};
+        for (size_t s = 0; s < sizeof offsets / sizeof *offsets; s++)
+            for (size_t o = 0; o < sizeof room / sizeof *room; o++) one_translate(list, length, offsets[s], room[o], null);
         for (size_t count = 0; count < MOST_FIELDS; count++) one_decode(list, length, count, null);
         const size_t portions[] = {1, 7, 64, 175, 176, 40000};
         for (size_t p = 0; p < sizeof portions / sizeof *portions; p++) one_stream(list, length, portions[p], null);

@@ -24,24 +24,45 @@ static uint64_t small_corner(void) {
     return x << 12 | (below(4) ? below(80) : below(4096));
 }
 
+// Format and size, most often 16-bit RGBA
+static uint64_t some_format(void) { return (uint64_t)(below(24) ? 2 : below(32)) << 51; }
+
+// Corners in texels, the first below the second, most often whole
+static uint64_t some_area(void) {
+    const uint64_t left = below(8) ? 4 * below(6) : below(64), top = below(8) ? 4 * below(6) : below(64);
+    return left << 44 | top << 32 | (left + below(below(16) ? 48 : 4096)) % 4096 << 12 | (top + below(48)) % 4096;
+}
+
+// s, t and the steps that copying needs, most often
+static uint64_t some_texels(void) {
+    const uint64_t s = (uint16_t)(32 * (int)(below(12) - 3)), t = (uint16_t)(32 * (int)(below(12) - 3)), steps = 0x10000400;
+    return (s << 48 | t << 32 | steps) ^ (below(24) ? 0 : 1ull << below(64));
+}
+
 // The first word of a command of some number, with fields that are often near those that matter.
 static uint64_t some_word(unsigned number) {
     uint64_t word = (uint64_t)number << 56;
     if (below(64) == 0) word |= any() << 62;  // ignored bits
     switch (number) {
     case 0x2D: return word | (below(3) ? 0 : small_corner()) << 32 | (below(4) ? 0 : below(4)) << 24 | (below(3) == 0 ? 0x100100 : below(2) ? 0xFFFFFF : small_corner());
-    case 0x2F: return word | (uint64_t)(below(4) ? 3 : below(4)) << 52 | (below(4) ? 0 : any() & 0x0FFFFFFFFFFFFF);
+    case 0x2F: return word | (uint64_t)(below(8) ? 2 + below(2) : below(4)) << 52 | (below(4) ? 0 : any() & 0x0FFFFFFFFFFFFF);
     case 0x3F:
-        return word | (uint64_t)below(8) << 53 | (uint64_t)(below(8) ? 1 + below(3) : 0) << 51 | (uint64_t)(below(4) ? below(33) : below(1024)) << 32 |
+        return word | (uint64_t)below(8) << 53 | (uint64_t)(below(2) ? 2 : below(8) ? 1 + below(3) : 0) << 51 | (uint64_t)(below(4) ? below(33) : below(1024)) << 32 |
                (below(8) ? below(64) * 64 : any() & 0x3FFFFFF);
     case 0x36: return word | small_corner() << 32 | (below(3) ? (uint64_t)below(24) << 12 | below(24) : small_corner());
+    case 0x24: return word | small_corner() << 32 | (uint64_t)below(2) << 24 | (uint64_t)below(24) << 12 | below(24);
+    case 0x32: case 0x34: return word | some_area() | (uint64_t)below(2) << 24;
+    case 0x35:
+        return word | some_format() | (uint64_t)below(6) << 41 | (uint64_t)(below(2) ? below(16) : below(2) ? 500 + below(12) : below(512)) << 32 |
+               (uint64_t)below(2) << 24 | (below(24) ? 0 : 1ull << below(20));
+    case 0x3D: return word | some_format() | (uint64_t)(below(8) ? below(33) : below(1024)) << 32 | (below(8) ? below(4096) : any() & 0xFFFFFF);
     case 0x26: case 0x27: case 0x28: case 0x29: return word | (below(8) ? 0 : any() & 0xFFFFFFFFFFFFFF);
     default: return word | (below(4) ? any() & 0xFFFFFFFFFFFFFF : 0);
     }
 }
 
 static unsigned some_number(void) {
-    static const uint8_t common[] = {0x36, 0x36, 0x36, 0x24, 0x25, 0x08, 0x0A, 0x0F, 0x30, 0x33, 0x34, 0x34, 0x35, 0x35, 0x37, 0x37, 0x3F, 0x2F, 0x2D,
+    static const uint8_t common[] = {0x36, 0x36, 0x36, 0x24, 0x24, 0x24, 0x25, 0x08, 0x0A, 0x0F, 0x30, 0x33, 0x34, 0x34, 0x34, 0x35, 0x35, 0x37, 0x37, 0x3F, 0x2F, 0x2D,
                                      0x26, 0x27, 0x27, 0x28, 0x3C, 0x3D, 0x3A, 0x00, 0x32};
     const unsigned number = below(5) ? common[below(sizeof common)] : below(60) ? below(64) : 0x29;
     return is_unassigned(number) && below(8) ? 0x00 : number;  // a list that is refused early does not go deep
@@ -55,19 +76,18 @@ static size_t some_commands(uint8_t *at, size_t max, unsigned count) {
         size_t need = 8 * words_of(number);
         if (length + need > max) break;
         put_word(at + length, some_word(number));
-        for (size_t i = 8; i < need; i += 8) put_word(at + length + i, below(2) ? any() : 0);
+        for (size_t i = 8; i < need; i += 8) put_word(at + length + i, number == 0x24 ? some_texels() : below(2) ? any() : 0);
         length += need;
     }
     return length;
 }
 
 static size_t setup(uint8_t *at, size_t max) {
-    if (max < 32) return 0;
-    put_word(at, some_word(0x2F));
-    put_word(at + 8, some_word(0x3F));
-    put_word(at + 16, some_word(0x2D));
-    put_word(at + 24, some_word(0x37));
-    return below(4) ? 32 : 24;
+    static const uint8_t numbers[] = {0x2F, 0x3F, 0x2D, 0x3D, 0x35, 0x35, 0x37};
+    const size_t count = 3 + below(sizeof numbers - 2);
+    if (max < 8 * sizeof numbers) return 0;
+    for (size_t k = 0; k < count; k++) put_word(at + 8 * k, some_word(numbers[k]));
+    return 8 * count;
 }
 
 // A place of a command, in bytes: a walk from the front for a random number of commands.

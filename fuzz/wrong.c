@@ -8,7 +8,8 @@
 
 uint64_t right_check(const uint8_t *list, size_t length);
 uint64_t right_repair(const uint8_t *list, size_t length, uint8_t *work, size_t work_length, uint8_t *out, size_t out_length);
-uint64_t right_draw(const uint8_t *list, size_t length, uint8_t *memory, size_t memory_length, uint64_t start);
+uint64_t right_draw(const uint8_t *list, size_t length, uint8_t *memory, size_t memory_length, uint64_t start, uint8_t *texture, size_t texture_length);
+uint64_t right_translate(const uint8_t *memory, size_t memory_length, uint32_t start, uint8_t *out, size_t out_length);
 uint64_t right_decode(const uint8_t *list, size_t length, uint64_t *fields, size_t count);
 uint64_t right_encode(uint32_t number, const uint64_t *fields, size_t count, const uint8_t *suffix, size_t suffix_length, uint8_t *out, size_t out_length);
 uint64_t right_words(uint64_t first_word);
@@ -96,21 +97,122 @@ uint64_t lanyardrove_repair(const uint8_t *list, size_t length, uint8_t *work, s
     return a;
 }
 
-uint64_t lanyardrove_draw(const uint8_t *list, size_t length, uint8_t *memory, size_t memory_length, uint64_t start) {
-    static uint8_t before[65536];
+// A list's settings with one command behind them: no draws, no syncs, and of a load only the size that it leaves.
+static size_t settings_and(const uint8_t *list, size_t place, const uint8_t *command, uint8_t *out) {
+    size_t length = 0;
+    for (size_t at = 0, here; at < place; at += here) {
+        const unsigned number = command_number(list + 8 * at);
+        here = words_of(number);
+        if (is_draw(number) || number == 0x29 || cycles_of(number)) continue;
+        memcpy(out + length, list + 8 * at, 8);
+        if (is_load(number)) out[length] = 0x32;
+        length += 8;
+    }
+    memcpy(out + length, command, 16);
+    return length + 16;
+}
+
+// The first row of a list's last texture rectangle drawn again, as if it were written after the others.
+static void first_row_last(const uint8_t *list, size_t words, uint8_t *memory, size_t memory_length, uint64_t start, uint8_t *texture) {
+    static uint8_t other[LONGEST_LIST + 16];
+    uint8_t command[16];
+    size_t last = words;
+    for (size_t at = 0; at < words; at += words_of(command_number(list + 8 * at)))
+        if (command_number(list + 8 * at) == 0x24) last = at;
+    if (last + 2 != words) return;
+    memcpy(command, list + 8 * last, 16);
+    command[2] = (command[2] & 0xF0) | (command[6] & 0x0F), command[3] = command[7];  // its bottom is its top
+    right_draw(other, settings_and(list, last, command, other), memory, memory_length, start, texture, 4096);
+}
+
+// What a list up to the refused command answers with the whole of the console's memory: 18, where that holds too.
+static uint64_t with_all_memory(const uint8_t *list, size_t place, uint64_t right) {
+    static uint8_t all[80u << 20], texture[4096];
+    const uint64_t a = right_draw(list, 8 * (place + words_of(command_number(list + 8 * place))), all, sizeof all, 0, texture, sizeof texture);
+    return a >> 56 == 18 ? a : right;
+}
+
+// A list without the bits of its Set Other Modes that switch perspective on.
+static const uint8_t *without_perspective(const uint8_t *list, size_t length) {
+    static uint8_t other[LONGEST_LIST];
+    if (length) memcpy(other, list, length);
+    for (size_t at = 0, here, words = length / 8; at < words && (here = whole_at(list, words, at)); at += here)
+        if (command_number(list + 8 * at) == 0x2F) other[8 * at + 1] &= 0xF7;
+    return other;
+}
+
+// The halves of the first word of texture memory that a load changed, in each other's place.
+static void turn_a_word(const uint8_t *before, uint8_t *texture) {
+    size_t at = 0;
+    while (at < 4096 && memcmp(before + at, texture + at, 8) == 0) at += 8;
+    for (size_t i = at; at < 4096 && i < at + 4; i++) {
+        const uint8_t byte = texture[i];
+        texture[i] = texture[i + 4];
+        texture[i + 4] = byte;
+    }
+}
+
+// The first byte that was painted, in another colour.
+static void paint_otherwise(const uint8_t *before, uint8_t *memory, size_t memory_length) {
+    size_t i = 0;
+    while (i < memory_length && memory[i] == before[i]) i++;
+    if (i < memory_length) memory[i] ^= 0x10;
+}
+
+// What a wrong version makes of textures; the right answer where it is not wrong.
+static uint64_t mistextured(const uint8_t *list, size_t length, uint64_t start, uint8_t *memory, size_t memory_length, uint8_t *texture, uint64_t right,
+                            const uint8_t *before) {
+    const uint64_t number = right >> 56;
+    if (wrong(27) && number == 0) turn_a_word(before, texture);                                              // turned where it isn't due, or not where it is
+    if (wrong(28) && number == 0) first_row_last(list, length / 8, memory, memory_length, start, texture);  // an earlier pixel stays
+    if (wrong(29) && number == 12) return with_all_memory(list, (uint32_t)right, right);                     // 18 before 12
+    if (wrong(30) && number == 18) texture[4095] ^= 1;                                                       // loads and refuses
+    if (wrong(36) && number == 17) return right_draw(without_perspective(list, length), length, memory, memory_length, start, texture, 4096);
+    if (wrong(37) && number == 17 && is_load(command_number(list + 8 * (uint32_t)right))) return length / 8;  // 17 not asked of loads
+    return right;
+}
+
+uint64_t lanyardrove_draw(const uint8_t *list, size_t length, uint8_t *memory, size_t memory_length, uint64_t start, uint8_t *texture, size_t texture_length) {
+    static uint8_t before[65536], texture_before[65536];
     if (memory_length) memcpy(before, memory, memory_length);
-    const uint64_t a = right_draw(list, length, memory, memory_length, start), number = a >> 56;
+    if (texture_length) memcpy(texture_before, texture, texture_length);
+    const uint64_t a = right_draw(list, length, memory, memory_length, start, texture, texture_length), number = a >> 56;
     if (wrong(21) && number == 0) memory[memory_length] = 1;
     if (wrong(22) && number == 12 && memory_length) memory[memory_length / 2] ^= 1;  // paints and refuses
     if (wrong(23) && number == 0 && memory_length > 5) memory[5] ^= 0x10;            // a byte that no fill covers
     if (wrong(24) && number == 11) return a + 1;                                     // place
+    if (wrong(25) && number == 0) paint_otherwise(before, memory, memory_length);    // another colour
     if (wrong(26) && number == 19) return length / 8;                                // unassigned numbers let through
-    if (wrong(25) && number == 0)                                                    // another colour
-        for (size_t i = 0; i < memory_length; i++)
-            if (memory[i] != before[i]) {
-                memory[i] ^= 0x10;
-                break;
-            }
+    if (wrong(38) && number == 16 && texture_length > 4096) return length / 8;       // more texture memory taken
+    return mistextured(list, length, start, memory, memory_length, texture, a, texture_before);
+}
+
+// The half-words read, by the rectangles that were written.
+static uint64_t half_words(const uint8_t *out, size_t words) {
+    uint64_t count = 0;
+    for (size_t at = 0; at < words; at += words_of(command_number(out + 8 * at))) count += words_of(command_number(out + 8 * at)) == 2 ? 2 : 0;
+    return count;
+}
+
+// The second of two Set Other Modes that follow each other, without the low word that the first left.
+static void forget_modes(uint8_t *out, size_t words) {
+    for (size_t at = 0, before = 0; at < words; before = at, at += words_of(command_number(out + 8 * at)))
+        if (at && out[8 * at] == 0x2F && out[8 * before] == 0x2F) memset(out + 8 * at + 4, 0, 4);
+}
+
+uint64_t lanyardrove_translate(const uint8_t *memory, size_t memory_length, uint32_t start, uint8_t *out, size_t out_length) {
+    if (wrong(91)) read = memory[memory_length];
+    const uint64_t a = right_translate(memory, memory_length, start, out, out_length), number = a >> 56;
+    const uint32_t place = (uint32_t)a, count = a >> 32 & 0xFFFFFF;
+    if (wrong(92) && number == 23 && memory[place] == 0xDE && !memory[place + 1] && !memory[place + 4])  // a ninth call
+        return right_translate(memory, memory_length, (uint32_t)memory[place + 5] << 16 | memory[place + 6] << 8 | memory[place + 7], out, out_length);
+    if (wrong(93) && number == 21) return with_third(a, 4097);                                           // one more command read
+    if (wrong(94) && number == 0) return with_third(a, count - half_words(out, place));                  // half-words not counted
+    if (wrong(95) && number == 0) forget_modes(out, place);                                              // the mode word not kept
+    if (wrong(96) && number > 19 && out_length) out[0] ^= 1;                                             // writes and refuses
+    if (wrong(97) && number == 20 && place % 8) return with_third(22ull << 56 | place, count);           // 22 before 20
+    if (wrong(98) && number == 0 && 8 * place < out_length) out[8 * place] ^= 1;                         // beyond what is written
+    if (wrong(99) && number == 14) return with_third(a, 0);                                              // nothing read at 14
     return a;
 }
 
