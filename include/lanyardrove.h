@@ -1,5 +1,6 @@
 /*
- * Lanyardrove: checks, repairs, draws, decodes and encodes command lists of the Nintendo 64's display processor (RDP).
+ * Lanyardrove: checks, repairs, draws, decodes and encodes command lists of the Nintendo 64's display processor (RDP), and
+ * translates the display lists of games into them.
  *
  * Link with build/liblanyardrove.a (`make`) and the C library. The functions allocate nothing, keep no state between calls,
  * use less than 8 KiB of stack and touch only the bytes that they are lent, so calls on different buffers may run at the
@@ -14,10 +15,11 @@
  * which is never null.
  *
  * Answers. Each function but lanyardrove_version and lanyardrove_words answers one 64-bit number, whose parts
- * lanyardrove_number, lanyardrove_place and lanyardrove_third give (or by their meaning _cause, _cycles, _command, _hazards,
- * _required). Number 0 says that all went well; any other is the first refusal that holds: 1 and 2 of the list, then command
- * by command 3, 4, 19, 5, 6 and 7 to 9, then those that the function adds, in the order of its description. A refusal
- * leaves every byte as it was, but for the repair's work buffer at 14 and a stream's record, which remembers it.
+ * lanyardrove_number, lanyardrove_place and lanyardrove_third give (or by their meaning _cause, _cycles, _command,
+ * _commands_read, _hazards, _required). Number 0 says that all went well; any other is the first refusal that holds: 1 and 2
+ * of the list, then command by command 3, 4, 19, 5, 6 and 7 to 9, then those that the function adds, in the order of its
+ * description. A refusal leaves every byte as it was, but for the repair's work buffer at 14 and a stream's record, which
+ * remembers it.
  */
 #ifndef LANYARDROVE_H
 #define LANYARDROVE_H
@@ -50,19 +52,28 @@ enum lanyardrove_ground {
     LANYARDROVE_SYNC_LOAD_MISSING = 7,  /* A Sync Load is missing before the command at the place. */
     LANYARDROVE_SYNC_TILE_MISSING = 8,  /* A Sync Tile is missing before the command at the place. */
     LANYARDROVE_SYNC_PIPE_MISSING = 9,  /* A Sync Pipe is missing before the command at the place. */
-    LANYARDROVE_NOT_A_FILL = 10,        /* Drawing: any draw but a Fill Rectangle in FILL mode and a Texture Rectangle (0x24) in
-                                           COPY mode; place its first word. */
+    LANYARDROVE_NOT_A_FILL = 10,        /* Drawing: any draw but a Fill Rectangle in FILL mode or a Texture Rectangle (0x24)
+                                           in COPY mode; place its first word. */
     LANYARDROVE_MISALIGNED = 11,        /* Drawing: the colour image's address is no multiple of 64; the draw's first word. */
-    LANYARDROVE_OUTSIDE_MEMORY = 12,    /* Drawing: a byte of a kept pixel or of a loaded texel is outside the memory; the
-                                           command's first word. */
+    LANYARDROVE_OUTSIDE_MEMORY = 12,    /* Drawing: a byte of a kept pixel or a loaded texel is outside the memory; the draw's
+                                           or load's first word. */
     LANYARDROVE_WORK_TOO_SHORT = 13,    /* Repair: the work buffer is below 16 bytes a command; place the commands. */
     LANYARDROVE_OUTPUT_TOO_SHORT = 14,  /* The output is too short for all that would be written; place what is needed. */
     LANYARDROVE_NOT_ENCODABLE = 15,     /* Encoding: a field exceeds its bits, the number is none of 0 to 63, or the fields or
                                            suffix bytes are not as many as are due; place 0. */
-    LANYARDROVE_TEXTURE_LENGTH = 16,    /* Drawing: the texture memory is not 4,096 bytes; place 0. */
-    LANYARDROVE_NOT_COPYABLE = 17,      /* Drawing: a load or a copy that lanyardrove_draw does not take; its first word. */
-    LANYARDROVE_OUTSIDE_TEXTURE = 18,   /* Drawing: a byte loaded to or read is outside the texture memory; its first word. */
+    LANYARDROVE_TEXTURE_LENGTH = 16,    /* Drawing: the texture memory is not 4,096 bytes long; place 0. */
+    LANYARDROVE_NOT_COPYABLE = 17,      /* Drawing: a load or COPY rectangle that is none of those described below; place its
+                                           first word. */
+    LANYARDROVE_OUTSIDE_TEXTURE = 18,   /* Drawing: a byte loaded to, or read for a kept pixel, is outside the texture memory;
+                                           the draw's or load's first word. */
     LANYARDROVE_UNASSIGNED = 19,        /* A number that no command has (0x01-0x07, 0x10-0x23, 0x31); place its word. */
+    LANYARDROVE_UNREADABLE = 20,        /* Translating: the offset is no multiple of 8, or the command there is not all in the
+                                           memory; place the offset. */
+    LANYARDROVE_TOO_MANY_COMMANDS = 21, /* Translating: the 4,097th command; place its offset. */
+    LANYARDROVE_NOT_TRANSLATABLE = 22,  /* Translating: a number that stands for nothing, or a half-word missing or out of
+                                           place; place its offset. */
+    LANYARDROVE_INVALID_SETTING = 23,   /* Translating: a ninth call deep, an address, parameter, shift or count that is not
+                                           allowed; place the command's offset. */
     LANYARDROVE_RECORD_DAMAGED = 28     /* Stream: the record is none that feeding and closing leave; place 0. */
 };
 
@@ -72,12 +83,13 @@ static inline uint32_t lanyardrove_place(uint64_t answer) { return (uint32_t)ans
 static inline uint32_t lanyardrove_third(uint64_t answer) { return (uint32_t)(answer >> 32) & 0xFFFFFFu; }
 
 /* The third number by its meaning: the cause that the check gives; the cycles, of a repair those that it inserted, of a stream
-   those that its syncs have waited; the number of a decoded command. Those of a repair and of decoding are 0 at a refusal. In
-   the answers of drawing and encoding the third number is 0.
+   those that its syncs have waited; the number of a decoded command; the display list commands that translating has read.
+   Those of a repair and of decoding are 0 at a refusal. In the answers of drawing and encoding the third number is 0.
    Of a step's answer the place is the hazards after it, and the third number's low two bits are the sync required. */
 static inline uint32_t lanyardrove_cause(uint64_t checked) { return lanyardrove_third(checked); }
 static inline uint32_t lanyardrove_cycles(uint64_t repaired_or_fed) { return lanyardrove_third(repaired_or_fed); }
 static inline uint32_t lanyardrove_command(uint64_t decoded) { return lanyardrove_third(decoded); }
+static inline uint32_t lanyardrove_commands_read(uint64_t translated) { return lanyardrove_third(translated); }
 static inline uint32_t lanyardrove_hazards(uint64_t stepped) { return lanyardrove_place(stepped); }
 static inline uint32_t lanyardrove_required(uint64_t stepped) { return lanyardrove_third(stepped) % 4; }
 
@@ -151,18 +163,45 @@ uint64_t lanyardrove_repair(const uint8_t *list, size_t list_length,
                             uint8_t *work, size_t work_length,
                             uint8_t *out, size_t out_length);
 
-/* Draws a list into memory: its Fill Rectangles in FILL mode, and its Texture Rectangles (0x24) in COPY mode, of the texels
-   that Load Tile puts into texture memory. memory[i] is the byte at address start + i of the console's memory, which the
-   addresses of colour and texture images count in. start is any number, and no sum of it wraps. texture is 4,096 bytes.
-   Answers 0 at the words of the list; or the first refusal of the check (1 to 9 and 19), then 16 at 0, then the first along the
-   commands: of a draw 10, 11, 17, 12, 18, of a load 17, 12, 18.
-   17 is a Load TLUT or Load Block; a Load Tile whose texture image or tile is not set or not 16-bit RGBA; a rectangle in COPY
-   mode whose tile is not, or on a colour image not of 16 bits, or with dsdx not 0x1000, dtdy not 0x0400, s, t or the tile's
-   upper left not whole texels, or mask, shift, mirror, perspective, look-up or alpha compare on.
+/* The bytes of texture memory. */
+#define LANYARDROVE_TEXTURE_BYTES 4096
+
+/* Draws a list into memory: its Fill Rectangles in FILL mode, its Load Tiles and its Texture Rectangles (0x24) in COPY mode, in
+   the list's order. memory[i] is the byte at address start + i of the console's memory, which the colour image's and the
+   texture image's address count in. start is any number, and no sum of it wraps. Texture memory is LANYARDROVE_TEXTURE_BYTES
+   bytes, which a load writes and a copy reads; what it holds at first is the caller's, and what it holds at last stays there.
+   Answers 0 at the words of the list; or the first refusal of the check (1 to 9 and 19), then 16 at 0, then the first along
+   the draws and loads: at a draw 10, 11, 17, 12, 18 in this order, at a load 17, 12, 18. 12 is asked of all bytes of a command
+   before 18 is of any.
+   Load Tile takes the texels from the floor of its upper left to the floor of its lower right, both included, row by row:
+   that of row r and column c of this block to byte 8 * tmem + 8 * line * r + 2 * c, with the byte number's bit 2 turned over
+   in odd rows. It leaves its corners as the tile's size. A copied pixel (x, y) reads the texel of row t + y - top - tile top,
+   column likewise, top being the rectangle's own first row, turned over in odd rows too; rows and columns may be negative.
+   Pixels are written row by row, each row from the left, and the later one stays.
+   17 is a Load TLUT or Load Block, a Load Tile without a texture image of 16-bit RGBA, either of Load Tile and copy without a
+   tile descriptor (Set Tile) of 16-bit RGBA, and a copy onto an image not of 16 bits, with dsdx other than 0x1000 or dtdy than
+   0x0400, with s, t or the tile's upper left between texels (a size that was never set has (0, 0)), or with any of mask,
+   shift and mirror of the tile or perspective, look-up and alpha compare on; also where no pixel is kept.
    A refusal leaves every byte of both memories as it was: nothing is drawn before all is tested. */
 uint64_t lanyardrove_draw(const uint8_t *list, size_t list_length,
                           uint8_t *memory, size_t memory_length, uint64_t start,
                           uint8_t *texture, size_t texture_length);
+
+/* Translates a display list of Fast3DEX2 at an offset of a memory: writes the RDP list that it stands for to the front of out.
+   A command is 8 bytes, most significant first, and its number the first of them. 0xE6 to 0xF0 and 0xF2 to 0xFF are written as
+   the command of the low six bits, with bits 63:62 zero; 0xE4 and 0xE5 so too, and then a second word of the low 32 bits of
+   the 0xE1 and the 0xF1 that must directly follow. 0xE2 and 0xE3 change the low and the high word of the other modes, which
+   start at zero and which 0xEF sets too, and are written as one Set Other Modes of the whole. Of 0xDE 00 calls the list at its
+   address, an offset, and 01 goes there for good; 0xDF returns, or ends the outermost list.
+   Answers 0 at the words written; or the first refusal along the commands as they are read, at each 20, 21, 22 and 23 in this
+   order, also at a half-word; and then 14 at the words needed. 23 is a ninth call that has not returned, an address of 0xDE or
+   of 0xFD to 0xFF whose top byte is not 0, a parameter of 0xDE other than 00 and 01, and a shift and count that go beyond 32
+   bits. The third number, lanyardrove_commands_read, is the commands read, half-words counted, a refused one not: at most
+   4,096, so 4,096 words of out always suffice.
+   Offsets are 32 bits: memory is taken up to 4,294,967,288 bytes, and what lies beyond counts as not lent.
+   A refusal leaves every byte of out as it was, and bytes beyond the words written are not touched. */
+uint64_t lanyardrove_translate(const uint8_t *memory, size_t memory_length, uint32_t start,
+                               uint8_t *out, size_t out_length);
 
 /* The longest command's words, and the most fields that a command has. */
 #define LANYARDROVE_MOST_WORDS 22

@@ -101,18 +101,38 @@ def copy(tile, column, row):
     return [f'24{left + 28:03X}{top + 28:03X}00{left:03X}{top:03X}', f'{at % 4 * 256:04X}{at // 4 * 256:04X}10000400']
 
 
-def valley():
+def valley_setup():
     sky = ['2F30000000000000', '3F10007F00000000', '2D00000000200140', '37000000' + 2 * pixel(*COLOURS['.']), fill(0, 0, 127, 79)]
-    load = [PIPE_SYNC, '2F20000000000000', '3D10001F00005000', '3510100000000000', '340000000007C05C', '2600000000000000']
-    copies = [word for row, tiles in enumerate(VALLEY) for column, tile in enumerate(tiles) if tile != '.' for word in copy(tile, column, row)]
-    return sky + load + copies + [FULL_SYNC]
+    return sky + [PIPE_SYNC, '2F20000000000000', '3D10001F00005000', '3510100000000000', '340000000007C05C', '2600000000000000']
+
+
+def valley_copies():
+    return [copy(tile, column, row) for row, tiles in enumerate(VALLEY) for column, tile in enumerate(tiles) if tile != '.']
+
+
+def valley():
+    return valley_setup() + [word for pair in valley_copies() for word in pair] + [FULL_SYNC]
+
+
+VALLEY_START = 0x5600  # where its display list begins in memory
+
+
+def valley_display_list():
+    """The same list in the commands of Fast3DEX2 (document 003): the cycle type by 0xE3, and the copies, with their half-words, in a list that is called."""
+    def command(word):
+        return f'{int(word[:2], 16) | 0xC0:02X}{word[2:]}'
+    setup = ['E3000A01' + word[2:8].rjust(8, '0') if word[:2] == '2F' else command(word) for word in valley_setup()]
+    copies = [word for first, second in valley_copies() for word in (command(first), 'E1000000' + second[:8], 'F1000000' + second[8:])]
+    ending = 'DF00000000000000'
+    called = VALLEY_START + 8 * (len(setup) + 3)
+    return setup + [f'DE000000{called:08X}', command(FULL_SYNC), ending] + copies + [ending]
 
 
 def valley_memory():
-    """Zeros where the picture comes, then the texture, row by row."""
+    """Zeros where the picture comes, then the texture, row by row, then the display list."""
     tiles = [tile.split() for tile in TILES.values()]
     rows = [''.join(tile[row % 8] for tile in tiles[row // 8 * 4:][:4]) for row in range(24)]
-    return bytes(0x5000) + of(pixel(*COLOURS[colour]) for row in rows for colour in row)
+    return bytes(0x5000) + of(pixel(*COLOURS[colour]) for row in rows for colour in row) + of(valley_display_list())
 
 
 # name: the list, and the check's number and place; those of A to H stand in document 01

@@ -186,7 +186,7 @@ def draw_makes_the_picture_of_copies_of_the_readme():
     def block(pixels, across, column, row):
         """Eight by eight pixels, of a picture so many pixels across."""
         return b"".join(pixels[3 * ((8 * row + y) * across + 8 * column):][:24] for y in range(8))
-    texture = b"".join(rgb_of(value) for value in struct.unpack(">768H", read(example("valley.bin"))[0x5000:]))
+    texture = b"".join(rgb_of(value) for value in struct.unpack(">768H", read(example("valley.bin"))[0x5000:0x5600]))
     tiles = {block(texture, 32, column, row) for column in range(4) for row in range(3)}
     blocks = {block(found, 128, column, row) for column in range(16) for row in range(10)}
     same((len(tiles), blocks - tiles), (12, {64 * found[:3]}))  # each block is a tile or the sky
