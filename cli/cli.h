@@ -17,9 +17,8 @@ enum { STATUS_ACCEPTED = 0, STATUS_REFUSED = 1, STATUS_ERROR = 2 };
 #define REPAIR_LIMIT 16384u
 #define FILE_LIMIT (1024u * 1024u)
 
-/* the most memory, and texture memory */
+/* the most memory */
 #define MEMORY_LIMIT (256u * 1024u * 1024u)
-#define TEXTURE_BYTES 4096u
 
 /* -- answer.c: the parts of an answer, and what it means ---------------- */
 
@@ -228,13 +227,14 @@ const struct Format *format_of(const char *name);
 unsigned digit_of(char c);
 bool take_bytes(const char *text, uint64_t *number);
 bool take_address(const char *text, uint64_t *number);
+bool take_offset(const char *text, uint64_t *number);
 bool take_image(const char *text, Image *image);
 
 /* -- options.c: arguments ----------------------------------------------- */
 
 typedef struct {
     const char *command;
-    char **paths; /* the lists */
+    char **paths; /* the lists, or the memory to translate */
     int count;
     Input input;
     const char *output; /* NULL where -o is not given */
@@ -242,19 +242,20 @@ typedef struct {
     const struct Format *format; /* of what check tells */
     Number from, to, around; /* places that dump shows */
     const char *memory_file, *texture; /* files of memory and of texture memory; NULL where they are zeros */
-    uint64_t memory, start; /* the length of zeros, and the address of the first byte */
+    uint64_t memory, start; /* the length of zeros, and the address of the first byte; of translate, where the display list begins */
     Image image;
 } Arguments;
 
 /* The commands of the tool, a bit each. */
-enum { OF_CHECK = 1, OF_REPAIR = 2, OF_DUMP = 4, OF_DRAW = 8, OF_REPORT = 16, OF_ALL = 31 };
+enum { OF_CHECK = 1, OF_REPAIR = 2, OF_DUMP = 4, OF_DRAW = 8, OF_REPORT = 16, OF_LISTS = 31, OF_TRANSLATE = 32, OF_ALL = 63 };
 
 /* A command of the tool. */
 typedef struct {
     unsigned command; /* its bit */
     const char *name;
     int (*run)(const Arguments *arguments);
-    int most; /* lists that it takes; it needs one */
+    int most;          /* files that it takes; it needs one */
+    const char *takes; /* what they are */
     const char *help;
 } Entry;
 
@@ -296,5 +297,6 @@ int run_repair(const Arguments *arguments);
 int run_dump(const Arguments *arguments);
 int run_draw(const Arguments *arguments);
 int run_report(const Arguments *arguments);
+int run_translate(const Arguments *arguments);
 
 #endif

@@ -6,7 +6,7 @@ _lanyardrove()
     local options input="--offset --length --swap --hex -h --help"
     COMPREPLY=()
     if [ "$COMP_CWORD" -eq 1 ]; then
-        mapfile -t COMPREPLY < <(compgen -W "check repair dump draw report help --help --version" -- "$current")
+        mapfile -t COMPREPLY < <(compgen -W "check repair dump draw report translate help --help --version" -- "$current")
         return
     fi
     case ${COMP_WORDS[1]} in
@@ -14,7 +14,8 @@ _lanyardrove()
     repair) options="--check -i --in-place -o --output $input" ;;
     report) options="--memory --start --texture -o --output $input" ;;
     dump) options="--brief --from --to --around $input" ;;
-    help) mapfile -t COMPREPLY < <(compgen -W "check repair dump draw report" -- "$current"); return ;;
+    translate) options="--start -o --output -h --help" ;;
+    help) mapfile -t COMPREPLY < <(compgen -W "check repair dump draw report translate" -- "$current"); return ;;
     draw) options="--memory --start --texture --image -o --output $input" ;;
     *) return ;;
     esac

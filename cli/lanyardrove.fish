@@ -1,6 +1,7 @@
 # fish completion for lanyardrove
 
-set -l commands check repair dump draw report
+set -l lists check repair dump draw report
+set -l commands $lists translate
 
 complete -c lanyardrove -n "not __fish_seen_subcommand_from $commands help" -f
 complete -c lanyardrove -n "not __fish_seen_subcommand_from $commands help" -a "$commands help"
@@ -23,14 +24,14 @@ complete -c lanyardrove -n "__fish_seen_subcommand_from dump" -l to -x
 complete -c lanyardrove -n "__fish_seen_subcommand_from dump" -l around -x
 
 complete -c lanyardrove -n "__fish_seen_subcommand_from draw report" -l memory -r -F -a "64K 1M 4M 8M"
-complete -c lanyardrove -n "__fish_seen_subcommand_from draw report" -l start -x
+complete -c lanyardrove -n "__fish_seen_subcommand_from draw report translate" -l start -x
 complete -c lanyardrove -n "__fish_seen_subcommand_from draw report" -l texture -r -F
 complete -c lanyardrove -n "__fish_seen_subcommand_from draw" -l image -x
 
-complete -c lanyardrove -n "__fish_seen_subcommand_from repair draw report" -s o -l output -r -F
+complete -c lanyardrove -n "__fish_seen_subcommand_from repair draw report translate" -s o -l output -r -F
 
-complete -c lanyardrove -n "__fish_seen_subcommand_from $commands" -l offset -x
-complete -c lanyardrove -n "__fish_seen_subcommand_from $commands" -l length -x
-complete -c lanyardrove -n "__fish_seen_subcommand_from $commands" -l swap -d "little-endian words"
-complete -c lanyardrove -n "__fish_seen_subcommand_from $commands" -l hex -d "hexadecimal text"
+complete -c lanyardrove -n "__fish_seen_subcommand_from $lists" -l offset -x
+complete -c lanyardrove -n "__fish_seen_subcommand_from $lists" -l length -x
+complete -c lanyardrove -n "__fish_seen_subcommand_from $lists" -l swap -d "little-endian words"
+complete -c lanyardrove -n "__fish_seen_subcommand_from $lists" -l hex -d "hexadecimal text"
 complete -c lanyardrove -n "__fish_seen_subcommand_from $commands" -s h -l help

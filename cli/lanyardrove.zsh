@@ -4,7 +4,7 @@
 _lanyardrove()
 {
     local -a commands input options memory
-    commands=(check repair dump draw report)
+    commands=(check repair dump draw report translate)
     input=('--offset=:byte:' '--length=:bytes:' --swap --hex -h --help '*:list:_files')
     memory=('--memory=:memory:{compadd 64K 1M 4M 8M; _files}' '--start=:address:' '--texture=:texture:_files')
     if (( CURRENT == 2 )); then
@@ -17,6 +17,9 @@ _lanyardrove()
     dump) options=(--brief '--from=:place:' '--to=:place:' '--around=:place:') ;;
     draw) options=($memory '--image=:image:' '-o:output:_files' '--output=:output:_files') ;;
     report) options=($memory '-o:output:_files' '--output=:output:_files') ;;
+    translate)
+        options=('--start=:offset:' '-o:output:_files' '--output=:output:_files')
+        input=(-h --help '*:memory:_files') ;;
     help) compadd -- $commands; return ;;
     *) return ;;
     esac

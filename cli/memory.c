@@ -55,7 +55,7 @@ static bool take(const char *path, Memory *memory)
 /* Lends both, to be freed also where that fails. `length` is that of zeros where no file of memory is named. */
 bool lend(const Arguments *arguments, uint64_t length, Lent *lent)
 {
-    *lent = (Lent){ { NULL, (size_t)length, arguments->start }, { NULL, TEXTURE_BYTES, 0 } };
+    *lent = (Lent){ { NULL, (size_t)length, arguments->start }, { NULL, LANYARDROVE_TEXTURE_BYTES, 0 } };
     return take(arguments->memory_file, &lent->memory) && take(arguments->texture, &lent->texture);
 }
 

@@ -24,6 +24,11 @@ static bool set_address(void *member, const char *value)
     return take_address(value, member);
 }
 
+static bool set_offset(void *member, const char *value)
+{
+    return take_offset(value, member);
+}
+
 static bool set_format(void *member, const char *value)
 {
     const struct Format **format = member;
@@ -97,6 +102,8 @@ static const Option options[] = {
       "the picture, with SIZE bits a pixel (8, 16 or 32); if not\n"
       "given, the colour image of the last rectangle, as high as\n"
       "the scissor" },
+    { OF_TRANSLATE, "start", 0, "OFFSET", set_offset, offsetof(Arguments, start), "an offset of 32 bits",
+      "where the display list begins in the memory; 0 if not\ngiven" },
     { OF_REPAIR, "check", 0, FLAG(dry), "write nothing; status 1 where a sync would be inserted" },
     { OF_REPAIR, "in-place", 'i', FLAG(in_place), "write each list over itself, where a sync is inserted" },
     { OF_REPAIR, "output", 'o', OUTPUT, "the file to write; it may be FILE itself" },
@@ -104,10 +111,11 @@ static const Option options[] = {
       "the file to write: .png or .ppm for the picture, .bin for\n"
       "all of memory, or with --image for the picture's bytes" },
     { OF_REPORT, "output", 'o', OUTPUT, "the file to write" },
-    { OF_ALL, "offset", 0, NUMBER("BYTE", input.offset), "where the list begins in the file; 0 if not given" },
-    { OF_ALL, "length", 0, NUMBER("BYTES", input.length), "the list's length; to the end of the file if not given" },
-    { OF_ALL, "swap", 0, FLAG(input.swap), "the file has its words least significant byte first" },
-    { OF_ALL, "hex", 0, FLAG(input.hex), "the file is text, of hexadecimal digits" },
+    { OF_TRANSLATE, "output", 'o', OUTPUT, "the file to write; with - the text goes to standard error" },
+    { OF_LISTS, "offset", 0, NUMBER("BYTE", input.offset), "where the list begins in the file; 0 if not given" },
+    { OF_LISTS, "length", 0, NUMBER("BYTES", input.length), "the list's length; to the end of the file if not given" },
+    { OF_LISTS, "swap", 0, FLAG(input.swap), "the file has its words least significant byte first" },
+    { OF_LISTS, "hex", 0, FLAG(input.hex), "the file is text, of hexadecimal digits" },
     { OF_ALL, "help", 'h', FLAG(help), "print this" }
 };
 
@@ -196,7 +204,7 @@ int run_entry(const Entry *entry, int argc, char **argv)
     arguments.paths = argv + optind;
     arguments.count = argc - optind;
     if (arguments.count == 0 || arguments.count > entry->most) {
-        complain(arguments.count == 0 ? "%s needs a list; - is standard input" : "%s takes one list", entry->name);
+        complain(arguments.count == 0 ? "%s needs a %s; - is standard input" : "%s takes one %s", entry->name, entry->takes);
         return usage_error(entry->name);
     }
     return entry->run(&arguments);

@@ -46,6 +46,13 @@ bool take_address(const char *text, uint64_t *number)
     return rest != NULL && *rest == '\0';
 }
 
+/* An offset of 32 bits. */
+bool take_offset(const char *text, uint64_t *number)
+{
+    const char *rest = take_number(text, UINT32_MAX, number);
+    return rest != NULL && *rest == '\0';
+}
+
 /* ADDRESS,WIDTH,HEIGHT,SIZE */
 bool take_image(const char *text, Image *image)
 {

@@ -1,7 +1,7 @@
 #!/usr/bin/env python3
-"""Document 01's examples A to O as files, from the paper's hexadecimal words, and a picture of fill rectangles, with what the check answers.
+"""Document 01's examples A to O as files, from the paper's hexadecimal words, and pictures of fills and of copies, with what the check answers.
 
-    tools/examples.py           writes examples/*.rdp, and example G as the program's input for its test
+    tools/examples.py           writes examples/*.rdp, the memory that the copies read, and example G as the program's input for its test
     tools/examples.py --check   says which of these files differ, and exits with 1 where one does
     tools/examples.py --run     runs each list, and the longest and one byte more, through the program rdpcheck, compiled without its proofs
 """
@@ -31,6 +31,10 @@ def of(words):
 
 # The picture: 160 by 120 pixels of 16 bits at address 0. Corners are pixels and belong to the rectangle; colours are red, green and blue of 5 bits.
 PICTURE_SETUP = ['2F30000000000000', '3F10009F00000000', '2D000000002801E0']
+
+
+def pixel(red, green, blue):
+    return f'{red << 11 | green << 6 | blue << 1 | 1:04X}'
 
 
 def fill(left, top, right, bottom):
@@ -64,9 +68,71 @@ def sunset():
     sail = ((30, 29, 27), [fill(112, 70 + i, 112 + i // 2, 70 + i) for i in range(22)])
     boat = ((6, 3, 3), [fill(110, 68, 110, 94), fill(100, 93, 126, 94), fill(102, 95, 124, 96), fill(104, 97, 122, 98)])
     words = []
-    for (red, green, blue), rectangles in sky + [sun, far] + sea + [glitter, near, sail, boat]:
-        words += [PIPE_SYNC, '37000000' + 2 * f'{red << 11 | green << 6 | blue << 1 | 1:04X}'] + rectangles
+    for colour, rectangles in sky + [sun, far] + sea + [glitter, near, sail, boat]:
+        words += [PIPE_SYNC, '37000000' + 2 * pixel(*colour)] + rectangles
     return PICTURE_SETUP + words[1:] + [FULL_SYNC]  # nothing is drawn before the first colour
+
+
+# The picture of copies: 128 by 80 pixels of 16 bits at address 0. Behind it, at 0x5000, a texture of 32 by 24 texels: twelve tiles of 8 by 8.
+COLOURS = {'.': (12, 20, 30), 'w': (31, 31, 31), 'l': (24, 27, 31), 'g': (6, 20, 5), 'G': (12, 26, 8), 'd': (3, 13, 4), 'b': (17, 10, 4),
+           'B': (11, 6, 3), 'r': (25, 8, 5), 'R': (17, 5, 4), 'y': (31, 27, 6), 'o': (27, 18, 3), 'u': (4, 12, 26), 'U': (10, 20, 31),
+           's': (30, 22, 16), 'k': (2, 2, 3)}
+TILES = {
+    'G': 'GGGGGGGG gGGgGGgG gggggggg bgbggbgg bbbgbbbb bbbbbbBb bBbbbbbb bbbbbBbb',
+    'E': 'bbbbbbbb bbBbbbbb bbbbbbBb bBbbbbbb bbbbBbbb bbbbbbbb bbBbbbBb bbbbbbbb',
+    'B': 'rrrRrrrr rrrRrrrr RRRRRRRR rrrrrrrR rrrrrrrR RRRRRRRR rrrRrrrr RRRRRRRR',
+    'c': '........ ...yy... ..ywyo.. ..ywyo.. ..ywyo.. ..ywyo.. ...yo... ........',
+    '(': '........ .....www ...wwwww ..wwwwww .wwwwwww wwwwwwww lwwwwwww .lllllll',
+    ')': '........ www..... wwwww... wwwwwww. wwwwwwww wwwwwwww wwwwwwwl lllllll.',
+    '~': 'UuuUUuuU uUUuuUUu uuuuuuuu uuuUuuuu uuuuuuuu uUuuuuUu uuuuuuuu uuuuUuuu',
+    'h': '..rrrr.. .rrrrrr. ..kssk.. ..ssss.. .rrrrrr. s.uuuu.s ..uuuu.. ..k..k..',
+    'o': '..gGGg.. .gGGGGg. gGGgGGGg GGgGGgGG gGGGgGGg dgGgGGgd .dgggdd. ...bB...',
+    '|': '...bB... ...bB... ...bB... ...bB... ..bbB... ...bB... ...bB... ..bbBB..',
+    'f': '........ ........ ...r.... ..ryr... ...r..y. ...g.yoy .g.g..g. ..gg.gg.',
+    '#': '........ ........ .b..b..b bbbbbbbb .b..b..b bbbbbbbb .B..B..B .B..B..B',
+}
+VALLEY = ['................', '.().......().c..', '.....().....c.c.', '..........c.....', '..c...........()',
+          '.....BBcBB..o...', '..B.........|...', 'f.h#..f...##|.f.', 'GGGGGG~~GGGGGGGG', 'EEEEEE~~EEEEEEEE']
+
+
+def copy(tile, column, row):
+    """Copies a tile of the texture onto the square of a column and a row."""
+    left, top, at = 32 * column, 32 * row, list(TILES).index(tile)
+    return [f'24{left + 28:03X}{top + 28:03X}00{left:03X}{top:03X}', f'{at % 4 * 256:04X}{at // 4 * 256:04X}10000400']
+
+
+def valley_setup():
+    sky = ['2F30000000000000', '3F10007F00000000', '2D00000000200140', '37000000' + 2 * pixel(*COLOURS['.']), fill(0, 0, 127, 79)]
+    return sky + [PIPE_SYNC, '2F20000000000000', '3D10001F00005000', '3510100000000000', '340000000007C05C', '2600000000000000']
+
+
+def valley_copies():
+    return [copy(tile, column, row) for row, tiles in enumerate(VALLEY) for column, tile in enumerate(tiles) if tile != '.']
+
+
+def valley():
+    return valley_setup() + [word for pair in valley_copies() for word in pair] + [FULL_SYNC]
+
+
+VALLEY_START = 0x5600  # where its display list begins in memory
+
+
+def valley_display_list():
+    """The same list in the commands of Fast3DEX2 (document 003): the cycle type by 0xE3, and the copies, with their half-words, in a list that is called."""
+    def command(word):
+        return f'{int(word[:2], 16) | 0xC0:02X}{word[2:]}'
+    setup = ['E3000A01' + word[2:8].rjust(8, '0') if word[:2] == '2F' else command(word) for word in valley_setup()]
+    copies = [word for first, second in valley_copies() for word in (command(first), 'E1000000' + second[:8], 'F1000000' + second[8:])]
+    ending = 'DF00000000000000'
+    called = VALLEY_START + 8 * (len(setup) + 3)
+    return setup + [f'DE000000{called:08X}', command(FULL_SYNC), ending] + copies + [ending]
+
+
+def valley_memory():
+    """Zeros where the picture comes, then the texture, row by row, then the display list."""
+    tiles = [tile.split() for tile in TILES.values()]
+    rows = [''.join(tile[row % 8] for tile in tiles[row // 8 * 4:][:4]) for row in range(24)]
+    return bytes(0x5000) + of(pixel(*COLOURS[colour]) for row in rows for colour in row) + of(valley_display_list())
 
 
 # name: the list, and the check's number and place; those of A to H stand in document 01
@@ -86,6 +152,7 @@ LISTS = {
     'm': (of(SETUP + [RECTANGLE, NOTHING, COLOR]), '9 5'),
     'o': (of(SETUP_WIDTH_7 + [COLOR, FIRST_COLUMN]), '0 5'),
     'sunset': (of(sunset()), '0 244'),
+    'valley': (of(valley()), '0 134'),
 }
 LONGEST = {'32,768 bytes': (bytes(32768), '0 4096'), '32,769 bytes': (bytes(32769), '1 4096')}
 
@@ -93,6 +160,7 @@ LONGEST = {'32,768 bytes': (bytes(32768), '0 4096'), '32,769 bytes': (bytes(3276
 def files():
     for name, (data, _) in LISTS.items():
         yield ROOT / 'examples' / (name + '.rdp'), data
+    yield ROOT / 'examples/valley.bin', valley_memory()
     yield ROOT / 'crates/rdpcheck/stdin', LISTS['g'][0]
 
 

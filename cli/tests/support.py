@@ -9,7 +9,8 @@ import zlib
 
 TOOL = os.path.abspath(sys.argv[1])
 TOP = os.path.dirname(os.path.dirname(os.path.dirname(os.path.abspath(__file__))))
-COMMANDS = ("check", "repair", "dump", "draw", "report")
+LIST_COMMANDS = ("check", "repair", "dump", "draw", "report")
+COMMANDS = (*LIST_COMMANDS, "translate")
 TESTS = []
 
 # 01's examples

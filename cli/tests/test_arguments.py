@@ -3,7 +3,7 @@ import os
 import re
 import subprocess
 
-from support import COMMANDS, TOOL, S, R, example, files, run, same, test, words, write
+from support import COMMANDS, LIST_COMMANDS, TOOL, S, R, example, files, run, same, test, words, write
 
 DRAW = ["draw", "a", "--memory", "64"]
 WRONG = {
@@ -23,7 +23,12 @@ WRONG = {
     "dump has --around, or --from and --to": [["dump", "a", "--around=1", "--from=1"], ["dump", "a", "--around=1", "--to=1"]],
     "takes one list": [["dump", "a", "b"], ["draw", "a", "b"], ["report", "a", "b", "-o", "x.html"]],
     "not one of text, gcc, github, json and sarif": [["check", "--format", "xml", "a"], ["check", "--format=", "a"]],
-    "needs a list; - is standard input": [[command] for command in COMMANDS] + [["check", "-q"], ["check", "--"]],
+    "needs a list; - is standard input": [[command] for command in LIST_COMMANDS] + [["check", "-q"], ["check", "--"]],
+    "translate needs a file of memory; - is standard input": [["translate"], ["translate", "-o", "x"]],
+    "translate takes one file of memory": [["translate", "a", "b", "-o", "x"]],
+    "translate needs -o OUT": [["translate", "a"], ["translate", "a", "--start", "8"]],
+    "not an offset of 32 bits": [["translate", "a", "--start", text, "-o", "x"] for text in ("", "x", "-8", "0x100000000", "8K")],
+    "translate has no option --offset": [["translate", "a", "--offset=8"]],
     "draw needs --memory BYTES or --memory FILE": [["draw", "a"], ["draw", "a", "-o", "x.bin"]],
     "draw needs -o OUT": [DRAW],
     "report needs -o OUT": [["report", "a"]],

@@ -1,8 +1,9 @@
 """Copy mode (document 02, #106): what draw and report make of loads and texture rectangles."""
+import os
 import struct
 
-from support import (BLOCK, C, COPIED, COPY, L, LOAD, LOAD_4_BY_2, ONE_CYCLE, PIPE, R, S, TEXELS, files, memory_of_i, png_pixels, read, rgb_of, run,
-                     same, test, words, write)
+from support import (BLOCK, C, COPIED, COPY, L, LOAD, LOAD_4_BY_2, ONE_CYCLE, PIPE, R, S, TEXELS, TOP, example, files, memory_of_i, png_pixels, read, rgb_of,
+                     run, same, test, words, write)
 from test_report import reported
 
 PLAIN = [COPY, *S[1:], *TEXELS, LOAD_4_BY_2, LOAD, *COPIED]
@@ -173,3 +174,20 @@ def report_says_why_a_copy_is_not_drawn():
     assert "The list cannot be drawn: 17 7, word 7: Texture Rectangle is not drawn: only plain copies" in page.text and NEEDS in page.text, page.text
     page = reported(words(*changed(8, 0xFFE0000010000400)), 0)
     assert "The list cannot be drawn: 18 7, word 7: Texture Rectangle reads or writes outside texture memory." in page.text and NEEDS not in page.text
+
+
+@test
+def draw_makes_the_picture_of_copies_of_the_readme():
+    same(run("draw", example("valley.rdp"), "--memory", example("valley.bin"), "-o", "valley.png")[:2], (
+        0, "0 134\naccepted: 134 words\nvalley.png: 128 by 80 pixels of 16 bits at address 0x0\n"))
+    width, height, found = png_pixels(read("valley.png"))
+    same((width, height, found), png_pixels(read(os.path.join(TOP, "docs", "picture-copy.png"))))
+
+    def block(pixels, across, column, row):
+        """Eight by eight pixels, of a picture so many pixels across."""
+        return b"".join(pixels[3 * ((8 * row + y) * across + 8 * column):][:24] for y in range(8))
+    texture = b"".join(rgb_of(value) for value in struct.unpack(">768H", read(example("valley.bin"))[0x5000:0x5600]))
+    tiles = {block(texture, 32, column, row) for column in range(4) for row in range(3)}
+    blocks = {block(found, 128, column, row) for column in range(16) for row in range(10)}
+    same((len(tiles), blocks - tiles), (12, {64 * found[:3]}))  # each block is a tile or the sky
+    same(reported(read(example("valley.rdp")), 0, "valley.rdp", "--memory", example("valley.bin")).picture(), (width, height, found))

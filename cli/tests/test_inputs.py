@@ -5,7 +5,7 @@ import random
 import re
 import subprocess
 
-from support import C, COMMANDS, L, N, PIPE, R, S, TOOL, arriving, example, files, read, run, same, test, words, write
+from support import C, LIST_COMMANDS, L, N, PIPE, R, S, TOOL, arriving, example, files, read, run, same, test, words, write
 
 G = words(*S, R, C)
 REFUSED = "9 4\nword 4: Set Fill Color requires Sync Pipe, for the Fill Rectangle at word 3\n"
@@ -111,6 +111,6 @@ def a_list_that_looks_little_endian_gets_a_hint():
 
 @test
 def every_command_has_these_options():
-    for command in COMMANDS:
+    for command in LIST_COMMANDS:
         for option in ("--offset BYTE", "--length BYTES", "--swap", "--hex"):
             assert f"\n  {option} " in run(command, "--help")[1], (command, option)
