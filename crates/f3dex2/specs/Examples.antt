@@ -1,23 +1,30 @@
--- Worked examples: display lists with the number, the place, the commands read and the words of the walk.
+-- Worked examples: display lists, and what their walks come to.
 use Prim.Native.Nat.{ℕ}
 use mathlib.Core.List.{List, [], _∷_}
-use mathlib.Core.Path.{_≡_}
 use lib.ListN.{length}
+use Rattle.f3dex2.specs.Walk.{Walked}
 use Rattle.f3dex2.specs.Translate.{walked, joined}
 
-pub record Example : Type 0 where
-  pub list : List ℕ
-  pub start : ℕ
+-- the number, the place, the commands read and the words of a walk
+pub record Result : Type 0 where
   pub number : ℕ
   pub place : ℕ
   pub read : ℕ
   pub words : List ℕ
 
-abbrev pub accepted : List ℕ → ℕ → List ℕ → Example
-accepted list read words = record { list = list; start = 0; number = 0; place = 0; read = read; words = words }
+abbrev pub resultOf : Walked → Result
+resultOf r = record { number = r .number; place = r .place; read = length (r .commands); words = r .words }
+
+-- a memory of these words, walked from its start
+pub record Example : Type 0 where
+  pub list : List ℕ
+  pub result : Result
 
 abbrev pub refused : List ℕ → ℕ → ℕ → ℕ → List ℕ → Example
-refused list number place read words = record { list = list; start = 0; number = number; place = place; read = read; words = words }
+refused list number place read words = record { list = list; result = record { number = number; place = place; read = read; words = words } }
+
+abbrev pub accepted : List ℕ → ℕ → List ℕ → Example
+accepted list read words = refused list 0 0 read words
 
 abbrev pub return : ℕ
 return = 0xDF00000000000000
@@ -51,11 +58,11 @@ examples =
     ∷ refused (0xDE01000000000000 ∷ []) 21 0 4096 []
     ∷ []
 
-abbrev pub Holds : Example → Type 0
-Holds e =
-    let r = walked (joined (e .list)) (e .start) in
-    (r .number ≡ e .number) × (r .place ≡ e .place) × (length (r .commands) ≡ e .read) × (r .words ≡ e .words)
+-- what the walks come to, and what they should
+abbrev pub results : List Example → List Result
+results [] = []
+results (e ∷ es) = resultOf (walked (joined (e .list)) 0) ∷ results es
 
-abbrev pub AllHold : List Example → Type 0
-AllHold [] = Unit {0}
-AllHold (e ∷ es) = Holds e × AllHold es
+abbrev pub expected : List Example → List Result
+expected [] = []
+expected (e ∷ es) = e .result ∷ expected es

@@ -56,7 +56,7 @@ cast-offset : tie.Need-cast-offset
 cast-offset c = let b = fitting (c .before .before .before .before) in record { fits = b .place }
 
 pack-requires : tie.Need-pack-requires
-pack-requires c κs = let b = fitting (c .before .before .before .before) in (b .number, b .third)
+pack-requires c κs = let b = fitting (c .before .before .before .before) in (omega (arith, b .number), omega (arith, b .third))
 
 same-length : tie.Need-same-length
 same-length c = search needs
