@@ -135,7 +135,7 @@ module _ (start : ℕ) where
   loaded-none (copying c) m b e = refl
   loaded-none (loading l) m b e = loaded-free start (m .memory) (loadMoves l) (m .texture) b e
 
-  all-unloaded : (acts : List Placed) (m : Memories) (b : ℕ) → someAct (actLoads b) acts ≡ false → 
+  all-unloaded : (acts : List Placed) (m : Memories) (b : ℕ) → someAct (actLoads b) acts ≡ false →
       getD (actedAll start acts m .texture) b 0 ≡ getD (m .texture) b 0
   unfolding actedAll someAct
   all-unloaded [] m b e = refl

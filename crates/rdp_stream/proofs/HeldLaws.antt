@@ -13,7 +13,7 @@ use lib.Seq.{drop-cons, drop-drop, take-all, length-take-le, paste}
 use Rattle.rdp_words.specs.Words.{halfOf, wordOf, wordAt, pasted}
 use Rattle.rdp_words.specs.Kinds.{among}
 use Rattle.rdp_words.specs.Lengths.{wholeWords}
-use Rattle.rdp_words.proofs.Tests.{and-true, true-of, neither, below, by-test, same, same-bool}
+use Rattle.rdp_words.proofs.Tests.{and-true, neither, below, by-test, same, same-bool}
 use Rattle.rdp_words.proofs.WordLaws.{word-whole}
 use Rattle.rdp_words.proofs.OverwriteLaws.{pasted-is}
 use Rattle.rdp_check.specs.Order.{ground, firstOf}
