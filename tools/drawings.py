@@ -20,6 +20,7 @@ BEFORE = 0x55
 SYNC_LOAD, SYNC_PIPE, SYNC_TILE, SYNC_FULL = 0x26, 0x27, 0x28, 0x29
 SYNCS = (SYNC_LOAD, SYNC_PIPE, SYNC_TILE, SYNC_FULL)
 TRIANGLES = range(0x08, 0x10)
+UNASSIGNED = (*range(0x01, 0x08), *range(0x10, 0x24), 0x31)  # 02, #107
 TEXTURE_RECTANGLES = (0x24, 0x25)
 FILL_RECTANGLE = 0x36
 LOADS = (0x30, 0x33, 0x34)
@@ -93,11 +94,13 @@ def cycle_type(seen):
 
 
 def ground_of(seen, word, room):
-    """The first of grounds 3 to 9 at a command with so many words from it to the list's end, or 0."""
+    """The first of grounds 3 to 9 and 19 at a command with so many words from it to the list's end, or 0."""
     if words_of(word) > room:
         return 3
     if last(seen, SYNC_FULL) is not None:
         return 4
+    if number_of(word) in UNASSIGNED:
+        return 19
     if is_draw(word):
         if None in (last(seen, SET_OTHER_MODES), last(seen, SET_COLOR_IMAGE), last(seen, SET_SCISSOR)):
             return 5
@@ -337,7 +340,7 @@ def printed(function, name, data, numbers):
 def stdout():
     shown = [(name, *printed(function, name, data, numbers)) for function, name, data, numbers in cases()]
     assert len({name for name, _, _ in shown}) == len(shown), 'two lists have one name'
-    assert {number for _, (number, _), _ in shown} == {*range(13), 16, 17, 18}, 'a number of drawing is never answered'
+    assert {number for _, (number, _), _ in shown} == {*range(13), 16, 17, 18, 19}, 'a number of drawing is never answered'
     return 'name: number place, and memory after drawing\n' + ''.join(text for _, _, text in shown)
 
 

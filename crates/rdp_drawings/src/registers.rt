@@ -102,18 +102,22 @@ fn other_commands() {
         &[
             0,
             FILL,
-            0x07_FFFFFFFFFFFFFF,
+            0x00_FFFFFFFFFFFFFF,
             IMAGE,
             TEXTURE,
             TILE,
             LOAD,
             LOAD_SYNC,
             SCISSOR,
-            0x23_FFFFFFFFFFFFFF,
+            0x40_FFFFFFFFFFFFFF,
             COLOR,
-            0x31_FFFFFFFFFFFFFF,
+            0xC0_FFFFFFFFFFFFFF,
             RECTANGLE,
         ],
+    );
+    picture(
+        b"unassigned number",
+        &[FILL, IMAGE, SCISSOR, COLOR, RECTANGLE, 0x31_00000000000000],
     );
 }
 
