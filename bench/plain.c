@@ -1,4 +1,5 @@
-/* The plain C version: what one would write without proofs and without SIMD. The rules are document 01's ("01" below). */
+/* The plain C version: what one would write without proofs and without SIMD. The rules are document 01's ("01" below), and of textures those of
+   request #106. */
 #include "plain.h"
 
 #include <endian.h>
@@ -6,17 +7,23 @@
 #include <string.h>
 
 enum {
+    TEXTURE_RECTANGLE = 0x24,
     SYNC_LOAD = 0x26,
     SYNC_PIPE = 0x27,
     SYNC_TILE = 0x28,
     SYNC_FULL = 0x29,
     SET_SCISSOR = 0x2D,
     SET_OTHER_MODES = 0x2F,
+    SET_TILE_SIZE = 0x32,
+    LOAD_TILE = 0x34,
     SET_TILE = 0x35,
     FILL_RECTANGLE = 0x36,
     SET_FILL_COLOR = 0x37,
+    SET_TEXTURE_IMAGE = 0x3D,
     SET_COLOR_IMAGE = 0x3F,
 };
+
+enum { TEXTURE_BYTES = 4096 };
 
 /* The hazards, 01's marks P, T, D and G. */
 enum { PIPE = 1, TILE = 2, DRAW = 4, LOAD = 8 };
@@ -33,7 +40,7 @@ static bool is_triangle(unsigned number)
 
 static bool is_texture_rectangle(unsigned number)
 {
-    return number == 0x24 || number == 0x25;
+    return number == TEXTURE_RECTANGLE || number == 0x25;
 }
 
 static bool is_draw(unsigned number)
@@ -48,7 +55,7 @@ static bool is_textured(unsigned number)
 
 static bool is_load(unsigned number)
 {
-    return number == 0x30 || number == 0x33 || number == 0x34;
+    return number == 0x30 || number == 0x33 || number == LOAD_TILE;
 }
 
 static bool is_attribute(unsigned number)
@@ -106,13 +113,14 @@ static unsigned hazards_after(unsigned number, unsigned hazards)
 
 static uint8_t steps[64][16];
 static uint8_t lengths[64];
-static bool draws[64], unassigned[64];
+static bool draws[64], loads[64], unassigned[64];
 
 __attribute__((constructor)) static void fill_tables(void)
 {
     for (unsigned number = 0; number < 64; number++) {
         lengths[number] = words_of(number);
         draws[number] = is_draw(number);
+        loads[number] = is_load(number);
         unassigned[number] = is_unassigned(number);
         for (unsigned hazards = 0; hazards < 16; hazards++)
             steps[number][hazards] = hazards_after(number, hazards) | need_of(number, hazards) << 4;
@@ -181,9 +189,38 @@ static inline void run(struct registers *set, unsigned number, const uint8_t *co
     }
 }
 
+/* Those of textures, which drawing alone looks at: of each tile its descriptor and its size. */
+struct textures {
+    uint64_t image;
+    uint64_t tiles[8];
+    uint64_t sizes[8];
+};
+
+static inline void run_texture(struct textures *set, unsigned number, const uint8_t *command)
+{
+    unsigned tile = command[4] & 7;
+    switch (number) {
+    case SET_TILE_SIZE:
+    case LOAD_TILE:
+        set->sizes[tile] = word_at(command);
+        break;
+    case SET_TILE:
+        set->tiles[tile] = word_at(command);
+        break;
+    case SET_TEXTURE_IMAGE:
+        set->image = word_at(command);
+        break;
+    }
+}
+
 static bool is_fill_mode(const struct registers *set)
 {
     return bits(set->modes, 53, 52) == 3;
+}
+
+static bool is_copy_mode(const struct registers *set)
+{
+    return bits(set->modes, 53, 52) == 2;
 }
 
 static unsigned image_size(const struct registers *set)
@@ -201,7 +238,7 @@ static unsigned draw_refusal(const struct registers *set)
     return 0;
 }
 
-/* The bytes of a fill's kept pixels: a run for each row. */
+/* The bytes of kept pixels or loaded texels: a run for each row. */
 struct area {
     uint64_t first; /* address */
     uint64_t row_bytes;
@@ -213,6 +250,7 @@ struct memory {
     uint8_t *bytes;
     uint64_t length;
     uint64_t start; /* address */
+    uint8_t *texture;
 };
 
 /* The first kept column or row: not before the rectangle's, nor before the scissor's edge. */
@@ -231,15 +269,29 @@ static uint64_t end_kept(uint64_t far, uint64_t edge)
     return end < clip ? end : clip;
 }
 
+static bool is_field(const struct registers *set)
+{
+    return bits(set->scissor, 25, 25);
+}
+
+static uint64_t left_of(uint64_t rectangle, const struct registers *set)
+{
+    return first_kept(bits(rectangle, 23, 12), bits(set->scissor, 55, 44));
+}
+
+static uint64_t top_of(uint64_t rectangle, const struct registers *set)
+{
+    uint64_t top = first_kept(bits(rectangle, 11, 0), bits(set->scissor, 43, 32));
+    return is_field(set) && top % 2 != bits(set->scissor, 24, 24) ? top + 1 : top;
+}
+
 static struct area area_of(uint64_t rectangle, const struct registers *set)
 {
-    uint64_t left = first_kept(bits(rectangle, 23, 12), bits(set->scissor, 55, 44));
+    uint64_t left = left_of(rectangle, set);
     uint64_t right = end_kept(bits(rectangle, 55, 44), bits(set->scissor, 23, 12));
-    uint64_t top = first_kept(bits(rectangle, 11, 0), bits(set->scissor, 43, 32));
+    uint64_t top = top_of(rectangle, set);
     uint64_t bottom = end_kept(bits(rectangle, 43, 32), bits(set->scissor, 11, 0));
-    bool field = bits(set->scissor, 25, 25);
-    if (field && top % 2 != bits(set->scissor, 24, 24))
-        top++;
+    bool field = is_field(set);
     if (left >= right || top >= bottom)
         return (struct area){0};
     uint64_t width = bits(set->image, 41, 32) + 1;
@@ -262,14 +314,112 @@ static bool is_inside(struct area area, const struct memory *memory)
     return area.first - memory->start + extent <= memory->length;
 }
 
-/* Refusals 10, 11 and 12 of a draw, or 0. */
-static unsigned fill_refusal(const uint8_t *command, const struct registers *set, const struct memory *memory)
+/* Rows of texels in memory and in texture memory. */
+struct texels {
+    struct area area;
+    int64_t row; /* the first, and how many to the next */
+    int64_t row_step;
+    int64_t column;
+    uint64_t tile;
+};
+
+/* The first byte of a row in texture memory, before it is turned. */
+static int64_t texture_byte(const struct texels *texels, int64_t row)
 {
-    if (number_at(command) != FILL_RECTANGLE || !is_fill_mode(set))
+    return (int64_t)(8 * bits(texels->tile, 40, 32)) + (int64_t)(8 * bits(texels->tile, 49, 41)) * row + 2 * texels->column;
+}
+
+/* Turning leaves a byte in its eight, so that it does not count here. */
+static bool is_in_texture(const struct texels *texels)
+{
+    if (texels->area.rows == 0)
+        return true;
+    int64_t last_row = texels->row + texels->row_step * (int64_t)(texels->area.rows - 1);
+    return texture_byte(texels, texels->row) >= 0 && texture_byte(texels, last_row) + (int64_t)texels->area.row_bytes <= TEXTURE_BYTES;
+}
+
+/* Refusals 12 and 18, or 0. */
+static unsigned texels_refusal(const struct texels *texels, const struct memory *memory)
+{
+    if (!is_inside(texels->area, memory))
+        return 12;
+    return is_in_texture(texels) ? 0 : 18;
+}
+
+static bool is_16_bit_rgba(uint64_t word)
+{
+    return word != 0 && bits(word, 55, 51) == 2;
+}
+
+static struct texels loaded_texels(uint64_t load, const struct textures *textures)
+{
+    uint64_t left = bits(load, 55, 46), top = bits(load, 43, 34), right = bits(load, 23, 14), bottom = bits(load, 11, 2);
+    uint64_t width = bits(textures->image, 41, 32) + 1;
+    struct texels texels = {.row_step = 1, .tile = textures->tiles[bits(load, 26, 24)]};
+    if (left <= right && top <= bottom)
+        texels.area = (struct area){
+            .first = bits(textures->image, 23, 0) + 2 * (top * width + left),
+            .row_bytes = 2 * (right - left + 1),
+            .stride = 2 * width,
+            .rows = bottom - top + 1,
+        };
+    return texels;
+}
+
+/* s or t in whole texels. */
+static int64_t whole_texels(uint64_t coordinate)
+{
+    return (int16_t)coordinate / 32;
+}
+
+static struct texels copied_texels(const uint8_t *command, const struct registers *set, const struct textures *textures)
+{
+    uint64_t rectangle = word_at(command), texel = word_at(command + 8);
+    unsigned tile = bits(rectangle, 26, 24);
+    uint64_t size = textures->sizes[tile];
+    return (struct texels){
+        .area = area_of(rectangle, set),
+        .row = whole_texels(bits(texel, 47, 32)) + (int64_t)(top_of(rectangle, set) - bits(rectangle, 11, 2)) - (int64_t)bits(size, 43, 34),
+        .row_step = 1 + is_field(set),
+        .column = whole_texels(bits(texel, 63, 48)) + (int64_t)(left_of(rectangle, set) - bits(rectangle, 23, 14)) - (int64_t)bits(size, 55, 46),
+        .tile = textures->tiles[tile],
+    };
+}
+
+/* What a rectangle in COPY mode needs: 16 bits, whole texels, steps of one texel, and all else off. */
+static bool is_copyable(const uint8_t *command, const struct registers *set, const struct textures *textures)
+{
+    uint64_t texel = word_at(command + 8);
+    unsigned number = command[4] & 7;
+    uint64_t tile = textures->tiles[number], size = textures->sizes[number];
+    return image_size(set) == 2 && is_16_bit_rgba(tile) && bits(tile, 18, 10) == 0 && bits(tile, 8, 0) == 0 && bits(texel, 31, 0) == 0x10000400 &&
+           bits(texel, 52, 48) == 0 && bits(texel, 36, 32) == 0 && bits(size, 45, 44) == 0 && bits(size, 33, 32) == 0 &&
+           !bits(set->modes, 51, 51) && !bits(set->modes, 47, 47) && !bits(set->modes, 0, 0);
+}
+
+/* Refusals 17, 12 and 18 of a load, or 0. */
+static unsigned load_refusal(const uint8_t *command, const struct textures *textures, const struct memory *memory)
+{
+    if (number_at(command) != LOAD_TILE || !is_16_bit_rgba(textures->image) || !is_16_bit_rgba(textures->tiles[command[4] & 7]))
+        return 17;
+    struct texels texels = loaded_texels(word_at(command), textures);
+    return texels_refusal(&texels, memory);
+}
+
+/* Refusals 10, 11, 17, 12 and 18 of a draw, or 0. */
+static unsigned paint_refusal(const uint8_t *command, const struct registers *set, const struct textures *textures, const struct memory *memory)
+{
+    bool fills = number_at(command) == FILL_RECTANGLE && is_fill_mode(set);
+    if (!fills && !(number_at(command) == TEXTURE_RECTANGLE && is_copy_mode(set)))
         return 10;
     if (bits(set->image, 25, 0) % 64 != 0)
         return 11;
-    return is_inside(area_of(word_at(command), set), memory) ? 0 : 12;
+    if (fills)
+        return is_inside(area_of(word_at(command), set), memory) ? 0 : 12;
+    if (!is_copyable(command, set, textures))
+        return 17;
+    struct texels texels = copied_texels(command, set, textures);
+    return texels_refusal(&texels, memory);
 }
 
 /* The check. */
@@ -284,11 +434,12 @@ static uint64_t length_refusal(size_t length, size_t most_words)
     return 0;
 }
 
-/* The first refusal of a list's commands. Where there is memory to draw into, refusals 10 to 12 come after all others. Inlined, so that each caller has
-   a loop with its own constants. */
+/* The first refusal of a list's commands. Where there is memory to draw into, the refusals of drawing come after all others. Inlined, so that each caller
+   has a loop with its own constants. */
 static inline __attribute__((always_inline)) uint64_t judge(const uint8_t *list, size_t words, bool strict, const struct memory *memory)
 {
     struct registers set = {0};
+    struct textures textures = {0};
     uint64_t undrawable = 0;
     unsigned hazards = 0;
     bool ended = false;
@@ -307,11 +458,17 @@ static inline __attribute__((always_inline)) uint64_t judge(const uint8_t *list,
             unsigned refusal = draw_refusal(&set);
             if (refusal != 0)
                 return answer(refusal, 0, at);
-            if (memory != NULL && undrawable == 0 && (refusal = fill_refusal(command, &set, memory)) != 0)
+            if (memory != NULL && undrawable == 0 && (refusal = paint_refusal(command, &set, &textures, memory)) != 0)
                 undrawable = answer(refusal, 0, at);
         }
         if (strict && step >> 4 != NO_NEED)
             return answer(6 + (step >> 4), 0, at);
+        if (memory != NULL) {
+            unsigned refusal;
+            if (loads[number] && undrawable == 0 && (refusal = load_refusal(command, &textures, memory)) != 0)
+                undrawable = answer(refusal, 0, at);
+            run_texture(&textures, number, command);
+        }
         run(&set, number, command);
         ended = number == SYNC_FULL;
         hazards = step & 15;
@@ -485,28 +642,84 @@ static void paint(struct area area, uint32_t color, const struct memory *memory)
     }
 }
 
-static void paint_fills(const uint8_t *list, size_t words, const struct memory *memory)
+/* Texels between memory and an odd row of texture memory, where a byte's bit 2 is turned over: words with their halves changed in the middle, single
+   texels at the ends. */
+static void move_turned(uint8_t *linear, uint8_t *texture, int64_t byte, uint64_t bytes, bool loading)
+{
+    while (bytes > 0) {
+        if (byte % 8 == 0 && bytes >= 8) {
+            uint64_t word;
+            memcpy(&word, loading ? linear : texture + byte, 8);
+            word = word << 32 | word >> 32;
+            memcpy(loading ? texture + byte : linear, &word, 8);
+            byte += 8, linear += 8, bytes -= 8;
+        } else {
+            memcpy(loading ? texture + (byte ^ 4) : linear, loading ? linear : texture + (byte ^ 4), 2);
+            byte += 2, linear += 2, bytes -= 2;
+        }
+    }
+}
+
+/* Row by row, so that a later one stays. Inlined into a loop for each way. */
+static inline __attribute__((always_inline)) void move_texels(const struct texels *texels, const struct memory *memory, bool loading)
+{
+    for (uint64_t k = 0; k < texels->area.rows; k++) {
+        uint8_t *linear = memory->bytes + (texels->area.first + k * texels->area.stride - memory->start);
+        int64_t row = texels->row + texels->row_step * (int64_t)k;
+        int64_t byte = texture_byte(texels, row);
+        if (row % 2 != 0)
+            move_turned(linear, memory->texture, byte, texels->area.row_bytes, loading);
+        else
+            memcpy(loading ? memory->texture + byte : linear, loading ? linear : memory->texture + byte, texels->area.row_bytes);
+    }
+}
+
+static void load_texels(uint64_t load, const struct textures *textures, const struct memory *memory)
+{
+    struct texels texels = loaded_texels(load, textures);
+    move_texels(&texels, memory, true);
+}
+
+static void copy_texels(const uint8_t *command, const struct registers *set, const struct textures *textures, const struct memory *memory)
+{
+    struct texels texels = copied_texels(command, set, textures);
+    move_texels(&texels, memory, false);
+}
+
+/* The draws and loads of a list that is not refused. */
+static void paint_list(const uint8_t *list, size_t words, const struct memory *memory)
 {
     struct registers set = {0};
+    struct textures textures = {0};
     for (const uint8_t *end = list + 8 * words; list < end;) {
         unsigned number = number_at(list);
         if (number == FILL_RECTANGLE)
             paint(area_of(word_at(list), &set), set.color, memory);
+        else if (number == TEXTURE_RECTANGLE)
+            copy_texels(list, &set, &textures, memory);
+        else if (number == LOAD_TILE)
+            load_texels(word_at(list), &textures, memory);
         run(&set, number, list);
+        run_texture(&textures, number, list);
         list += 8 * words_in(number);
     }
 }
 
-uint64_t plain_draw(const uint8_t *list, size_t list_length, uint8_t *memory, size_t memory_length, uint64_t start)
+uint64_t plain_draw(const uint8_t *list, size_t list_length, uint8_t *memory, size_t memory_length, uint64_t start, uint8_t *texture,
+                    size_t texture_length)
 {
     uint64_t refusal = length_refusal(list_length, 4096);
     if (refusal != 0)
         return refusal;
     size_t words = list_length / 8;
-    struct memory target = {memory, memory_length, start};
+    if (texture_length != TEXTURE_BYTES) {
+        uint64_t judged = judge(list, words, true, NULL);
+        return is_refusal(judged) ? judged : answer(16, 0, 0);
+    }
+    struct memory target = {memory, memory_length, start, texture};
     uint64_t judged = judge(list, words, true, &target);
     if (!is_refusal(judged))
-        paint_fills(list, words, &target);
+        paint_list(list, words, &target);
     return judged;
 }
 
@@ -899,7 +1112,7 @@ static uint8_t slots[64], waits[64];
 
 static bool sets_size(unsigned number)
 {
-    return is_load(number) || number == 0x32;
+    return is_load(number) || number == SET_TILE_SIZE;
 }
 
 __attribute__((constructor)) static void fill_slots(void)

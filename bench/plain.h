@@ -9,7 +9,8 @@
    those that a stream has waited, bits 31:0 the place. */
 uint64_t plain_check(const uint8_t *list, size_t list_length);
 uint64_t plain_repair(const uint8_t *list, size_t list_length, uint8_t *work, size_t work_length, uint8_t *out, size_t out_length);
-uint64_t plain_draw(const uint8_t *list, size_t list_length, uint8_t *memory, size_t memory_length, uint64_t start);
+uint64_t plain_draw(const uint8_t *list, size_t list_length, uint8_t *memory, size_t memory_length, uint64_t start, uint8_t *texture,
+                    size_t texture_length);
 
 /* A list in portions: the caller's record has 456 bytes, all zero before the first portion. */
 struct plain_stream;

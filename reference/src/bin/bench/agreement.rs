@@ -3,7 +3,7 @@
 
 use std::ops::Range;
 
-use crate::rows::{Buffers, Job, Row};
+use crate::rows::{Buffers, Job, Moved, Row};
 use crate::versions::{Version, VERSIONS};
 
 /// What differs, if anything does.
@@ -23,10 +23,17 @@ pub fn test(row: &Row) -> Result<(), String> {
     if answer >> 56 != 0 {
         return Err(format!("{}: refused with {answer:#018x}", row.name));
     }
-    if let Job::Draw(runs) = &row.job {
-        return test_runs(row, runs, buffers.memory());
+    let (memory, texture) = buffers.drawn();
+    match &row.job {
+        Job::Draw(runs) => test_runs(row, runs, memory),
+        Job::Copy(moved) => test_runs(row, &all_of(moved, |m| &m.memory), memory),
+        Job::Load(moved) => test_runs(row, &all_of(moved, |m| &m.texture), texture),
+        _ => Ok(()),
     }
-    Ok(())
+}
+
+fn all_of(moved: &[Moved], which: fn(&Moved) -> &Range<usize>) -> Vec<Range<usize>> {
+    moved.iter().map(|moved| which(moved).clone()).collect()
 }
 
 /// A version's answer and all that it was lent, afterwards.
@@ -36,16 +43,16 @@ fn outcome(row: &Row, version: &Version) -> (u64, Buffers) {
     (answer, buffers)
 }
 
-/// Memory was zero and no colour has a zero byte: the runs for memset must be the
-/// bytes painted.
-fn test_runs(row: &Row, runs: &[Range<usize>], memory: &[u8]) -> Result<(), String> {
-    let mut painted = vec![false; memory.len()];
+/// What is written was zero, and no colour or texel has a zero byte: the runs for
+/// memset or memcpy must be the bytes written.
+fn test_runs(row: &Row, runs: &[Range<usize>], bytes: &[u8]) -> Result<(), String> {
+    let mut written = vec![false; bytes.len()];
     for run in runs {
-        painted[run.clone()].fill(true);
+        written[run.clone()].fill(true);
     }
-    if memory.iter().map(|byte| *byte != 0).eq(painted) {
+    if bytes.iter().map(|byte| *byte != 0).eq(written) {
         Ok(())
     } else {
-        Err(format!("{}: other bytes are painted than meant", row.name))
+        Err(format!("{}: other bytes are written than meant", row.name))
     }
 }

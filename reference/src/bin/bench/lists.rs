@@ -31,6 +31,7 @@ pub const HEIGHT: u64 = 240;
 
 /// Cycle types.
 const ONE_CYCLE: u64 = 0;
+const COPY: u64 = 2;
 const FILL: u64 = 3;
 
 /// A rectangle in pixels.
@@ -80,9 +81,26 @@ fn fill_color(rng: &mut Rng) -> u64 {
 }
 
 fn fill_rectangle(r: Rectangle) -> u64 {
+    word(FILL_RECTANGLE, corners(r))
+}
+
+/// The corners of a fill or texture rectangle.
+fn corners(r: Rectangle) -> u64 {
     let (right, bottom) = (r.x + r.width - 1, r.y + r.height - 1);
-    let corners = (4 * right) << 44 | (4 * bottom) << 32 | (4 * r.x) << 12 | (4 * r.y);
-    word(FILL_RECTANGLE, corners)
+    (4 * right) << 44 | (4 * bottom) << 32 | (4 * r.x) << 12 | (4 * r.y)
+}
+
+/// A texture rectangle of tile 0 from its first texel on, by whole texels.
+fn copy_rectangle(r: Rectangle) -> [u64; 2] {
+    [word(TEXTURE_RECTANGLE, corners(r)), 0x1000 << 16 | 0x0400]
+}
+
+/// Format and size of a 16-bit RGBA texture.
+const RGBA_16: u64 = 2 << 51;
+
+/// Tile 0 from the start of texture memory on, for rows of so many texels.
+fn tile(width: u64) -> u64 {
+    word(SET_TILE, RGBA_16 | (width * 2 / 8) << 41)
 }
 
 /// What a draw asks for.
@@ -268,4 +286,33 @@ pub fn squares(count: usize) -> Vec<Rectangle> {
         height: 8,
     };
     (0..count).map(square).collect()
+}
+
+/// A texture that is copied to all of the picture where it fits.
+pub fn copies(width: u64, height: u64) -> Vec<u8> {
+    let mut list = setup(COPY, Pixels::Bits16);
+    list.push(tile(width));
+    list.extend(tiling(width, height).into_iter().flat_map(copy_rectangle));
+    bytes_of(&list)
+}
+
+/// Rectangles side by side, in the whole picture.
+pub fn tiling(width: u64, height: u64) -> Vec<Rectangle> {
+    let places = |size: u64, end: u64| (0..end / size).map(move |k| k * size);
+    let row = |y| {
+        places(width, WIDTH).map(move |x| Rectangle {
+            x,
+            y,
+            width,
+            height,
+        })
+    };
+    places(height, HEIGHT).flat_map(row).collect()
+}
+
+/// One load of a texture that lies at the picture's start.
+pub fn load(width: u64, height: u64) -> Vec<u8> {
+    let image = word(SET_TEXTURE_IMAGE, RGBA_16 | (width - 1) << 32);
+    let lower_right = (4 * (width - 1)) << 12 | (4 * (height - 1));
+    bytes_of(&[image, tile(width), word(LOAD_TILE, lower_right)])
 }

@@ -11,7 +11,7 @@ mod versions;
 use std::ops::Range;
 use std::process::ExitCode;
 
-use rows::{Buffers, Job, Row};
+use rows::{Buffers, Job, Moved, Row};
 use timing::{Measured, Turn};
 use versions::VERSIONS;
 
@@ -31,14 +31,17 @@ fn main() -> ExitCode {
     ExitCode::SUCCESS
 }
 
-/// The versions in their order, and memset where the row draws.
+/// The versions in their order, and where the row draws memset or memcpy of the bytes.
 fn measure(row: &Row) -> Vec<Measured> {
     let mut turns: Vec<Turn> = Vec::new();
     for version in &VERSIONS {
         turns.push(Box::new(move |buffers| row.call(version, buffers)));
     }
-    if let Job::Draw(runs) = &row.job {
-        turns.push(Box::new(move |buffers| set_runs(buffers, runs)));
+    match &row.job {
+        Job::Draw(runs) => turns.push(Box::new(move |buffers| set_runs(buffers, runs))),
+        Job::Copy(moved) => turns.push(Box::new(move |buffers| copy_runs(buffers, moved))),
+        Job::Load(moved) => turns.push(Box::new(move |buffers| load_runs(buffers, moved))),
+        _ => (),
     }
     timing::measure(&turns, &mut Buffers::new(row))
 }
@@ -48,6 +51,24 @@ fn set_runs(buffers: &mut Buffers, runs: &[Range<usize>]) -> u64 {
     let memory = buffers.memory();
     for run in runs {
         memory[run.clone()].fill(0x5A);
+    }
+    0
+}
+
+/// The runs copied from texture memory, which `copy_from_slice` does by memcpy.
+fn copy_runs(buffers: &mut Buffers, all: &[Moved]) -> u64 {
+    let (memory, texture) = buffers.drawn();
+    for moved in all {
+        memory[moved.memory.clone()].copy_from_slice(&texture[moved.texture.clone()]);
+    }
+    0
+}
+
+/// The runs copied to texture memory.
+fn load_runs(buffers: &mut Buffers, all: &[Moved]) -> u64 {
+    let (memory, texture) = buffers.drawn();
+    for moved in all {
+        texture[moved.texture.clone()].copy_from_slice(&memory[moved.memory.clone()]);
     }
     0
 }

@@ -28,16 +28,13 @@ fn processor() -> String {
 pub fn print_columns() {
     print_cells(
         "nanoseconds a call, and the library's speed",
-        &[
-            "library", "Rust", "C", "memset", "/ Rust", "/ C", "/ memset",
-        ]
-        .map(str::to_string),
+        &["library", "Rust", "C", "mem*", "/ Rust", "/ C", "/ mem*"].map(str::to_string),
     );
     println!("|---|--:|--:|--:|--:|--:|--:|--:|");
 }
 
-/// What was measured of the library, Rust and C, and of memset where the row
-/// draws.
+/// What was measured of the library, Rust and C, and where the row draws of memset
+/// (fills) or memcpy (textures).
 pub fn print_row(name: &str, measured: &[Measured]) {
     let nanoseconds = |index: usize| cell(measured.get(index).map(|m| m.nanoseconds), 0);
     let ratio = |index: usize| cell(measured.get(index).map(|m| m.ratio), 2);

@@ -16,6 +16,17 @@ pub enum Job {
     Repair,
     /// Drawing, with the runs of bytes that the list paints.
     Draw(Vec<Range<usize>>),
+    /// Drawing that copies textures, with the runs of memory and, for each, those of
+    /// texture memory.
+    Copy(Vec<Moved>),
+    /// Drawing that loads a texture, likewise.
+    Load(Vec<Moved>),
+}
+
+/// Bytes of memory and of texture memory, between which they are moved.
+pub struct Moved {
+    pub memory: Range<usize>,
+    pub texture: Range<usize>,
 }
 
 pub struct Row {
@@ -33,7 +44,7 @@ impl Row {
             Job::Registers => (version.registers)(&self.list),
             Job::Stream(portion) => stream(side, &self.list, portion),
             Job::Repair => side.repair(&self.list, &mut buffers.work, &mut buffers.out),
-            Job::Draw(_) => {
+            Job::Draw(_) | Job::Copy(_) | Job::Load(_) => {
                 let (memory, texture) = buffers.drawn();
                 side.draw(&self.list, memory, 0, texture)
             }
@@ -68,15 +79,23 @@ struct Line([u8; 64]);
 const MEMORY: usize = (WIDTH * HEIGHT * 4) as usize;
 
 impl Buffers {
-    /// Memory is zero. There are sixteen bytes of work for each word of the list,
-    /// and room for twice its words.
+    /// Memory and texture memory are zero, but what textures are moved from has no
+    /// zero byte. There are sixteen bytes of work for each word of the list, and room
+    /// for twice its words.
     pub fn new(row: &Row) -> Buffers {
-        Buffers {
+        let mut buffers = Buffers {
             work: vec![0xA5; 2 * row.list.len()],
             out: vec![0xA5; 2 * row.list.len()],
             memory: vec![Line([0; 64]); MEMORY / 64],
             texture: vec![0; TEXTURE_BYTES],
+        };
+        let (memory, texture) = buffers.drawn();
+        match row.job {
+            Job::Copy(_) => fill_any(texture),
+            Job::Load(_) => fill_any(memory),
+            _ => (),
         }
+        buffers
     }
 
     pub fn memory(&mut self) -> &mut [u8] {
@@ -84,11 +103,18 @@ impl Buffers {
     }
 
     /// What drawing writes: memory, and texture memory.
-    fn drawn(&mut self) -> (&mut [u8], &mut [u8]) {
+    pub fn drawn(&mut self) -> (&mut [u8], &mut [u8]) {
         let lines = self.memory.as_mut_ptr();
         // A line is 64 bytes and nothing else.
         let memory = unsafe { std::slice::from_raw_parts_mut(lines.cast(), MEMORY) };
         (memory, &mut self.texture)
+    }
+}
+
+/// Bytes of which none is zero.
+fn fill_any(bytes: &mut [u8]) {
+    for (index, byte) in bytes.iter_mut().enumerate() {
+        *byte = (index % 251 + 1) as u8;
     }
 }
 
@@ -105,6 +131,9 @@ pub fn rows() -> Vec<Row> {
     rows.push(repair(lists::needy(2_048)));
     rows.extend(large_draws());
     rows.extend(small_draws());
+    rows.push(copies(32, 32));
+    rows.push(copies(64, 32));
+    rows.push(load(64, 32));
     rows
 }
 
@@ -211,4 +240,42 @@ fn runs(pixels: Pixels, r: Rectangle) -> Vec<Range<usize>> {
     (r.y..r.y + r.height)
         .map(|y| run(r.x, y, r.width))
         .collect()
+}
+
+/// A texture, copied side by side.
+fn copies(width: u64, height: u64) -> Row {
+    let places = lists::tiling(width, height);
+    let rows_of = |r: &Rectangle| -> Vec<Moved> {
+        let memory = runs(Pixels::Bits16, *r);
+        memory
+            .into_iter()
+            .zip(texture_rows(width))
+            .map(moved)
+            .collect()
+    };
+    Row {
+        name: format!("draw, {} copies of {width}x{height}", places.len()),
+        list: lists::copies(width, height),
+        job: Job::Copy(places.iter().flat_map(rows_of).collect()),
+    }
+}
+
+/// A texture that lies in one piece, loaded.
+fn load(width: u64, height: u64) -> Row {
+    let rows = texture_rows(width).take(height as usize);
+    Row {
+        name: format!("draw, one Load Tile of {width}x{height}"),
+        list: lists::load(width, height),
+        job: Job::Load(rows.map(|row| moved((row.clone(), row))).collect()),
+    }
+}
+
+fn moved((memory, texture): (Range<usize>, Range<usize>)) -> Moved {
+    Moved { memory, texture }
+}
+
+/// The rows of a texture of 16 bits from the start of texture memory on.
+fn texture_rows(width: u64) -> impl Iterator<Item = Range<usize>> {
+    let bytes = 2 * width as usize;
+    (0..).map(move |row| row * bytes..(row + 1) * bytes)
 }
