@@ -242,7 +242,8 @@ typedef struct {
     const struct Format *format; /* of what check tells */
     Number from, to, around; /* places that dump shows */
     const char *memory_file, *texture; /* files of memory and of texture memory; NULL where they are zeros */
-    uint64_t memory, start; /* the length of zeros, and the address of the first byte; of translate, where the display list begins */
+    uint64_t memory, start; /* the length of zeros, and the address of the first byte; of translate, the offset of the
+                               display list */
     Image image;
 } Arguments;
 

@@ -13,7 +13,8 @@ static const char *translation_text(unsigned number)
     case LANYARDROVE_TOO_MANY_COMMANDS: return "the 4,097th command: the display list may go in circles";
     case LANYARDROVE_NOT_TRANSLATABLE: return "no command that becomes one of the RDP, or a half-word (E1, F1) is missing or out of place";
     case LANYARDROVE_INVALID_SETTING:
-        return "a ninth call deep, an address whose first byte is not 00, a parameter of DE other than 00 and 01, or a shift and count outside 32 bits";
+        return "a ninth call deep, an address whose first byte is not 00, a parameter of DE other than 00 and 01, or a shift and count outside 32 "
+               "bits";
     default: return "refused for a reason that this tool does not know";
     }
 }

@@ -2,8 +2,8 @@
 import os
 import struct
 
-from support import (BLOCK, C, COPIED, COPY, L, LOAD, LOAD_4_BY_2, ONE_CYCLE, PIPE, R, S, TEXELS, TOP, example, files, memory_of_i, png_pixels, read, rgb_of,
-                     run, same, test, words, write)
+from support import (BLOCK, C, COPIED, COPY, L, LOAD, LOAD_4_BY_2, ONE_CYCLE, PIPE, R, S, TEXELS, TOP, example, files, memory_of_i, png_pixels, read,
+                     rgb_of, run, same, test, words, write)
 from test_report import reported
 
 PLAIN = [COPY, *S[1:], *TEXELS, LOAD_4_BY_2, LOAD, *COPIED]
@@ -43,10 +43,11 @@ def draw_copies_what_it_has_filled():
 @test
 def draw_says_what_the_refusals_of_copies_mean():
     plain = "is not drawn: only plain copies of 16-bit RGBA texels are"
+    neither = "is not drawn: only Fill Rectangle in FILL mode and Texture Rectangle in COPY mode are"
     for given, answer, meaning in (
-            ([ONE_CYCLE, *PLAIN[1:]], "10 7", "Texture Rectangle is not drawn: only Fill Rectangle in FILL mode and Texture Rectangle in COPY mode are"),
-            (changed(7, 0x2501000800004004), "10 7", "Texture Rectangle Flip is not drawn: only Fill Rectangle in FILL mode and Texture Rectangle in COPY mode are"),
-            ([COPY, *S[1:], R], "10 3", "Fill Rectangle is not drawn: only Fill Rectangle in FILL mode and Texture Rectangle in COPY mode are"),
+            ([ONE_CYCLE, *PLAIN[1:]], "10 7", f"Texture Rectangle {neither}"),
+            (changed(7, 0x2501000800004004), "10 7", f"Texture Rectangle Flip {neither}"),
+            ([COPY, *S[1:], R], "10 3", f"Fill Rectangle {neither}"),
             (changed(1, S[1] | 1), "11 7", "Texture Rectangle draws on a colour image whose address is no multiple of 64"),
             ([BLOCK], "17 0", f"Load Block {plain}"), ([0x30 << 56], "17 0", f"Load TLUT {plain}"), ([L], "17 0", f"Load Tile {plain}"),
             (changed(8, 0x10000800), "17 7", f"Texture Rectangle {plain}"), (changed(1, S[1] | 3 << 51), "17 7", f"Texture Rectangle {plain}"),
@@ -106,8 +107,8 @@ def draw_begins_with_a_file_of_memory():
 def a_file_of_memory_that_cannot_be_read_is_told():
     with open("large.bin", "wb") as large:
         large.truncate((256 << 20) + 1)
-    for name, reason in (("nowhere", "No such file or directory"), (".", "Is a directory"), ("-1", "No such file or directory"), ("K", "No such file or directory"),
-                         ("./large.bin", "over 256M")):
+    missing = "No such file or directory"
+    for name, reason in (("nowhere", missing), (".", "Is a directory"), ("-1", missing), ("K", missing), ("./large.bin", "over 256M")):
         for option in ("--memory", "--texture"):
             done = run("draw", "-", "--memory=80", f"{option}={name}", "-o", "out.bin", stdin=words(*PLAIN))
             same(done, (2, "", f"lanyardrove: {name}: {reason}\n"), name)
@@ -130,7 +131,8 @@ def draw_begins_with_texture_memory_and_keeps_it():
 def texture_memory_stays_where_nothing_is_drawn_or_written():
     write("texture.bin", GIVEN)
     command = ["draw", "-", "--memory", "80", "--texture", "texture.bin", "-o"]
-    for given, output, status in (([*PLAIN, C], "out.bin", 1), (changed(8, 0), "out.bin", 1), (PLAIN, "missing/out.bin", 2), (PLAIN[:6], "out.png", 2)):
+    for given, output, status in (([*PLAIN, C], "out.bin", 1), (changed(8, 0), "out.bin", 1), (PLAIN, "missing/out.bin", 2),
+                                  (PLAIN[:6], "out.png", 2)):
         same(run(*command, output, stdin=words(*given))[0], status, output)
     same((files(), read("texture.bin")), (["texture.bin"], GIVEN))
     for length in (0, 4095, 4097):
