@@ -56,20 +56,6 @@ void print_answer(FILE *stream, const List *list, Answer answer, Purpose purpose
 const char *reason_of(unsigned number);
 extern const char copy_needs[];
 
-/* -- translated.c: the list that a display list stands for -------------- */
-
-typedef struct {
-    uint8_t *bytes;
-    size_t length;
-    uint64_t start; /* the address of the first */
-} Memory;
-
-#define TRANSLATION_ROOM 256 /* bytes that what a translation's answer means fits in */
-
-bool memory_read(const char *path, Memory *memory);
-Answer translated(const char *path, uint64_t start, Memory *memory, List *list);
-void translation_text(Answer answer, const Memory *memory, char text[TRANSLATION_ROOM]);
-
 /* -- source.c: the bytes of a list where they are ----------------------- */
 
 /* A number that an option gives. */
@@ -210,6 +196,12 @@ typedef struct {
     uint32_t width, height, bits; /* bits of a pixel: 8, 16 or 32 */
 } Image;
 
+typedef struct {
+    uint8_t *bytes;
+    size_t length;
+    uint64_t start; /* the address of the first */
+} Memory;
+
 bool image_of_list(const List *list, Image *image);
 size_t image_length(const Image *image);
 bool image_inside(const Image *image, const Memory *memory);
@@ -218,6 +210,13 @@ void pixel_rgb(const uint8_t *pixel, uint32_t bits, uint8_t *rgb);
 uint8_t *image_rgb(const Image *image, const Memory *memory);
 uint8_t *image_png(const Image *image, const uint8_t *rgb, size_t *length);
 uint8_t *image_ppm(const Image *image, const uint8_t *rgb, size_t *length);
+
+/* -- translated.c: the list that a display list stands for -------------- */
+
+#define TRANSLATION_ROOM 256 /* bytes that what a translation's answer means fits in */
+
+Answer translated(const char *path, uint64_t start, Memory *memory, List *list);
+void translation_text(Answer answer, const Memory *memory, char text[TRANSLATION_ROOM]);
 
 /* -- message.c: messages, and names that are shown ---------------------- */
 
@@ -287,12 +286,13 @@ typedef struct {
 int run_entry(const Entry *entry, int argc, char **argv);
 const Option *option_at(unsigned command, size_t index);
 
-/* -- memory.c: what drawing is lent ------------------------------------- */
+/* -- memory.c: memory from files, and what drawing is lent -------------- */
 
 typedef struct {
     Memory memory, texture;
 } Lent;
 
+bool memory_read(const char *path, Memory *memory);
 const char *memory_path(const Arguments *arguments);
 bool lend(const Arguments *arguments, uint64_t length, Lent *lent);
 Answer draw_into(const List *list, const Lent *lent);
