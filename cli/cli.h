@@ -67,6 +67,7 @@ typedef struct {
 typedef struct {
     Number offset, length;
     bool swap, hex;
+    Number display; /* the offset of a display list in the file, which is then memory */
 } Input;
 
 /* The file that a list is read from, and how far. */
@@ -83,6 +84,7 @@ typedef struct {
 
 ssize_t source_read(Source *source, uint8_t *to, size_t room);
 const char *source_fault(const Source *source);
+bool is_as_it_stands(const Input *input);
 void swap_words(uint8_t *bytes, size_t words);
 
 /* -- list.c: lists are read ---------------------------------------------- */
@@ -197,7 +199,7 @@ typedef struct {
 typedef struct {
     uint8_t *bytes;
     size_t length;
-    uint64_t start;
+    uint64_t start; /* the address of the first */
 } Memory;
 
 bool image_of_list(const List *list, Image *image);
@@ -208,6 +210,13 @@ void pixel_rgb(const uint8_t *pixel, uint32_t bits, uint8_t *rgb);
 uint8_t *image_rgb(const Image *image, const Memory *memory);
 uint8_t *image_png(const Image *image, const uint8_t *rgb, size_t *length);
 uint8_t *image_ppm(const Image *image, const uint8_t *rgb, size_t *length);
+
+/* -- translated.c: the list that a display list stands for -------------- */
+
+#define TRANSLATION_ROOM 256 /* bytes that what a translation's answer means fits in */
+
+Answer translated(const char *path, uint64_t start, Memory *memory, List *list);
+void translation_text(Answer answer, const Memory *memory, char text[TRANSLATION_ROOM]);
 
 /* -- message.c: messages, and names that are shown ---------------------- */
 
@@ -242,13 +251,15 @@ typedef struct {
     const struct Format *format; /* of what check tells */
     Number from, to, around; /* places that dump shows */
     const char *memory_file, *texture; /* files of memory and of texture memory; NULL where they are zeros */
-    uint64_t memory, start; /* the length of zeros, and the address of the first byte; of translate, the offset of the
-                               display list */
+    uint64_t memory, start; /* the length of zeros, and the address of the first byte */
     Image image;
 } Arguments;
 
 /* The commands of the tool, a bit each. */
-enum { OF_CHECK = 1, OF_REPAIR = 2, OF_DUMP = 4, OF_DRAW = 8, OF_REPORT = 16, OF_LISTS = 31, OF_TRANSLATE = 32, OF_ALL = 63 };
+enum {
+    OF_CHECK = 1, OF_REPAIR = 2, OF_DUMP = 4, OF_DRAW = 8, OF_REPORT = 16, OF_TRANSLATE = 32,
+    OF_LISTS = OF_CHECK | OF_REPAIR | OF_DUMP | OF_DRAW | OF_REPORT, OF_ALL = OF_LISTS | OF_TRANSLATE
+};
 
 /* A command of the tool. */
 typedef struct {
@@ -275,13 +286,14 @@ typedef struct {
 int run_entry(const Entry *entry, int argc, char **argv);
 const Option *option_at(unsigned command, size_t index);
 
-/* -- memory.c: what drawing is lent ------------------------------------- */
+/* -- memory.c: memory from files, and what drawing is lent -------------- */
 
 typedef struct {
     Memory memory, texture;
 } Lent;
 
 bool memory_read(const char *path, Memory *memory);
+const char *memory_path(const Arguments *arguments);
 bool lend(const Arguments *arguments, uint64_t length, Lent *lent);
 Answer draw_into(const List *list, const Lent *lent);
 void lent_free(Lent *lent);

@@ -123,7 +123,7 @@ static int draw_file(const Arguments *arguments)
 /* Why the arguments do not go together; NULL where they do. */
 static const char *fault_of(const Arguments *arguments)
 {
-    if (!arguments->has_memory)
+    if (!arguments->has_memory && memory_path(arguments) == NULL)
         return "draw needs --memory BYTES or --memory FILE";
     if (arguments->output == NULL)
         return "draw needs -o OUT";
@@ -131,7 +131,7 @@ static const char *fault_of(const Arguments *arguments)
         return "the name of the output ends in none of .png, .ppm and .bin";
     if (is_same_file(arguments->paths[0], arguments->output))
         return "the output is the list itself";
-    if (is_same_file(arguments->paths[0], arguments->texture) || is_same_file(arguments->memory_file, arguments->texture)
+    if (is_same_file(arguments->paths[0], arguments->texture) || is_same_file(memory_path(arguments), arguments->texture)
         || is_same_file(arguments->output, arguments->texture))
         return "texture memory has a file of its own";
     return NULL;

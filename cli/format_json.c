@@ -107,11 +107,14 @@ static json_t *uri_json(const char *path)
     return value;
 }
 
-/* The word of a list that a place names. */
+/* The word of a list that a place names; of a translated list the file alone, which does not hold it. */
 static json_t *location_json(const Arguments *arguments, const char *path, size_t place, const char *text)
 {
-    json_t *location = json_pack("{s:{s:{s:o}, s:{s:I, s:i}}}", "physicalLocation", "artifactLocation", "uri", uri_json(path), "region", "byteOffset",
-                                 (json_int_t)(arguments->input.offset.value + 8 * place), "byteLength", 8);
+    json_t *physical = json_pack("{s:{s:o}}", "artifactLocation", "uri", uri_json(path));
+    if (physical != NULL && !arguments->input.display.is_given)
+        json_object_set_new(physical, "region", json_pack("{s:I, s:i}", "byteOffset", (json_int_t)(arguments->input.offset.value + 8 * place),
+                                                          "byteLength", 8));
+    json_t *location = json_pack("{s:o}", "physicalLocation", physical);
     if (location != NULL && text != NULL)
         json_object_set_new(location, "message", json_pack("{s:s}", "text", text));
     return location;

@@ -26,7 +26,7 @@ static bool looks_well(const List *list)
 void hint_swapped(const char *path, const List *list, const Input *input)
 {
     size_t words = (list->length < LIST_LIMIT ? list->length : LIST_LIMIT) / 8;
-    if (input->swap || !is_beyond_repair(list->verdict))
+    if (input->swap || input->display.is_given || !is_beyond_repair(list->verdict))
         return;
     List swapped = { .bytes = calloc(words + LANYARDROVE_MOST_WORDS, 8), .length = 8 * words };
     if (swapped.bytes == NULL)

@@ -10,19 +10,19 @@ _lanyardrove()
         return
     fi
     case ${COMP_WORDS[1]} in
-    check) options="-q --quiet -v --verbose --failures --all --format $input" ;;
+    check) options="-q --quiet -v --verbose --failures --all --format --f3dex2 $input" ;;
     repair) options="--check -i --in-place -o --output $input" ;;
-    report) options="--memory --start --texture -o --output $input" ;;
-    dump) options="--brief --from --to --around $input" ;;
+    report) options="--f3dex2 --memory --start --texture -o --output $input" ;;
+    dump) options="--brief --from --to --around --f3dex2 $input" ;;
     translate) options="--start -o --output -h --help" ;;
     help) mapfile -t COMPREPLY < <(compgen -W "check repair dump draw report translate" -- "$current"); return ;;
-    draw) options="--memory --start --texture --image -o --output $input" ;;
+    draw) options="--f3dex2 --memory --start --texture --image -o --output $input" ;;
     *) return ;;
     esac
     case $previous in
     --memory) mapfile -t COMPREPLY < <(compgen -W "64K 1M 4M 8M" -- "$current"; compgen -f -- "$current"); return ;;
     --format) mapfile -t COMPREPLY < <(compgen -W "text gcc github json sarif" -- "$current"); return ;;
-    --start|--image|--offset|--length|--from|--to|--around) return ;;
+    --start|--f3dex2|--image|--offset|--length|--from|--to|--around) return ;;
     esac
     if [[ $current == -* ]]; then
         mapfile -t COMPREPLY < <(compgen -W "$options" -- "$current")

@@ -30,6 +30,7 @@ complete -c lanyardrove -n "__fish_seen_subcommand_from draw" -l image -x
 
 complete -c lanyardrove -n "__fish_seen_subcommand_from repair draw report translate" -s o -l output -r -F
 
+complete -c lanyardrove -n "__fish_seen_subcommand_from check dump draw report" -l f3dex2 -x
 complete -c lanyardrove -n "__fish_seen_subcommand_from $lists" -l offset -x
 complete -c lanyardrove -n "__fish_seen_subcommand_from $lists" -l length -x
 complete -c lanyardrove -n "__fish_seen_subcommand_from $lists" -l swap -d "little-endian words"

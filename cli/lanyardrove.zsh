@@ -3,18 +3,19 @@
 
 _lanyardrove()
 {
-    local -a commands input options memory
+    local -a commands input options memory display
     commands=(check repair dump draw report translate)
     input=('--offset=:byte:' '--length=:bytes:' --swap --hex -h --help '*:list:_files')
-    memory=('--memory=:memory:{compadd 64K 1M 4M 8M; _files}' '--start=:address:' '--texture=:texture:_files')
+    display='--f3dex2=:offset:'
+    memory=($display '--memory=:memory:{compadd 64K 1M 4M 8M; _files}' '--start=:address:' '--texture=:texture:_files')
     if (( CURRENT == 2 )); then
         compadd -- $commands help --help --version
         return
     fi
     case $words[2] in
-    check) options=(-q --quiet -v --verbose --failures --all '--format=:form:(text gcc github json sarif)') ;;
+    check) options=($display -q --quiet -v --verbose --failures --all '--format=:form:(text gcc github json sarif)') ;;
     repair) options=(--check -i --in-place '-o:output:_files' '--output=:output:_files') ;;
-    dump) options=(--brief '--from=:place:' '--to=:place:' '--around=:place:') ;;
+    dump) options=($display --brief '--from=:place:' '--to=:place:' '--around=:place:') ;;
     draw) options=($memory '--image=:image:' '-o:output:_files' '--output=:output:_files') ;;
     report) options=($memory '-o:output:_files' '--output=:output:_files') ;;
     translate)

@@ -78,12 +78,30 @@ static bool read_source(Source *source, List *list, const Reading *reading)
     return list->bytes != NULL && (pipe ? read_arriving(source, list, reading->is_enough) : read_whole(source, list));
 }
 
+/* The list that a display list stands for. Where that is refused there is no list, and it is told as a file that cannot be read. */
+static bool read_translated(const char *path, List *list, const Input *input)
+{
+    Memory memory;
+    char text[TRANSLATION_ROOM];
+    Answer answer = translated(path, input->display.value, &memory, list);
+    if (is_refused(answer)) {
+        translation_text(answer, &memory, text);
+        complain("%s: %u %u, %s", path, answer.number, (unsigned)answer.place, text);
+        list_free(list);
+    } else if (list->bytes != NULL)
+        list->verdict = answer_of(lanyardrove_check(list->bytes, list->length));
+    free(memory.bytes);
+    return list->bytes != NULL;
+}
+
 /* Reads a list from a file, or from standard input for "-", and its verdict. */
 bool list_read(const char *path, List *list, const Reading *reading, const Input *input)
 {
     bool standard = strcmp(path, "-") == 0;
-    Source source = { .file = standard ? STDIN_FILENO : open(path, O_RDONLY | O_NOCTTY), .input = input };
     *list = (List){ 0 };
+    if (input->display.is_given)
+        return read_translated(path, list, input);
+    Source source = { .file = standard ? STDIN_FILENO : open(path, O_RDONLY | O_NOCTTY), .input = input };
     bool read = source.file >= 0 && read_source(&source, list, reading);
     if (!read) {
         complain("%s: %s", standard ? "standard input" : path, source_fault(&source));

@@ -1,4 +1,4 @@
-/* The memory and the texture memory that drawing is lent: the bytes of files, or zeros. */
+/* Memory from files, and the memory and the texture memory that drawing is lent. */
 #include "cli.h"
 
 #include <errno.h>
@@ -38,6 +38,13 @@ bool memory_read(const char *path, Memory *memory)
     return read && fits;
 }
 
+/* The file of memory that a list is drawn into; NULL where it is zeros. A display list is drawn into the memory that it lies in. */
+const char *memory_path(const Arguments *arguments)
+{
+    bool is_own = arguments->input.display.is_given && !arguments->has_memory && strcmp(arguments->paths[0], "-") != 0;
+    return is_own ? arguments->paths[0] : arguments->memory_file;
+}
+
 /* False where there is no room, which is told. */
 static bool take_zeros(Memory *memory)
 {
@@ -56,7 +63,7 @@ static bool take(const char *path, Memory *memory)
 bool lend(const Arguments *arguments, uint64_t length, Lent *lent)
 {
     *lent = (Lent){ { NULL, (size_t)length, arguments->start }, { NULL, LANYARDROVE_TEXTURE_BYTES, 0 } };
-    return take(arguments->memory_file, &lent->memory) && take(arguments->texture, &lent->texture);
+    return take(memory_path(arguments), &lent->memory) && take(arguments->texture, &lent->texture);
 }
 
 Answer draw_into(const List *list, const Lent *lent)

@@ -26,7 +26,8 @@ static bool set_address(void *member, const char *value)
 
 static bool set_offset(void *member, const char *value)
 {
-    return take_offset(value, member);
+    Number *offset = member;
+    return offset->is_given = take_offset(value, &offset->value);
 }
 
 static bool set_format(void *member, const char *value)
@@ -68,6 +69,7 @@ static bool set_image(void *member, const char *value)
 #define FLAG(member) NULL, set_flag, offsetof(Arguments, member), NULL
 #define NUMBER(value, member) value, set_number, offsetof(Arguments, member), "a number"
 #define TEXTURE "FILE", set_file, offsetof(Arguments, texture), NULL
+#define DISPLAY "OFFSET", set_offset, offsetof(Arguments, input.display), "an offset of 32 bits"
 #define OUTPUT "OUT", set_output, offsetof(Arguments, output), NULL
 
 static const Option options[] = {
@@ -102,7 +104,7 @@ static const Option options[] = {
       "the picture, with SIZE bits a pixel (8, 16 or 32); if not\n"
       "given, the colour image of the last rectangle, as high as\n"
       "the scissor" },
-    { OF_TRANSLATE, "start", 0, "OFFSET", set_offset, offsetof(Arguments, start), "an offset of 32 bits",
+    { OF_TRANSLATE, "start", 0, DISPLAY,
       "where the display list begins in the memory; 0 if not\ngiven" },
     { OF_REPAIR, "check", 0, FLAG(dry), "write nothing; status 1 where a sync would be inserted" },
     { OF_REPAIR, "in-place", 'i', FLAG(in_place), "write each list over itself, where a sync is inserted" },
@@ -116,6 +118,9 @@ static const Option options[] = {
     { OF_LISTS, "length", 0, NUMBER("BYTES", input.length), "the list's length; to the end of the file if not given" },
     { OF_LISTS, "swap", 0, FLAG(input.swap), "the file has its words least significant byte first" },
     { OF_LISTS, "hex", 0, FLAG(input.hex), "the file is text, of hexadecimal digits" },
+    { OF_CHECK | OF_DUMP | OF_DRAW | OF_REPORT, "f3dex2", 0, DISPLAY,
+      "the file is memory, and the list the one that the display\n"
+      "list at this offset stands for, as translate writes it" },
     { OF_ALL, "help", 'h', FLAG(help), "print this" }
 };
 
@@ -205,6 +210,10 @@ int run_entry(const Entry *entry, int argc, char **argv)
     arguments.count = argc - optind;
     if (arguments.count == 0 || arguments.count > entry->most) {
         complain(arguments.count == 0 ? "%s needs a %s; - is standard input" : "%s takes one %s", entry->name, entry->takes);
+        return usage_error(entry->name);
+    }
+    if (arguments.input.display.is_given && !is_as_it_stands(&arguments.input)) {
+        complain("--f3dex2 goes with none of --offset, --length, --swap and --hex");
         return usage_error(entry->name);
     }
     return entry->run(&arguments);

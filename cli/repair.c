@@ -84,12 +84,11 @@ static int repair_file(const Repair *repair, const char *path)
 /* Why the arguments do not go together; NULL where they do. */
 static const char *fault_of(const Arguments *arguments, bool to_output)
 {
-    const Input *input = &arguments->input;
     if (arguments->dry + arguments->in_place + (arguments->output != NULL) > 1)
         return "repair has one of --check, --in-place and -o";
     if (arguments->count > 1 && !arguments->dry && !arguments->in_place)
         return "repair of several lists needs --in-place or --check";
-    if (arguments->in_place && (input->offset.is_given || input->length.is_given || input->swap || input->hex))
+    if (arguments->in_place && !is_as_it_stands(&arguments->input))
         return "only whole files are repaired in place";
     for (int i = 0; arguments->in_place && i < arguments->count; i++)
         if (strcmp(arguments->paths[i], "-") == 0)

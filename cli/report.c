@@ -113,7 +113,7 @@ static const char *fault_of(const Arguments *arguments)
         return "report needs -o OUT";
     if (is_same_file(arguments->paths[0], arguments->output))
         return "the output is the list itself";
-    if (is_same_file(arguments->memory_file, arguments->output) || is_same_file(arguments->texture, arguments->output))
+    if (is_same_file(memory_path(arguments), arguments->output) || is_same_file(arguments->texture, arguments->output))
         return "the output is memory that the list is drawn into";
     return NULL;
 }

@@ -139,3 +139,9 @@ const char *source_fault(const Source *source)
 {
     return source->fault != NULL ? source->fault : strerror(errno);
 }
+
+/* The whole file is the list. */
+bool is_as_it_stands(const Input *input)
+{
+    return !input->offset.is_given && !input->length.is_given && !input->swap && !input->hex;
+}

@@ -27,6 +27,9 @@ WRONG = {
     "translate needs a file of memory; - is standard input": [["translate"], ["translate", "-o", "x"]],
     "translate takes one file of memory": [["translate", "a", "b", "-o", "x"]],
     "translate needs -o OUT": [["translate", "a"], ["translate", "a", "--start", "8"]],
+    "--f3dex2 goes with none of --offset, --length, --swap and --hex": [
+        ["check", "a", "--f3dex2=8", option] for option in ("--offset=8", "--length=8", "--swap", "--hex")],
+    "repair has no option --f3dex2": [["repair", "a", "--f3dex2=8"]],
     "not an offset of 32 bits": [["translate", "a", "--start", text, "-o", "x"] for text in ("", "x", "-8", "0x100000000", "8K")],
     "translate has no option --offset": [["translate", "a", "--offset=8"]],
     "draw needs --memory BYTES or --memory FILE": [["draw", "a"], ["draw", "a", "-o", "x.bin"]],

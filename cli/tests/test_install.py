@@ -240,7 +240,7 @@ def completion_offers_commands_options_and_files():
     same((sorted(completed_by_fish("help", "")), completed_by_zsh("help", "")), (sorted(COMMANDS), list(COMMANDS)))
     same(sorted(completed_by_fish("check", "--format", "")), ["gcc", "github", "json", "sarif", "text"])
     assert "lists/" in completed_by_fish("check", "l") and not completed_by_fish("draw", "--start", "l")
-    for typed, expected in ((["d"], ["dump", "draw"]), (["draw", "--m"], ["--memory"]), (["check", "--f"], ["--failures", "--format"]), (["check", "--format", "g"], ["gcc", "github"]),
+    for typed, expected in ((["d"], ["dump", "draw"]), (["draw", "--m"], ["--memory"]), (["check", "--fo"], ["--format"]), (["check", "--format", "g"], ["gcc", "github"]),
                             (["check", "li"], ["list one.rdp", "lists"]), (["check", "-q", "list "], ["list one.rdp"]),
                             (["repair", "x", "-o", "li"], ["list one.rdp", "lists"]), (["draw", "--start", "l"], []),
                             (["draw", "--memory", "6"], ["64K"]),
@@ -251,7 +251,7 @@ def completion_offers_commands_options_and_files():
 
 def options_of(command):
     """The options that a command's help lists: letter, name and value. The tool prints them from the table that it reads them by."""
-    return re.findall(r"^  (?:-([a-z]), )?--([a-z-]+)(?: (\S+))?(?=  |$)", run(command, "--help")[1], re.M)
+    return re.findall(r"^  (?:-([a-z]), )?--([a-z0-9-]+)(?: (\S+))?(?=  |$)", run(command, "--help")[1], re.M)
 
 
 def page_options():

@@ -1,8 +1,10 @@
 """lanyardrove translate (document 02, #108): display lists of Fast3DEX2."""
+import json
 import os
 import subprocess
 
-from support import TOOL, example, files, read, run, same, test, words, write
+from support import C, R, S, TOOL, TOP, example, files, png_pixels, read, run, same, test, words, write
+from test_report import Page
 
 END = 0xDF << 56
 UNREADABLE = "no multiple of 8, or its command is not all inside memory"
@@ -70,3 +72,44 @@ def translate_tells_files_that_it_cannot_read_or_write():
     same((status, out), (2, ""))
     assert "the output is the memory itself" in err, err
     same((files(), read("memory.bin")), (["memory.bin"], words(END)))
+
+
+VALLEY = [example("valley.bin"), "--f3dex2", "0x5600"]
+
+
+@test
+def other_commands_translate_what_they_read():
+    given = example("valley.rdp")
+    for arguments in (["check"], ["check", "-v"], ["check", "--all"], ["dump", "--brief"], ["check", "--format=gcc"]):
+        same(run(*arguments, *VALLEY), run(*arguments, given), arguments)
+    same(run("check", "-", "--f3dex2=0x5600", stdin=read(VALLEY[0])), run("check", given))
+    picture = png_pixels(read(os.path.join(TOP, "docs", "picture-copy.png")))
+    same(run("draw", *VALLEY, "-o", "valley.png"), run("draw", given, "--memory", VALLEY[0], "-o", "valley.png"))  # into the memory that it lies in
+    same(run("draw", *VALLEY, "-o", "valley.png")[0], 0)
+    same(png_pixels(read("valley.png")), picture)
+    same(run("draw", *VALLEY, "--memory", "22016", "-o", "zeros.bin")[0], 0)
+    same(read("zeros.bin")[0x5000:], bytes(1536))
+    same(run("report", *VALLEY, "-o", "valley.html"), (0, "", ""))
+    same(Page(read("valley.html").decode()).picture(), picture)
+    status, out, err = run("draw", "-", "--f3dex2=0x5600", "-o", "x.png", stdin=read(VALLEY[0]))
+    same((status, out), (2, ""))
+    assert "draw needs --memory" in err, err
+
+
+@test
+def a_translated_list_is_refused_at_its_own_place():
+    write("memory.bin", words(0, *[word | 3 << 62 for word in (S[1], S[2], C)], 0xE3000A0100300000, R | 3 << 62, C | 3 << 62, END))
+    same(run("check", "memory.bin", "--f3dex2", "8")[:2], (1, "9 5\nword 5: Set Fill Color requires Sync Pipe, for the Fill Rectangle at word 4\n"))
+    found = json.loads(run("check", "--format=sarif", "memory.bin", "--f3dex2", "8")[1])["runs"][0]["results"][0]
+    same(found["locations"], [{"physicalLocation": {"artifactLocation": {"uri": "memory.bin"}}}])
+
+
+@test
+def a_display_list_that_is_refused_is_no_list():
+    write("memory.bin", words(0, 0xD9 << 56))
+    error = f"lanyardrove: memory.bin: 22 8, offset 0x8 (D900000000000000): {UNKNOWN}; commands read before: 0\n"
+    for arguments in (["check"], ["dump"], ["draw", "-o", "out.png"], ["report", "-o", "out.html"]):
+        status, out, err = run(*arguments, "memory.bin", "--f3dex2", "8")
+        same((status, err), (2, error), arguments)
+    same(run("check", "nowhere", "--f3dex2", "8")[::2], (2, "lanyardrove: nowhere: No such file or directory\n"))
+    same(files(), ["memory.bin"])
