@@ -24,6 +24,14 @@ static uint64_t small_corner(void) {
     return x << 12 | (below(4) ? below(80) : below(4096));
 }
 
+static uint64_t some_tile(void) { return (uint64_t)(below(8) ? 0 : below(8)) << 24; }
+
+// One of the modes that copying needs off: perspective, look-up, alpha compare
+static uint64_t some_need(void) {
+    static const uint8_t bits[] = {51, 47, 0};
+    return 1ull << bits[below(sizeof bits)];
+}
+
 // Format and size, most often 16-bit RGBA
 static uint64_t some_format(void) { return (uint64_t)(below(24) ? 2 : below(32)) << 51; }
 
@@ -34,8 +42,9 @@ static uint64_t some_area(void) {
 }
 
 // s, t and the steps that copying needs, most often
+static uint16_t some_texel(void) { return (uint16_t)(32 * (int)(below(12) - (below(3) ? 0 : 3))); }
 static uint64_t some_texels(void) {
-    const uint64_t s = (uint16_t)(32 * (int)(below(12) - 3)), t = (uint16_t)(32 * (int)(below(12) - 3)), steps = 0x10000400;
+    const uint64_t s = some_texel(), t = some_texel(), steps = 0x10000400;
     return (s << 48 | t << 32 | steps) ^ (below(24) ? 0 : 1ull << below(64));
 }
 
@@ -45,16 +54,16 @@ static uint64_t some_word(unsigned number) {
     if (below(64) == 0) word |= any() << 62;  // ignored bits
     switch (number) {
     case 0x2D: return word | (below(3) ? 0 : small_corner()) << 32 | (below(4) ? 0 : below(4)) << 24 | (below(3) == 0 ? 0x100100 : below(2) ? 0xFFFFFF : small_corner());
-    case 0x2F: return word | (uint64_t)(below(8) ? 2 + below(2) : below(4)) << 52 | (below(4) ? 0 : any() & 0x0FFFFFFFFFFFFF);
+    case 0x2F: return word | (uint64_t)(below(8) ? 2 + below(2) : below(4)) << 52 | (below(6) ? 0 : below(2) ? some_need() : any() & 0x0FFFFFFFFFFFFF);
     case 0x3F:
-        return word | (uint64_t)below(8) << 53 | (uint64_t)(below(2) ? 2 : below(8) ? 1 + below(3) : 0) << 51 | (uint64_t)(below(4) ? below(33) : below(1024)) << 32 |
-               (below(8) ? below(64) * 64 : any() & 0x3FFFFFF);
+        return word | (uint64_t)below(8) << 53 | (uint64_t)(below(2) ? 2 : below(8) ? 1 + below(3) : 0) << 51 |
+               (uint64_t)(below(4) ? below(33) : below(1024)) << 32 | (below(8) ? below(64) * 64 : any() & 0x3FFFFFF);
     case 0x36: return word | small_corner() << 32 | (below(3) ? (uint64_t)below(24) << 12 | below(24) : small_corner());
-    case 0x24: return word | small_corner() << 32 | (uint64_t)below(2) << 24 | (uint64_t)below(24) << 12 | below(24);
-    case 0x32: case 0x34: return word | some_area() | (uint64_t)below(2) << 24;
+    case 0x24: return word | small_corner() << 32 | some_tile() | (uint64_t)below(24) << 12 | below(24);
+    case 0x32: case 0x34: return word | some_area() | some_tile();
     case 0x35:
         return word | some_format() | (uint64_t)below(6) << 41 | (uint64_t)(below(2) ? below(16) : below(2) ? 500 + below(12) : below(512)) << 32 |
-               (uint64_t)below(2) << 24 | (below(24) ? 0 : 1ull << below(20));
+               some_tile() | (below(24) ? 0 : 1ull << below(20));
     case 0x3D: return word | some_format() | (uint64_t)(below(8) ? below(33) : below(1024)) << 32 | (below(8) ? below(4096) : any() & 0xFFFFFF);
     case 0x26: case 0x27: case 0x28: case 0x29: return word | (below(8) ? 0 : any() & 0xFFFFFFFFFFFFFF);
     default: return word | (below(4) ? any() & 0xFFFFFFFFFFFFFF : 0);
@@ -62,8 +71,8 @@ static uint64_t some_word(unsigned number) {
 }
 
 static unsigned some_number(void) {
-    static const uint8_t common[] = {0x36, 0x36, 0x36, 0x24, 0x24, 0x24, 0x25, 0x08, 0x0A, 0x0F, 0x30, 0x33, 0x34, 0x34, 0x34, 0x35, 0x35, 0x37, 0x37, 0x3F, 0x2F, 0x2D,
-                                     0x26, 0x27, 0x27, 0x28, 0x3C, 0x3D, 0x3A, 0x00, 0x32};
+    static const uint8_t common[] = {0x36, 0x36, 0x36, 0x24, 0x24, 0x24, 0x25, 0x08, 0x0A, 0x0F, 0x30, 0x33, 0x34, 0x34, 0x34, 0x35, 0x35, 0x37,
+                                     0x37, 0x3F, 0x2F, 0x2D, 0x26, 0x27, 0x27, 0x28, 0x3C, 0x3D, 0x3A, 0x00, 0x32};
     const unsigned number = below(5) ? common[below(sizeof common)] : below(60) ? below(64) : 0x29;
     return is_unassigned(number) && below(8) ? 0x00 : number;  // a list that is refused early does not go deep
 }
@@ -88,6 +97,18 @@ static size_t setup(uint8_t *at, size_t max) {
     if (max < 8 * sizeof numbers) return 0;
     for (size_t k = 0; k < count; k++) put_word(at + 8 * k, some_word(numbers[k]));
     return 8 * count;
+}
+
+// A texture loaded and copied, with all that both need
+static size_t texture_list(uint8_t *at, size_t max) {
+    static const uint8_t numbers[] = {0x2F, 0x3F, 0x2D, 0x3D, 0x35, 0x34, 0x26, 0x24};
+    const size_t count = sizeof numbers;
+    if (max < 8 * count + 8) return 0;
+    for (size_t k = 0; k < count; k++) put_word(at + 8 * k, some_word(numbers[k]));
+    put_word(at + 8 * count, some_texels());
+    at[1] = (at[1] & 0xCF) | 0x20;                          // COPY mode
+    at[9] = 0x10, at[10] = 0, at[11] = (uint8_t)below(12);  // of 16 bits, and narrower than many a rectangle
+    return 8 * count + 8;
 }
 
 // A place of a command, in bytes: a walk from the front for a random number of commands.
@@ -163,8 +184,9 @@ static size_t change_list(uint8_t *list, size_t length, size_t max) {
         if (here >= 8) put_word(list + at, some_word(below(2) ? command_number(list + at) : some_number()));
         return length;
     case 6: {  // a new list
-        size_t made = below(8) ? setup(list, max) : 0;
-        return made + some_commands(list + made, max - made, 1 + below(below(4) ? 12 : 120));
+        size_t made = below(3) == 0 ? texture_list(list, max) : below(8) ? setup(list, max) : 0;
+        made += some_commands(list + made, max - made, below(below(4) ? 12 : 120));
+        return below(2) ? made : repaired(list, made, max);
     }
     case 7:  // the setting up in front
         more = setup(fresh, max - length);

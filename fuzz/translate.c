@@ -130,10 +130,10 @@ static uint64_t translate_at(enum place place, uint32_t start, size_t out_length
 
 static uint32_t chosen_offset(const struct input *in) {
     switch (in->spare[1] % 8) {
-    case 0: return (uint32_t)in->start;
     case 1: return UINT32_MAX - in->start % 16;
     case 2: return (uint32_t)(in->start % (memory_length + 16));
     case 3: return (uint32_t)(in->start % (memory_length / 8 + 1)) * 8;
+    case 4: return (uint32_t)in->start;
     default: return 0;
     }
 }

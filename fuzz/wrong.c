@@ -119,7 +119,7 @@ static void first_row_last(const uint8_t *list, size_t words, uint8_t *memory, s
     size_t last = words;
     for (size_t at = 0; at < words; at += words_of(command_number(list + 8 * at)))
         if (command_number(list + 8 * at) == 0x24) last = at;
-    if (last + 2 != words) return;
+    if (last == words) return;
     memcpy(command, list + 8 * last, 16);
     command[2] = (command[2] & 0xF0) | (command[6] & 0x0F), command[3] = command[7];  // its bottom is its top
     right_draw(other, settings_and(list, last, command, other), memory, memory_length, start, texture, 4096);
@@ -132,12 +132,12 @@ static uint64_t with_all_memory(const uint8_t *list, size_t place, uint64_t righ
     return a >> 56 == 18 ? a : right;
 }
 
-// A list without the bits of its Set Other Modes that switch perspective on.
-static const uint8_t *without_perspective(const uint8_t *list, size_t length) {
+// A list with perspective, look-up and alpha compare off in each Set Other Modes.
+static const uint8_t *plain_modes(const uint8_t *list, size_t length) {
     static uint8_t other[LONGEST_LIST];
     if (length) memcpy(other, list, length);
     for (size_t at = 0, here, words = length / 8; at < words && (here = whole_at(list, words, at)); at += here)
-        if (command_number(list + 8 * at) == 0x2F) other[8 * at + 1] &= 0xF7;
+        if (command_number(list + 8 * at) == 0x2F) other[8 * at + 1] &= 0xF7, other[8 * at + 2] &= 0x7F, other[8 * at + 7] &= 0xFE;
     return other;
 }
 
@@ -167,7 +167,8 @@ static uint64_t mistextured(const uint8_t *list, size_t length, uint64_t start, 
     if (wrong(28) && number == 0) first_row_last(list, length / 8, memory, memory_length, start, texture);  // an earlier pixel stays
     if (wrong(29) && number == 12) return with_all_memory(list, (uint32_t)right, right);                     // 18 before 12
     if (wrong(30) && number == 18) texture[4095] ^= 1;                                                       // loads and refuses
-    if (wrong(36) && number == 17) return right_draw(without_perspective(list, length), length, memory, memory_length, start, texture, 4096);
+    if (wrong(36) && number == 17)  // the modes not asked
+        return right_draw(plain_modes(list, length), length, memory, memory_length, start, texture, 4096);
     if (wrong(37) && number == 17 && is_load(command_number(list + 8 * (uint32_t)right))) return length / 8;  // 17 not asked of loads
     return right;
 }
