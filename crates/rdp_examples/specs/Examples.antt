@@ -1,4 +1,4 @@
--- Document 01, "Examples": A to O as one list of cases, each with all that must come out; and those of #104.
+-- Document 01, "Examples": A to O as one list of cases, each with all that must come out; and those of #104 and #107.
 use Prim.Native.Nat.{ℕ, _+_, _*_}
 use mathlib.Core.Bool.{Bool, true, false, _&&_}
 use mathlib.Core.List.{List, [], _∷_, _++_}
@@ -46,6 +46,10 @@ loadBlock = 0x3300000000000000
 
 abbrev pub setTile : ℕ
 setTile = 0x3500000000000000
+
+-- 0x31, which no command has
+abbrev pub unassigned : ℕ
+unassigned = 0x3100000000000000
 
 abbrev pub textureRectangle : ℕ
 textureRectangle = 0x2400000000000000
@@ -118,6 +122,15 @@ examples =
     ∷ checks (bytesIn (loadBlock ∷ syncLoad ∷ setTile ∷ [])) 8 2 2 0
     ∷ checks (bytesIn (loadBlock ∷ syncTile ∷ setTile ∷ [])) 0 3 0 3
     ∷ repairs (loadBlock ∷ setTile ∷ []) (loadBlock ∷ syncTile ∷ setTile ∷ []) 33
+    -- #107: an unassigned number first, after Sync Full (4), before a command that is cut, in a list that is no whole words (2), before a draw that lacks its
+    -- setup, and after one that does (5); 0x00 with any other bits is accepted
+    ∷ checks (bytesIn (unassigned ∷ [])) 19 0 0 1
+    ∷ checks (bytesIn (syncFull ∷ unassigned ∷ [])) 4 1 0 2
+    ∷ checks (bytesIn (unassigned ∷ textureRectangle ∷ [])) 19 0 0 2
+    ∷ checks (bytesIn (unassigned ∷ []) ++ zeros 4) 2 1 0 1
+    ∷ checks (bytesIn (unassigned ∷ rectangle ∷ [])) 19 0 0 2
+    ∷ checks (bytesIn (rectangle ∷ unassigned ∷ [])) 5 0 0 2
+    ∷ checks (bytesIn (0x40FFFFFFFFFFFFFF ∷ [])) 0 1 0 1
     ∷ []
 
 -- ---- what is right
