@@ -52,9 +52,9 @@ fn third_of_record(number: u32, waited: u32) -> u32
 // The version of this library: major, minor and patch number, eight bits each. The header has the same number.
 #[no_mangle]
 pub extern "C" fn lanyardrove_version() -> u32
-    ensures { λ r. ⌜ r ≡ 0x060000 ⌝ }
+    ensures { λ r. ⌜ r ≡ 0x060100 ⌝ }
 {
-    0x060000
+    0x060100
 }
 
 // The words of the command that begins with a word: a plain count.
