@@ -33,6 +33,7 @@ typedef struct {
     size_t length;
     size_t limit; /* of the bytes; one more tells that the list goes on */
     bool arrived; /* through a pipe, so that the verdict is that of portions */
+    uint32_t *offsets; /* of a translated list: where in memory the command of each word comes from; NULL where that is not known */
     Answer verdict;
 } List;
 
@@ -40,7 +41,7 @@ typedef enum { FOR_CHECK, FOR_REPAIR, FOR_DRAW } Purpose;
 
 /* What an answer means, in one line. */
 typedef struct {
-    char text[160];    /* the longest fits in */
+    char text[200];    /* the longest fits in */
     size_t start, end; /* of what it says of the command: after its place, before its cause */
     size_t cause;      /* where it names the command that a missing sync has to wait for; its end where it names none */
 } Meaning;
@@ -217,6 +218,14 @@ uint8_t *image_ppm(const Image *image, const uint8_t *rgb, size_t *length);
 
 Answer translated(const char *path, uint64_t start, Memory *memory, List *list);
 void translation_text(Answer answer, const Memory *memory, char text[TRANSLATION_ROOM]);
+
+/* -- offsets.c: where the commands of a translated list come from ------- */
+
+#define OFFSET_ROOM 64 /* bytes that an offset fits in with what is around it */
+
+uint32_t *offsets_of(const Memory *memory, uint32_t start, Answer answer);
+bool offset_at(const List *list, size_t place, uint32_t *offset);
+const char *offset_text(const List *list, size_t place, const char *before, const char *after, char text[OFFSET_ROOM]);
 
 /* -- message.c: messages, and names that are shown ---------------------- */
 

@@ -27,9 +27,10 @@ void place_add(Text *text, size_t place)
 /* A sync that is or would be inserted, and before what. */
 static void add_insertion(Text *text, const Report *report, const Insertion *insertion)
 {
+    char offset[OFFSET_ROOM];
     text_add(text, "%s before ", command_name(insertion->number));
     place_add(text, insertion->place);
-    text_add(text, ", %s", name_at(&report->list, insertion->place));
+    text_add(text, "%s, %s", offset_text(&report->list, insertion->place, " (", ")", offset), name_at(&report->list, insertion->place));
 }
 
 /* `number place` and what it means, in the middle of a sentence. */

@@ -49,7 +49,7 @@ static const char table[] =
     "thead th{background:var(--panel);font-size:.85rem;color:var(--soft);white-space:nowrap;position:sticky;top:0}\n"
     ".place{text-align:right;font-variant-numeric:tabular-nums}.place a{color:inherit;text-decoration:none}.place a:hover{text-decoration:underline}\n"
     ".name{white-space:nowrap;font-weight:600}td.words summary{font-weight:400;list-style:none}\n"
-    ".more{color:var(--link);text-decoration:underline}\n"
+    ".more{color:var(--link);text-decoration:underline}.from{color:var(--soft);font-size:.85em;white-space:nowrap}\n"
     ".choices{border:0;padding:0;margin:0;font-size:.9rem}.choices legend{float:left;padding:0;margin-right:.9rem;color:var(--soft)}\n"
     ".choices label{display:inline-block;margin-right:.9rem}\n"
     ".choices:has(#show-marked:checked)~table tbody tr:not(.refused,.cause,.inserted),.choices:has(#show-draw:checked)~table tbody tr:not(.draw),\n"

@@ -87,18 +87,22 @@ static void add_reason(Text *text, const Report *report)
 /* Which command has to wait for this one. */
 static void add_cause(Text *text, const Report *report)
 {
-    text_add(text, "<div class=\"reason\">&#9654; Causes the refusal at <a href=\"#refused\">word %u</a></div>", (unsigned)report->answer.place);
+    char offset[OFFSET_ROOM];
+    text_add(text, "<div class=\"reason\">&#9654; Causes the refusal at <a href=\"#refused\">word %u</a>%s</div>", (unsigned)report->answer.place,
+             offset_text(&report->list, report->answer.place, " (", ")", offset));
 }
 
-/* The start of a row: the refused command and its cause have an anchor of their own. */
+/* The start of a row: the refused command and its cause have an anchor of their own. Below the place of a translated list stands its offset in memory. */
 static void add_start(Text *text, const Report *report, size_t row, const Command *command)
 {
+    char offset[OFFSET_ROOM];
     const char *mark = row == report->rows.refused ? "refused" : row == report->rows.cause ? "cause" : NULL;
     if (mark != NULL)
         text_add(text, "<tr id=\"%s\" class=\"%s %s\">", mark, kind_of(command->number), mark);
     else
         text_add(text, "<tr class=\"%s\">", kind_of(command->number));
-    text_add(text, "<td class=\"place\" id=\"w%zu\"><a href=\"#w%zu\">%zu</a></td>", command->place, command->place, command->place);
+    text_add(text, "<td class=\"place\" id=\"w%zu\"><a href=\"#w%zu\">%zu</a>%s</td>", command->place, command->place, command->place,
+             offset_text(&report->list, command->place, "<br><span class=\"from\">", "</span>", offset));
 }
 
 static void add_row(Text *text, const Report *report, size_t row)
