@@ -16,12 +16,13 @@ use Rattle.rdp_command.specs.declared.Decoded.{Decoded}
 use Rattle.rdp_command.specs.declared.Decoded.the-variants.{Whole, Refused}
 use Rattle.rdp_words.proofs.PlaceLaws.{number-small}
 use Rattle.rdp_command.proofs.BoundLaws.{decode-refused, fields-decoded, lines-most, fields-most, fields-place, from-refused, encode-most, encode-words}
-use Rattle.rdp_check.specs.Hazards.{requiredOf}
-use Rattle.rdp_check.proofs.HazardLaws.{next-small, required-most}
+use Rattle.rdp_hazards.specs.Hazards.{requiredOf}
+use Rattle.rdp_hazards.proofs.HazardLaws.{next-small, required-most}
 use Rattle.rdp_check.specs.Check.{checkRefusals, checkOf}
-use Rattle.rdp_check.specs.declared.Repaired.{Repaired}
+use Rattle.rdp_repair.specs.declared.Repaired.{Repaired}
 use Rattle.rdp_draw.specs.Draw.{drawAnswer}
-use Rattle.rdp_check.proofs.BoundLaws.{checkNumbers, repairNumbers, check-numbers, among-below, place-most, Bounds, repair-bounds}
+use Rattle.rdp_check.proofs.BoundLaws.{checkNumbers, check-numbers, among-below, place-most}
+use Rattle.rdp_repair.proofs.BoundLaws.{repairNumbers, Bounds, repair-bounds}
 use Rattle.rdp_draw.proofs.BoundLaws.{drawNumbers, draw-numbers, draw-place}
 use Rattle.rdp_stream.proofs.StreamLaws.{Near, fed-near, closed-near, fed-told, closed-told}
 use Rattle.rdp_stream.specs.declared.Fed.{Fed}

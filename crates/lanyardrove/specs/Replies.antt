@@ -12,10 +12,10 @@ use Rattle.rdp_command.specs.Numbers.{fieldsAnswer, fieldsOut, fromNumbers}
 use Rattle.rdp_command.specs.declared.Answer.{Answer}
 use Rattle.rdp_command.specs.declared.Decoded.{Decoded}
 use Rattle.rdp_command.specs.declared.Decoded.the-variants.{Whole, Refused}
-use Rattle.rdp_check.specs.Hazards.{transitionOf}
+use Rattle.rdp_hazards.specs.Hazards.{transitionOf}
 use Rattle.rdp_check.specs.Check.{checkOf}
-use Rattle.rdp_check.specs.Repair.{RepairIs}
-use Rattle.rdp_check.specs.declared.Repaired.{Repaired}
+use Rattle.rdp_repair.specs.Repair.{RepairIs}
+use Rattle.rdp_repair.specs.declared.Repaired.{Repaired}
 use Rattle.rdp_draw.specs.Draw.{drawAnswer}
 use Rattle.rdp_stream.specs.Records.{fedOf, closedOf}
 use Rattle.rdp_stream.specs.declared.Stream.{Stream}

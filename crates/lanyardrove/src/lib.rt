@@ -71,7 +71,7 @@ pub extern "C" fn lanyardrove_words(first: u64) -> u64
 pub extern "C" fn lanyardrove_step(hazards: u32, number: u32) -> u64
     ensures { λ r. ⌜ r ≡ packed (stepReply hazards number) ⌝ }
 {
-    let step = rdp_check::step((hazards % 16) as u8, (number % 64) as u8);
+    let step = rdp_hazards::step((hazards % 16) as u8, (number % 64) as u8);
     let third = third_of_sync(step.required, step.missing);
     pack(0, third, step.next as u32)
 }
@@ -90,7 +90,7 @@ pub extern "C" fn lanyardrove_check(list: &[u8]) -> u64
 pub extern "C" fn lanyardrove_repair(list: &[u8], work: &mut [u8], out: &mut [u8]) -> u64
     ensures { λ r. ⌜ RepairReplies (now (list .entry)) (now (work .entry)) (now (out .entry)) r (now (work .exit)) (now (out .exit)) ⌝ }
 {
-    let repaired = rdp_check::repair(list, work, out);
+    let repaired = rdp_repair::repair(list, work, out);
     pack(repaired.number, repaired.cycles, repaired.place)
 }
 

@@ -6,15 +6,15 @@ use Rattle.rdp_command.specs.Layout.{layout}
 use Rattle.rdp_command.specs.Commands.{commandOf}
 use Rattle.rdp_words.specs.Lengths.{wholeWords}
 use Rattle.rdp_command.specs.Decode.{decodeOf}
-use Rattle.rdp_check.specs.Hazards.{nextOf, requiredOf}
+use Rattle.rdp_hazards.specs.Hazards.{nextOf, requiredOf}
 use Rattle.rdp_check.specs.Commands.{commandsFrom, restFrom}
 use Rattle.rdp_check.specs.Registers.{noRegisters, registersAfter}
 use Rattle.rdp_check.specs.Check.{afterCommand, ownRefusals, syncRefusals, judge, outcomeWithin}
 use Rattle.rdp_check.specs.Cause.{awaited, latest, causeOf}
 use Rattle.rdp_check.specs.Refusals.{commandGrounds, groundsOf}
-use Rattle.rdp_check.specs.Plan.{syncAt, waitOf, withOption, applied}
-use Rattle.rdp_check.specs.Best.{clearedBy, totalWith, choiceOf, prefer, chosen, best, plan, planned, repairedBytes}
-use Rattle.rdp_check.specs.Repair.{repairOf, outAfter, workAfter}
+use Rattle.rdp_repair.specs.Plan.{syncAt, waitOf, withOption, applied}
+use Rattle.rdp_repair.specs.Best.{clearedBy, totalWith, choiceOf, prefer, chosen, best, plan, planned, repairedBytes}
+use Rattle.rdp_repair.specs.Repair.{repairOf, outAfter, workAfter}
 use Rattle.rdp_pixels.specs.Overlay.{overlay}
 use Rattle.rdp_texels.specs.Load.{loadNeeds}
 use Rattle.rdp_draw.specs.Fill.{colorByte, bytesPerPixel, pixelAddress, oneOf, someByte}

@@ -7,8 +7,8 @@ use lib.ListN.{length, replicate}
 use Rattle.rdp_words.specs.Words.{bytesOf}
 use Rattle.rdp_check.specs.Commands.{commandsOf}
 use Rattle.rdp_check.specs.Check.{checkOf}
-use Rattle.rdp_check.specs.Repair.{repairOf, outAfter, workAfter}
-use Rattle.rdp_check.specs.Best.{repairedBytes, leastCycles}
+use Rattle.rdp_repair.specs.Repair.{repairOf, outAfter, workAfter}
+use Rattle.rdp_repair.specs.Best.{repairedBytes, leastCycles}
 use Rattle.rdp_draw.specs.Draw.{drawAnswer, drawn, memories}
 
 -- ---- the paper's words

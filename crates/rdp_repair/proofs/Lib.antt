@@ -1,0 +1,14 @@
+pub mod SyncLaws
+pub mod ChoiceLaws
+pub mod LeastLaws
+pub mod JudgeLaws
+pub mod RoomLaws
+pub mod RepairedLaws
+pub mod TabulateLaws
+pub mod RankLaws
+pub mod WriteLaws
+pub mod PassLaws
+pub mod BackLaws
+pub mod ForwardLaws
+pub mod RepairLaws
+pub mod BoundLaws

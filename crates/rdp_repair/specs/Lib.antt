@@ -1,0 +1,5 @@
+pub mod Inserted
+pub mod Plan
+pub mod Repair
+pub mod Best
+pub mod Work
