@@ -87,17 +87,17 @@ accepted-strict s (c ∷ cs) h p =
 
 -- ---- inserted syncs
 
-abbrev withHazards : ℕ → State → State
+abbrev pub withHazards : ℕ → State → State
 withHazards m s = record { hazards = m; ended = s .ended; registers = s .registers }
 
 -- a sync changes nothing but the hazards
-command-keeps : (y : Sync) (r : Registers) → registersAfter r (syncCommand y) ≡ r
+pub command-keeps : (y : Sync) (r : Registers) → registersAfter r (syncCommand y) ≡ r
 unfolding registersAfter
 command-keeps loadSync r = refl
 command-keeps tileSync r = refl
 command-keeps pipeSync r = refl
 
-not-full : (y : Sync) → eqb (syncNumber y) 0x29 ≡ false
+pub not-full : (y : Sync) → eqb (syncNumber y) 0x29 ≡ false
 not-full loadSync = refl
 not-full tileSync = refl
 not-full pipeSync = refl
@@ -111,7 +111,7 @@ after-sync y s =
     λ i. record { hazards = nextOf (s .hazards) (sync-number y i); ended = ended i; registers = registers i }
 
 -- 7 to 9 passed over, the hazards do not count
-any-hazards : (m : ℕ) (s : State) (cs : List (List ℕ)) → Accepted repairRefusals s cs → Accepted repairRefusals (withHazards m s) cs
+pub any-hazards : (m : ℕ) (s : State) (cs : List (List ℕ)) → Accepted repairRefusals s cs → Accepted repairRefusals (withHazards m s) cs
 unfolding afterCommand ownRefusals
 any-hazards m s [] h = tt
 any-hazards m s (c ∷ cs) h = (h .0, any-hazards (nextOf m (firstNumber c)) (afterCommand s c) cs (h .1))

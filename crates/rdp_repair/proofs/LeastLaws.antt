@@ -110,7 +110,7 @@ planned-passes cs = plan-passes cs 0
 -- ---- least
 
 -- option a before the list saves no more than it waits
-save : (ns : List ℕ) (m a : ℕ) → best ns m ≤ waitOf a + best ns (clearedBy a m)
+pub save : (ns : List ℕ) (m a : ℕ) → best ns m ≤ waitOf a + best ns (clearedBy a m)
 unfolding best totalWith
 save [] m a = omega arith
 save (n ∷ ns) m a =

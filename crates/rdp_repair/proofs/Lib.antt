@@ -4,11 +4,13 @@ pub mod LeastLaws
 pub mod JudgeLaws
 pub mod RoomLaws
 pub mod RepairedLaws
+pub mod AfreshLaws
 pub mod TabulateLaws
 pub mod RankLaws
-pub mod WriteLaws
-pub mod PassLaws
 pub mod BackLaws
 pub mod ForwardLaws
+pub mod WriteLaws
+pub mod DropLaws
+pub mod PassLaws
 pub mod RepairLaws
 pub mod BoundLaws

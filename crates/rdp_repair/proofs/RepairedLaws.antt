@@ -69,12 +69,12 @@ length-applied (a ∷ p) [] e = absurd (omega arith)
 length-applied (a ∷ p) (c ∷ cs) e =
     omega (arith, length-with a c (applied p cs), length-applied p cs (omega arith), length-append c (joined cs))
 
-inserts-most : (p : List ℕ) → insertsOf p ≤ length p
+pub inserts-most : (p : List ℕ) → insertsOf p ≤ length p
 unfolding insertsOf
 inserts-most [] = omega arith
 inserts-most (a ∷ p) = omega (arith, inserts-most p)
 
-plan-long : (cs : List (List ℕ)) (m : ℕ) → length (plan (numbersOf cs) m) ≡ length cs
+pub plan-long : (cs : List (List ℕ)) (m : ℕ) → length (plan (numbersOf cs) m) ≡ length cs
 plan-long cs m = length-plan (numbersOf cs) m ∙ length-map cs firstNumber
 
 module _ (s : List ℕ) (none : restOf s ≡ []) where
@@ -96,9 +96,6 @@ module _ (s : List ℕ) (none : restOf s ≡ []) where
   repaired-most =
       omega
       (arith, length-repaired, inserts-most (plan (numbersOf (commandsOf s)) 0), plan-long (commandsOf s) 0, count-most)
-
-  pub inserts-few : 8 * insertsOf (plan (numbersOf (commandsOf s)) 0) ≤ length s
-  inserts-few = omega (arith, inserts-most (plan (numbersOf (commandsOf s)) 0), plan-long (commandsOf s) 0, count-most)
 
   -- a list made by inserting has the commands that it was made of
   commands-made : {ds : List (List ℕ)} {k : ℕ} → Inserted (commandsOf s) ds k → commandsOf (joined ds) ≡ ds
@@ -160,7 +157,7 @@ module _ (s : List ℕ) (given : Sound repairRefusals s) where
 
 -- ---- there is one least repair: that list, with those cycles
 
-passes-free : (t : List ℕ) → outcomeOf t .number ≡ 0 → Free checkRefusals t
+pub passes-free : (t : List ℕ) → outcomeOf t .number ≡ 0 → Free checkRefusals t
 passes-free t e n p h = check-first t .accepted e .1 n p (ofCommands n p h)
 
 pub least-unique : {s t u : List ℕ} {k j : ℕ} → LeastRepair s t k → LeastRepair s u j → (t ≡ u) × (k ≡ j)

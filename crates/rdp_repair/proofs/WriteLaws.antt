@@ -28,7 +28,7 @@ option-word (suc a) n h e = ap (λ (k : ℕ). k ∷ replicate 7 0) (sym e)
 
 -- ---- a command with its option
 
-joined-with : (a : ℕ) (c : List ℕ) (cs : List (List ℕ)) → joined (withOption a c cs) ≡ optionBytes a ++ (c ++ joined cs)
+pub joined-with : (a : ℕ) (c : List ℕ) (cs : List (List ℕ)) → joined (withOption a c cs) ≡ optionBytes a ++ (c ++ joined cs)
 unfolding withOption optionBytes
 joined-with zero c cs = refl
 joined-with (suc a) c cs = refl

@@ -84,16 +84,20 @@ unfoldable pub workAfter : Repaired → List ℕ → List ℕ → List ℕ
 workAfter r list work =
     cond (eqb (r .number) 0 || eqb (r .number) 14) (overwrite (replicate (16 * length (commandsOf list)) 0) work) work
 
--- what the repair ensures of its answer, of the work buffer and of the output. Where none of 1 to 6 holds, `least` is the least repair of the list, of
--- so many cycles; where one of them holds, nothing depends on these two
-pub record RepairIs (list work out : List ℕ) (r : Repaired) (work′ out′ : List ℕ) : Type 0 where
+-- what a repair ensures of its answer, of the work buffer and of the output, by what it is to be the least list: that of 01, or that of #109 (`Afresh`).
+-- Where none of 1 to 6 holds, `least` is the least list for the given one, of so many cycles; where one of them holds, nothing depends on these two
+pub record RepairsBy (Least : List ℕ → List ℕ → ℕ → Type 0) (list work out : List ℕ) (r : Repaired) (work′ out′ : List ℕ) : Type 0 where
   pub least : List ℕ
   pub cycles : ℕ
-  pub is-least : Repairable list → LeastRepair list least cycles
+  pub is-least : Repairable list → Least list least cycles
   pub answer : r ≡ repairOf list (length least) cycles (length work) (length out)
   pub output : out′ ≡ outAfter r least out
   pub cleared : work′ ≡ workAfter r list work
-  -- demand 3: where the work buffer has 16 bytes a command and the output the words of the least repair, the answer is 0
+  -- demand 3: where the work buffer has 16 bytes a command and the output the words of the least list, the answer is 0
   pub succeeds : Repairable list → 16 * length (commandsOf list) ≤ length work → length least ≤ length out → r .number ≡ 0
-  -- and at 0 what is written is the least repair, and its cycles are answered
-  pub written : r .number ≡ 0 → LeastRepair list (take (8 * r .place) out′) (r .cycles)
+  -- and at 0 what is written is the least list, and its cycles are answered
+  pub written : r .number ≡ 0 → Least list (take (8 * r .place) out′) (r .cycles)
+
+-- the first repair
+abbrev pub RepairIs : List ℕ → List ℕ → List ℕ → Repaired → List ℕ → List ℕ → Type 0
+RepairIs = RepairsBy LeastRepair

@@ -4,13 +4,13 @@ ghost use mathlib.Core.Path.{_≡_};
 ghost use Prim.Native.Nat.{pred, _+_, _*_, _/_, _<_, _≤_, min};
 ghost use lib.ListN.{length, take, drop, replicate};
 ghost use Rattle.rdp_words.specs.Words.{overwrite};
+ghost use Rattle.rdp_words.specs.Kinds.{wordsOf};
 ghost use Rattle.rdp_check.specs.Commands.{commandsOf};
 ghost use Rattle.rdp_hazards.specs.Hazards.{Agrees};
 ghost use Rattle.rdp_check.specs.Check.{repairRefusals, outcomeWithin};
 ghost use Rattle.rdp_hazards.specs.Syncs.{syncNumber};
 ghost use Rattle.rdp_repair.specs.Plan.{syncAt};
-ghost use Rattle.rdp_repair.specs.Work.{notedIn, optionsIn, insertsOf, Below, optionBytes, dueBytes, WholeList, NotedIs, BackwardIs, PlannedIs, WrittenIs};
-ghost use Rattle.rdp_repair.specs.Repair.{RepairIs};
+ghost use Rattle.rdp_repair.specs.Work.{drops, basisOf, notedNumber, keptWords, notedIn, optionsIn, insertsOf, Below, optionBytes, dueBytes, WholeList, NotedIs, BackwardIs, PlannedIs, WrittenIs, Repairs};
 use crate::Repaired;
 use crate::plan;
 use rdp_hazards::table;
@@ -37,20 +37,60 @@ pub fn count_commands(list: &[u8], words: usize) -> usize
     count
 }
 
-// Notes the number of each command at the start of its sixteen bytes of work, and answers how many there are.
-fn note_numbers(list: &[u8], words: usize, work: &mut [u8]) -> usize
+// Whether a repair leaves a command out: the second one its Load, Tile and Pipe syncs.
+fn left_out(afresh: bool, number: u8) -> bool
+    ensures { λ r. ⌜ r ≡ drops afresh number ⌝ }
+{
+    afresh & (((number == SYNC_LOAD) | (number == SYNC_TILE)) | (number == SYNC_PIPE))
+}
+
+// The number to plan with: a no operation's for a command that is left out.
+fn noted_number(afresh: bool, number: u8) -> u8
+    ensures { λ r. ⌜ r ≡ notedNumber afresh number ⌝ }
+{
+    if left_out(afresh, number) {
+        return 0;
+    }
+    number
+}
+
+// How many of a command's words are kept.
+fn kept_words(afresh: bool, number: u8, words: usize) -> usize
+    requires { ⌜ words ≡ wordsOf number ⌝ }
+    ensures { λ r. ⌜ r ≡ keptWords afresh number ⌝ }
+{
+    if left_out(afresh, number) {
+        return 0;
+    }
+    words
+}
+
+// The commands of a list, and the words of those that are kept.
+pub struct Noted {
+    pub commands: usize,
+    pub words: usize,
+}
+
+// Notes the number of each command at the start of its sixteen bytes of work.
+fn note_numbers(list: &[u8], words: usize, work: &mut [u8], afresh: bool) -> Noted
     requires { ⌜ WholeList (now list) words × (16 * length (commandsOf (now list)) ≤ length (now work)) ⌝ }
-    ensures { λ r. ⌜ NotedIs (now (list .entry)) (now (work .entry)) r (now (work .exit)) ⌝ }
+    ensures { λ r. ⌜ NotedIs afresh (now (list .entry)) (now (work .entry)) r (now (work .exit)) ⌝ }
 {
     let mut at: usize = 0;
     let mut i: usize = 0;
+    let mut kept: usize = 0;
     while at < words {
         let number = rdp_words::number_at(list, at);
-        work[16 * i] = number;
-        at += rdp_words::words_of(number);
+        let length = rdp_words::words_of(number);
+        work[16 * i] = noted_number(afresh, number);
+        kept += kept_words(afresh, number, length);
+        at += length;
         i += 1;
     }
-    i
+    Noted {
+        commands: i,
+        words: kept,
+    }
 }
 
 // The backward pass: from the numbers to the choices at each command. The sixteen best totals are carried from command to command. It answers the
@@ -148,11 +188,11 @@ fn write_command(
     after
 }
 
-// Writes the commands of a list with the plan in the work buffer.
-fn write_plan(list: &[u8], words: usize, work: &[u8], out: &mut [u8])
+// Writes the commands of a list that are kept, with the plan in the work buffer.
+fn write_plan(list: &[u8], words: usize, work: &[u8], out: &mut [u8], afresh: bool)
     requires { ⌜ WholeList (now list) words × (16 * length (commandsOf (now list)) ≤ length (now work))
-        × Below 64 (now work) (16 * length (commandsOf (now list))) × (length (dueBytes (now list) (now work)) ≤ length (now out)) ⌝ }
-    ensures { λ _. ⌜ now (out .exit) ≡ overwrite (dueBytes (now (list .entry)) (now (work .entry))) (now (out .entry)) ⌝ }
+        × Below 64 (now work) (16 * length (commandsOf (now list))) × (length (dueBytes afresh (now list) (now work)) ≤ length (now out)) ⌝ }
+    ensures { λ _. ⌜ now (out .exit) ≡ overwrite (dueBytes afresh (now (list .entry)) (now (work .entry))) (now (out .entry)) ⌝ }
 {
     let mut at: usize = 0;
     let mut hazards: u8 = 0;
@@ -160,8 +200,11 @@ fn write_plan(list: &[u8], words: usize, work: &[u8], out: &mut [u8])
     let mut to: usize = 0;
     while at < words {
         let choice = work[16 * i + hazards as usize];
-        let count = rdp_words::words_of(rdp_words::number_at(list, at));
-        to = write_command(list, at, count, choice / 16, out, to);
+        let word = rdp_words::word_at(list, at);
+        let number = rdp_words::number_in(word);
+        let count = rdp_words::words_of(number);
+        let kept = kept_words(afresh, number, count);
+        to = write_command(list, at, kept, choice / 16, out, to);
         at += count;
         hazards = choice % 16;
         i += 1;
@@ -180,7 +223,7 @@ fn clear(work: &mut [u8], n: usize)
     }
 }
 
-// The commands of a list, its least cycles, and its words with the plan's syncs.
+// The commands of a list, its least cycles, and the words that are kept with the plan's syncs.
 pub struct Planned {
     pub commands: usize,
     pub cycles: u32,
@@ -188,14 +231,15 @@ pub struct Planned {
 }
 
 // Leaves the choices at each command in the work buffer.
-fn plan_list(list: &[u8], words: usize, work: &mut [u8]) -> Planned
+fn plan_list(list: &[u8], words: usize, work: &mut [u8], afresh: bool) -> Planned
     requires { ⌜ WholeList (now list) words × (16 * length (commandsOf (now list)) ≤ length (now work)) ⌝ }
-    ensures { λ r. ⌜ PlannedIs (now (list .entry)) (now (work .entry)) r (now (work .exit)) ⌝ }
+    ensures { λ r. ⌜ PlannedIs afresh (now (list .entry)) (now (work .entry)) r (now (work .exit)) ⌝ }
 {
-    let commands = note_numbers(list, words, work);
+    let noted = note_numbers(list, words, work, afresh);
+    let commands = noted.commands;
     let table = table::step_table();
     let cycles = backward(&table, work, commands);
-    let total = words + count_inserts(work, commands);
+    let total = noted.words + count_inserts(work, commands);
     Planned {
         commands,
         cycles,
@@ -204,12 +248,18 @@ fn plan_list(list: &[u8], words: usize, work: &mut [u8]) -> Planned
 }
 
 // Repairs a list that none of refusals 1 to 6 holds for, where the work buffer has sixteen bytes for each command.
-pub fn repair_whole(list: &[u8], words: usize, work: &mut [u8], out: &mut [u8]) -> Repaired
+pub fn repair_whole(
+    list: &[u8],
+    words: usize,
+    work: &mut [u8],
+    out: &mut [u8],
+    afresh: bool,
+) -> Repaired
     requires { ⌜ (outcomeWithin 2048 repairRefusals (now list) .number ≡ 0) × (words ≡ length (now list) / 8)
         × (16 * length (commandsOf (now list)) ≤ length (now work)) ⌝ }
-    ensures { λ r. ⌜ RepairIs (now (list .entry)) (now (work .entry)) (now (out .entry)) r (now (work .exit)) (now (out .exit)) ⌝ }
+    ensures { λ r. ⌜ Repairs (basisOf afresh (now (list .entry))) (now (list .entry)) (now (work .entry)) (now (out .entry)) r (now (work .exit)) (now (out .exit)) ⌝ }
 {
-    let planned = plan_list(list, words, work);
+    let planned = plan_list(list, words, work, afresh);
     let needed = planned.words;
     let used = 16 * planned.commands;
     let place = needed as u32;
@@ -221,7 +271,7 @@ pub fn repair_whole(list: &[u8], words: usize, work: &mut [u8], out: &mut [u8]) 
             cycles: 0,
         };
     }
-    write_plan(list, words, work, out);
+    write_plan(list, words, work, out, afresh);
     clear(work, used);
     Repaired {
         number: 0,
