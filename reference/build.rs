@@ -24,6 +24,7 @@ const FUNCTIONS: &[&str] = &[
     "lanyardrove_stream_feed",
     "lanyardrove_stream_close",
     "lanyardrove_translate",
+    "lanyardrove_repair_afresh",
 ];
 const BENCH_FUNCTIONS: &[&str] = &["lanyardrove_bench_registers"];
 

@@ -1,6 +1,6 @@
 //! The answers as the C functions give them, each in one 64-bit number: bits
 //! 63:56 the number, bits 31:0 the place (words written, at 0), bits 55:32 the
-//! third number (cause for check, cycles for repair, command number for decode,
+//! third number (cause for check, cycles for repairs, command number for decode,
 //! sync for step, total waiting for streams, commands read for translate, else 0).
 //! Only the words of a command are a plain count.
 
@@ -8,6 +8,7 @@ use crate::answer::{Ground, Refusal};
 use crate::kinds::{words_from, Sync};
 use crate::marks::Marks;
 use crate::record::{self, Record};
+use crate::repair::Repaired;
 use crate::stream::{Stream, Told, DAMAGED};
 use crate::{check, decode, display, draw, encode, repair};
 
@@ -73,7 +74,16 @@ pub fn check(list: &[u8]) -> u64 {
 
 /// `lanyardrove_repair`.
 pub fn repair(list: &[u8], work: &mut [u8], out: &mut [u8]) -> u64 {
-    match repair::repair(list, work, out) {
+    repaired(repair::repair(list, work, out))
+}
+
+/// `lanyardrove_repair_afresh`.
+pub fn repair_afresh(list: &[u8], work: &mut [u8], out: &mut [u8]) -> u64 {
+    repaired(repair::repair_afresh(list, work, out))
+}
+
+fn repaired(outcome: Result<Repaired, Refusal>) -> u64 {
+    match outcome {
         Ok(repaired) => accepted(repaired.words, repaired.cycles),
         Err(refusal) => refused(refusal),
     }

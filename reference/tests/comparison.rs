@@ -6,6 +6,7 @@ use std::collections::BTreeSet;
 use reference::answer::Ground;
 use reference::check::check;
 use reference::comparison::calls::Function;
+use reference::comparison::laws::sync_cycles;
 use reference::comparison::lists::list;
 use reference::comparison::rng::Rng;
 use reference::comparison::run::{run, Difference};
@@ -13,6 +14,7 @@ use reference::comparison::side::{Reference, Side};
 use reference::display::{walk, MOST_CALLS};
 use reference::kinds::{commands, is_draw, is_textured_draw, is_unassigned};
 use reference::record::{pack, unpack, Record, NUMBERS};
+use reference::repair::without_syncs;
 use reference::stream::{MOST_TOTAL, ROOM};
 use reference::texture::TEXTURE_BYTES;
 use reference::words::{command_number, word_at};
@@ -145,6 +147,12 @@ enum Fault {
     CutRead,
     /// Bits 63:62 of a display list command are kept.
     TopBitsKept,
+    /// The second repair keeps the syncs present.
+    SyncsKept,
+    /// The second repair counts only the commands that remain.
+    RemainingCounted,
+    /// The second repair tells what it added to the waiting.
+    AddedTold,
 }
 
 /// The reference with one fault.
@@ -298,6 +306,24 @@ impl Side for Faulty {
     fn translate(&self, memory: &[u8], start: u32, out: &mut [u8]) -> u64 {
         faulty_translate(self.0, memory, start, out)
     }
+
+    fn repair_afresh(&self, list: &[u8], work: &mut [u8], out: &mut [u8]) -> u64 {
+        match self.0 {
+            Fault::SyncsKept => Reference.repair(list, work, out),
+            Fault::RemainingCounted if check(list).outcome.is_ok() => {
+                Reference.repair_afresh(&without_syncs(list), work, out)
+            }
+            Fault::AddedTold => told_added(list, Reference.repair_afresh(list, work, out)),
+            _ => Reference.repair_afresh(list, work, out),
+        }
+    }
+}
+
+/// A second repair's answer that tells the cycles beyond those of the list.
+fn told_added(list: &[u8], answer: u64) -> u64 {
+    let cycles = (answer >> 32) as u32 & 0xFF_FFFF;
+    let added = cycles.saturating_sub(sync_cycles(list));
+    with_third(answer, added as usize)
 }
 
 /// A display list translated with one fault.
@@ -465,6 +491,9 @@ fn every_fault_is_found_in_its_function() {
         (Fault::ParameterBit, Function::Translate),
         (Fault::CutRead, Function::Translate),
         (Fault::TopBitsKept, Function::Translate),
+        (Fault::SyncsKept, Function::Afresh),
+        (Fault::RemainingCounted, Function::Afresh),
+        (Fault::AddedTold, Function::Afresh),
     ];
     for (fault, function) in faults {
         assert_eq!(found(fault).call.function, function, "{fault:?}");

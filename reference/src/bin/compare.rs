@@ -21,7 +21,8 @@ static ARCHIVE: Foreign = foreign!(
     lanyardrove_encode,
     lanyardrove_words,
     lanyardrove_step,
-    lanyardrove_translate
+    lanyardrove_translate,
+    lanyardrove_repair_afresh
 );
 
 /// The arguments: seed, number of cases, first case.

@@ -17,10 +17,11 @@ pub enum Function {
     Step,
     Stream,
     Translate,
+    Afresh,
 }
 
 impl Function {
-    pub const COUNT: usize = 9;
+    pub const COUNT: usize = 10;
     pub const ALL: [Function; Function::COUNT] = [
         Function::Check,
         Function::Repair,
@@ -31,6 +32,7 @@ impl Function {
         Function::Step,
         Function::Stream,
         Function::Translate,
+        Function::Afresh,
     ];
 
     pub fn name(self) -> &'static str {
@@ -44,6 +46,7 @@ impl Function {
             Function::Step => "step",
             Function::Stream => "stream",
             Function::Translate => "translate",
+            Function::Afresh => "afresh",
         }
     }
 }
@@ -116,6 +119,9 @@ impl Call {
                 let start = self.start as u32;
                 side.translate(self.memory.slice(), start, self.out.slice_mut())
             }
+            Function::Afresh => {
+                side.repair_afresh(list, self.work.slice_mut(), self.out.slice_mut())
+            }
         }
     }
 
@@ -154,7 +160,7 @@ impl fmt::Display for Call {
         )?;
         match self.function {
             Function::Check => Ok(()),
-            Function::Repair => {
+            Function::Repair | Function::Afresh => {
                 writeln!(
                     f,
                     "work {} bytes, out {} bytes",

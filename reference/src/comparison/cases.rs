@@ -12,7 +12,7 @@ use crate::decode::decode;
 use crate::display::walk as walk_display;
 use crate::draw::{works, Work};
 use crate::kinds::{commands, Command};
-use crate::repair::{least_plan, with_plan, REPAIR_LIMIT, WORK_BYTES};
+use crate::repair::{least_plan, with_plan, without_syncs, REPAIR_LIMIT, WORK_BYTES};
 use crate::texture::TEXTURE_BYTES;
 use crate::words::WORD_BYTES;
 
@@ -25,12 +25,13 @@ pub fn calls(rng: &mut Rng, case: u64, list: &[u8]) -> Vec<Call> {
         decode_call(rng, list),
         decode_call(rng, tail),
         encode_call(rng, case),
-        repair_call(rng, list),
+        repair_call(rng, Function::Repair, list, <[u8]>::to_vec),
         draw_call(rng, list),
         words_call(rng, case),
         step_call(rng, case),
         stream_call(rng, list),
         translate_call(rng, case),
+        afresh_call(rng, list),
     ]
 }
 
@@ -95,8 +96,9 @@ pub fn room(rng: &mut Rng, needed: usize, step: usize) -> Lent<u8> {
     Lent::random(rng, length)
 }
 
-fn repair_call(rng: &mut Rng, list: &[u8]) -> Call {
-    let (work, out) = repair_needs(list).unwrap_or_else(|| {
+/// A repair of a list, of which the commands that remain are given syncs.
+fn repair_call(rng: &mut Rng, function: Function, list: &[u8], remaining: Remaining) -> Call {
+    let (work, out) = repair_needs(list, remaining).unwrap_or_else(|| {
         let most = 2 * list.len() as u64 + 16;
         (rng.below(most) as usize, rng.below(most) as usize)
     });
@@ -104,18 +106,46 @@ fn repair_call(rng: &mut Rng, list: &[u8]) -> Call {
         list: Lent::of(rng, list),
         work: room(rng, work, WORK_BYTES),
         out: room(rng, out, WORD_BYTES),
-        ..Call::of(Function::Repair)
+        ..Call::of(function)
     }
 }
 
 /// The bytes of work buffer and output that a repair needs, unless it is refused
 /// on grounds 1 to 6.
-fn repair_needs(list: &[u8]) -> Option<(usize, usize)> {
+fn repair_needs(list: &[u8], remaining: Remaining) -> Option<(usize, usize)> {
     let walked = walk(list, REPAIR_LIMIT, Syncs::PassedOver);
     walked.outcome.ok()?;
-    let given: Vec<Command> = commands(list).collect();
-    let written = with_plan(list, &given, &least_plan(&given).adds);
-    Some((given.len() * WORK_BYTES, written.len()))
+    let remaining = remaining(list);
+    let given: Vec<Command> = commands(&remaining).collect();
+    let written = with_plan(&remaining, &given, &least_plan(&given).adds);
+    Some((commands(list).count() * WORK_BYTES, written.len()))
+}
+
+type Remaining = fn(&[u8]) -> Vec<u8>;
+
+/// A second repair, half of them of a list with more syncs.
+fn afresh_call(rng: &mut Rng, list: &[u8]) -> Call {
+    let fuller = full_of_syncs(rng, list);
+    let list = rng.pick(&[list, &fuller]);
+    repair_call(rng, Function::Afresh, list, without_syncs)
+}
+
+/// "Old lists are full of Sync Pipe", and here of others too, with any other bits.
+fn full_of_syncs(rng: &mut Rng, list: &[u8]) -> Vec<u8> {
+    let mut fuller = Vec::new();
+    let mut copied = 0;
+    for command in commands(list) {
+        let at = command.place * WORD_BYTES;
+        fuller.extend_from_slice(&list[copied..at]);
+        copied = at;
+        if rng.one_in(3) {
+            let number = rng.pick(&[0x26, 0x27, 0x27, 0x27, 0x28]);
+            let sync = rng.number() & !(0x3F << 56) | number << 56;
+            fuller.extend(sync.to_be_bytes());
+        }
+    }
+    fuller.extend_from_slice(&list[copied..]);
+    fuller
 }
 
 /// The longest memory that a case lends.

@@ -30,6 +30,7 @@ pub struct Foreign {
     pub words: Option<Words>,
     pub step: Option<Step>,
     pub translate: Option<Translate>,
+    pub repair_afresh: Option<Repair>,
 }
 
 /// Declares functions of C by their names, and gives them as a `Foreign`: check,
@@ -39,7 +40,10 @@ pub struct Foreign {
 macro_rules! foreign {
     (
         $check:ident, $repair:ident, $draw:ident, $feed:ident, $close:ident
-        $(, $decode:ident, $encode:ident, $words:ident, $step:ident, $translate:ident)?
+        $(
+            , $decode:ident, $encode:ident, $words:ident, $step:ident, $translate:ident,
+            $repair_afresh:ident
+        )?
     ) => {{
         extern "C" {
             fn $check(list: *const u8, list_length: usize) -> u64;
@@ -91,6 +95,14 @@ macro_rules! foreign {
                     out: *mut u8,
                     out_length: usize,
                 ) -> u64;
+                fn $repair_afresh(
+                    list: *const u8,
+                    list_length: usize,
+                    work: *mut u8,
+                    work_length: usize,
+                    out: *mut u8,
+                    out_length: usize,
+                ) -> u64;
             )?
         }
         $crate::comparison::foreign::Foreign {
@@ -104,10 +116,18 @@ macro_rules! foreign {
             words: $crate::foreign!($($words)?),
             step: $crate::foreign!($($step)?),
             translate: $crate::foreign!($($translate)?),
+            repair_afresh: $crate::foreign!($($repair_afresh)?),
         }
     }};
     () => { None };
     ($function:ident) => { Some($function) };
+}
+
+fn call_repair(repair: Repair, list: &[u8], work: &mut [u8], out: &mut [u8]) -> u64 {
+    let (list, list_length) = (list.as_ptr(), list.len());
+    let (work, work_length) = (work.as_mut_ptr(), work.len());
+    let (out, out_length) = (out.as_mut_ptr(), out.len());
+    unsafe { repair(list, list_length, work, work_length, out, out_length) }
 }
 
 impl Side for Foreign {
@@ -116,10 +136,7 @@ impl Side for Foreign {
     }
 
     fn repair(&self, list: &[u8], work: &mut [u8], out: &mut [u8]) -> u64 {
-        let (list, list_length) = (list.as_ptr(), list.len());
-        let (work, work_length) = (work.as_mut_ptr(), work.len());
-        let (out, out_length) = (out.as_mut_ptr(), out.len());
-        unsafe { (self.repair)(list, list_length, work, work_length, out, out_length) }
+        call_repair(self.repair, list, work, out)
     }
 
     fn draw(&self, list: &[u8], memory: &mut [u8], start: u64, texture: &mut [u8]) -> u64 {
@@ -195,5 +212,12 @@ impl Side for Foreign {
         let (memory, memory_length) = (memory.as_ptr(), memory.len());
         let (out, out_length) = (out.as_mut_ptr(), out.len());
         unsafe { translate(memory, memory_length, start, out, out_length) }
+    }
+
+    fn repair_afresh(&self, list: &[u8], work: &mut [u8], out: &mut [u8]) -> u64 {
+        match self.repair_afresh {
+            Some(repair_afresh) => call_repair(repair_afresh, list, work, out),
+            None => packed::repair_afresh(list, work, out),
+        }
     }
 }

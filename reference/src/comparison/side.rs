@@ -16,6 +16,7 @@ pub trait Side {
     fn feed(&self, record: &mut Record, portion: &[u8]) -> u64;
     fn close(&self, record: &mut Record) -> u64;
     fn translate(&self, memory: &[u8], start: u32, out: &mut [u8]) -> u64;
+    fn repair_afresh(&self, list: &[u8], work: &mut [u8], out: &mut [u8]) -> u64;
 }
 
 /// This crate.
@@ -60,5 +61,9 @@ impl Side for Reference {
 
     fn translate(&self, memory: &[u8], start: u32, out: &mut [u8]) -> u64 {
         packed::translate(memory, start, out)
+    }
+
+    fn repair_afresh(&self, list: &[u8], work: &mut [u8], out: &mut [u8]) -> u64 {
+        packed::repair_afresh(list, work, out)
     }
 }
