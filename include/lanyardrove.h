@@ -82,8 +82,8 @@ static inline uint32_t lanyardrove_number(uint64_t answer) { return (uint32_t)(a
 static inline uint32_t lanyardrove_place(uint64_t answer) { return (uint32_t)answer; }
 static inline uint32_t lanyardrove_third(uint64_t answer) { return (uint32_t)(answer >> 32) & 0xFFFFFFu; }
 
-/* The third number by its meaning: the cause that the check gives; the cycles, of a repair those that it inserted, of a stream
-   those that its syncs have waited; the number of a decoded command; the display list commands that translating has read.
+/* The third number by its meaning: the cause that the check gives; the cycles, of a repair those that it inserted, of a repair
+   afresh all that the written list waits, of a stream those that its syncs have waited; the number of a decoded command; the display list commands that translating has read.
    Those of a repair and of decoding are 0 at a refusal. In the answers of drawing and encoding the third number is 0.
    Of a step's answer the place is the hazards after it, and the third number's low two bits are the sync required. */
 static inline uint32_t lanyardrove_cause(uint64_t checked) { return lanyardrove_third(checked); }
@@ -162,6 +162,18 @@ uint64_t lanyardrove_step(uint32_t hazards, uint32_t number);
 uint64_t lanyardrove_repair(const uint8_t *list, size_t list_length,
                             uint8_t *work, size_t work_length,
                             uint8_t *out, size_t out_length);
+
+/* The second repair of a list: forgets its Sync Load, Sync Tile and Sync Pipe commands, whatever their other bits, and chooses
+   afresh. It writes all other commands to the front of out, in order and byte for byte, with syncs between them: the written
+   list passes the check, and no list of those other commands that passes waits fewer cycles (25, 33 and 50 each).
+   Answers 0, the words written as the place and as lanyardrove_cycles all that the written list waits; or the first refusal of
+   lanyardrove_repair, in its order and of the list as given, a sync that would be forgotten among its commands: 1 to 6 and 19,
+   then 13 at the number of these commands, then 14 at the words that this repair needs.
+   Where the given list passes the check, it waits at least as long; what was written is written again, byte for byte.
+   work and out: as for lanyardrove_repair, by the commands as given, and left as there. */
+uint64_t lanyardrove_repair_afresh(const uint8_t *list, size_t list_length,
+                                   uint8_t *work, size_t work_length,
+                                   uint8_t *out, size_t out_length);
 
 /* The bytes of texture memory. */
 #define LANYARDROVE_TEXTURE_BYTES 4096

@@ -2,7 +2,7 @@
  * Calls every function of include/lanyardrove.h through the archive: empty, short, cut and longest lists, null pointers where
  * a length is 0, document 01's examples, guard bytes around every buffer, every command number there and back, its length,
  * its step from each of the sixteen hazards, every unassigned number, lists in portions with the cycles that their syncs wait,
- * textures that are loaded and copied, and display lists translated.
+ * textures that are loaded and copied, lists whose syncs are chosen afresh, and display lists translated.
  * It compiles as C11 and as C++17. The last line counts the checks; the exit status says whether all passed.
  */
 #include "lanyardrove.h"
@@ -150,6 +150,7 @@ static void null_pointers(void) {
     size_t n;
     ANSWERS(lanyardrove_check(NULL, 0), 0, 0, 0);
     ANSWERS(lanyardrove_repair(NULL, 0, NULL, 0, NULL, 0), 0, 0, 0);
+    ANSWERS(lanyardrove_repair_afresh(NULL, 0, NULL, 0, NULL, 0), 0, 0, 0);
     fresh(&a_texture);
     ANSWERS(lanyardrove_draw(NULL, 0, NULL, 0, 0, NULL, 0), 16, 0, 0);
     ANSWERS(lanyardrove_draw(NULL, 0, NULL, 0, 0, a_texture.bytes, LANYARDROVE_TEXTURE_BYTES), 0, 0, 0);
@@ -178,6 +179,8 @@ static void null_pointers(void) {
     ANSWERS(lanyardrove_repair(a_list.bytes, n, NULL, 0, NULL, 0), 13, 0, 1);
     ANSWERS(lanyardrove_repair(a_list.bytes, n, NULL, 0, an_out.bytes, 8), 13, 0, 1);
     ANSWERS(lanyardrove_repair(a_list.bytes, n, a_work.bytes, 16, NULL, 0), 14, 0, 1);
+    ANSWERS(lanyardrove_repair_afresh(a_list.bytes, n, NULL, 0, NULL, 0), 13, 0, 1);
+    ANSWERS(lanyardrove_repair_afresh(a_list.bytes, n, a_work.bytes, 16, NULL, 0), 14, 0, 1);
     CHECK(all_are(a_work.bytes, 16, 0) && untouched_from(&a_work, 16));
 
     /* fields of a Set Fill Color, with nothing else */
@@ -290,20 +293,22 @@ static void check_most_words(void) {
     free(list);
 }
 
-/* ---- The repair: examples J, K and M, refusals, the longest. */
+/* ---- The repair: examples J, K and M, refusals, the longest; and the second repair, which forgets the syncs of a list. */
+
+typedef uint64_t (*repair_function)(const uint8_t *list, size_t list_length, uint8_t *work, size_t work_length, uint8_t *out, size_t out_length);
 
 /* A list in, a list out, with exactly the room needed; and the refusals where there is a byte less. */
-static void repairs(const uint64_t *words, size_t n, unsigned commands, const uint64_t *repaired, size_t m, unsigned cycles, int line) {
+static void repairs(repair_function repair, const uint64_t *words, size_t n, unsigned commands, const uint64_t *repaired, size_t m, unsigned cycles, int line) {
     size_t length = list_of(words, n);
     fresh(&a_work);
     fresh(&an_out);
-    expect_answer(lanyardrove_repair(a_list.bytes, length, a_work.bytes, 16 * commands - 1, an_out.bytes, 8 * m), 13, 0, commands, line);
+    expect_answer(repair(a_list.bytes, length, a_work.bytes, 16 * commands - 1, an_out.bytes, 8 * m), 13, 0, commands, line);
     expect(untouched_from(&a_work, 0) && untouched_from(&an_out, 0), "13 leaves all bytes", line);
-    expect_answer(lanyardrove_repair(a_list.bytes, length, a_work.bytes, 16 * commands, an_out.bytes, 8 * m - 1), 14, 0, (unsigned)m, line);
+    expect_answer(repair(a_list.bytes, length, a_work.bytes, 16 * commands, an_out.bytes, 8 * m - 1), 14, 0, (unsigned)m, line);
     expect(all_are(a_work.bytes, 16 * commands, 0) && untouched_from(&a_work, 16 * commands), "14 zeroes the work buffer", line);
     expect(untouched_from(&an_out, 0), "14 leaves the output", line);
     fresh(&a_work);
-    expect_answer(lanyardrove_repair(a_list.bytes, length, a_work.bytes, 16 * commands, an_out.bytes, 8 * m), 0, cycles, (unsigned)m, line);
+    expect_answer(repair(a_list.bytes, length, a_work.bytes, 16 * commands, an_out.bytes, 8 * m), 0, cycles, (unsigned)m, line);
     expect(begins(an_out.bytes, repaired, m) && untouched_from(&an_out, 8 * m), "the repaired list, and nothing beyond", line);
     expect(all_are(a_work.bytes, 16 * commands, 0) && untouched_from(&a_work, 16 * commands), "0 zeroes the work buffer", line);
     expect(begins(a_list.bytes, words, n) && untouched_from(&a_list, length), "the given list stays", line);
@@ -311,18 +316,23 @@ static void repairs(const uint64_t *words, size_t n, unsigned commands, const ui
     /* room to spare changes nothing */
     fresh(&a_work);
     fresh(&an_out);
-    expect_answer(lanyardrove_repair(a_list.bytes, length, a_work.bytes, ROOM, an_out.bytes, ROOM), 0, cycles, (unsigned)m, line);
+    expect_answer(repair(a_list.bytes, length, a_work.bytes, ROOM, an_out.bytes, ROOM), 0, cycles, (unsigned)m, line);
     expect(begins(an_out.bytes, repaired, m) && untouched_from(&an_out, 8 * m), "the repaired list, with room to spare", line);
     expect(all_are(a_work.bytes, 16 * commands, 0) && untouched_from(&a_work, 16 * commands), "the work buffer, with room to spare", line);
 }
 #define REPAIRS(words, commands, repaired, cycles) \
-    repairs((words), sizeof(words) / 8, (commands), (repaired), sizeof(repaired) / 8, (cycles), __LINE__)
+    repairs(lanyardrove_repair, (words), sizeof(words) / 8, (commands), (repaired), sizeof(repaired) / 8, (cycles), __LINE__)
+#define REPAIRS_AFRESH(words, commands, repaired, cycles) \
+    repairs(lanyardrove_repair_afresh, (words), sizeof(words) / 8, (commands), (repaired), sizeof(repaired) / 8, (cycles), __LINE__)
 
+/* Both repairs refuse the list as it is given. */
 static void repair_refuses(size_t length, unsigned number, unsigned place, int line) {
     fresh(&a_work);
     fresh(&an_out);
     expect_answer(lanyardrove_repair(a_list.bytes, length, a_work.bytes, ROOM, an_out.bytes, ROOM), number, 0, place, line);
     expect(untouched_from(&a_work, 0) && untouched_from(&an_out, 0), "a refusal leaves all bytes", line);
+    expect_answer(lanyardrove_repair_afresh(a_list.bytes, length, a_work.bytes, ROOM, an_out.bytes, ROOM), number, 0, place, line);
+    expect(untouched_from(&a_work, 0) && untouched_from(&an_out, 0), "a refusal of the second repair leaves all bytes", line);
 }
 #define REPAIR_REFUSES(length, number, place) repair_refuses((length), (number), (place), __LINE__)
 
@@ -374,6 +384,93 @@ static void repair_lists(void) {
         }
         CHECK(n == 4092);
         REPAIRS(most, 2048, repaired, 2044 * 25);
+    }
+}
+
+/* Request #109. */
+static void repair_lists_afresh(void) {
+    const uint64_t any = 0xC0FFFFFFFFFFFFFFu; /* bits that a sync may have besides its number */
+    const uint64_t old[] = {S, PIPE | any, R, TILE | any, LOAD, FULL}, old_repaired[] = {S, R, FULL};
+    const uint64_t twice[] = {S, R, PIPE, L, PIPE | any, C}, late[] = {S, R, L, PIPE, C}, moved[] = {S, R, PIPE, L, C};
+    const uint64_t tile[] = {S, R, TILE, PIPE, PIPE, C}, h[] = {S, R, PIPE, C};
+    const uint64_t block[] = {LOAD, BLOCK, PIPE, SET_TILE, TILE}, block_repaired[] = {BLOCK, TILE, SET_TILE};
+    const uint64_t syncs[] = {LOAD, TILE | any, PIPE};
+    const uint64_t full[] = {FULL, PIPE}, bare[] = {PIPE, R}, cut[] = {S, TILE, 0x2400000000000000u}, unassigned[] = {PIPE, 0x3100000000000000u};
+    static uint64_t pipes[2048], most[2048], repaired[2048];
+    size_t i, n = 0, length;
+
+    REPAIRS_AFRESH(old, 8, old_repaired, 0);
+    REPAIRS_AFRESH(twice, 8, moved, 50);
+    REPAIRS_AFRESH(late, 7, moved, 50);
+    REPAIRS_AFRESH(moved, 7, moved, 50); /* a second time changes nothing */
+    REPAIRS_AFRESH(tile, 8, h, 50);
+    REPAIRS_AFRESH(block, 5, block_repaired, 33);
+
+    /* a list of syncs is written as nothing, and has commands all the same */
+    length = LIST(syncs);
+    fresh(&a_work);
+    fresh(&an_out);
+    ANSWERS(lanyardrove_repair_afresh(a_list.bytes, length, a_work.bytes, 47, an_out.bytes, ROOM), 13, 0, 3);
+    CHECK(untouched_from(&a_work, 0));
+    ANSWERS(lanyardrove_repair_afresh(a_list.bytes, length, a_work.bytes, ROOM, NULL, 0), 0, 0, 0);
+    CHECK(all_are(a_work.bytes, 48, 0) && untouched_from(&a_work, 48) && untouched_from(&an_out, 0));
+
+    /* the list is judged as it is given, with the syncs that would be forgotten */
+    REPAIR_REFUSES(LIST(full), 4, 1);
+    REPAIR_REFUSES(LIST(bare), 5, 1);
+    REPAIR_REFUSES(LIST(cut), 3, 4);
+    REPAIR_REFUSES(LIST(unassigned), 19, 1);
+    for (i = 0; i < 2048; i++) pipes[i] = PIPE;
+    length = list_of(pipes, 2048);
+    ANSWERS(lanyardrove_repair_afresh(a_list.bytes, length + 1, a_work.bytes, ROOM, an_out.bytes, ROOM), 1, 0, 2048);
+    ANSWERS(lanyardrove_repair_afresh(a_list.bytes, length - 1, a_work.bytes, ROOM, an_out.bytes, ROOM), 2, 0, 2047);
+    ANSWERS(lanyardrove_repair_afresh(a_list.bytes, length, a_work.bytes, ROOM, an_out.bytes, 0), 0, 0, 0);
+
+    /* the longest list, where every other word is a Sync Pipe: the least syncs come in their place */
+    for (i = 0; i < 2048; i++) most[i] = i < 3 ? (i == 0 ? S1 : i == 1 ? S2 : S3) : i % 2 ? PIPE : i % 4 ? L : R;
+    for (i = 0; i < 2048; i++) {
+        if (i > 4 && most[i] != PIPE) repaired[n++] = LOAD;
+        if (most[i] != PIPE) repaired[n++] = most[i];
+    }
+    CHECK(n == 3 + 1022 + 1021);
+    repairs(lanyardrove_repair_afresh, most, 2048, 2048, repaired, n, 25 * 1021, __LINE__);
+}
+
+/* The second repair is the first of what remains; where the list passes, it does not wait longer; and again it changes nothing. */
+static void random_repairs_afresh(void) {
+    static const uint64_t some[] = {R, R, L, L, C, N, TILE, LOAD, PIPE, PIPE, 0xE7AAAAAAAAAAAAAAu, SET_TILE, S1, S3, 0x3E00000000000000u};
+    static uint8_t written[640];
+    uint64_t words[40], kept[40];
+    size_t round;
+    for (round = 0; round < 2000; round++) {
+        size_t n = 3 + (size_t)(random_word() % 37), m = 3, i;
+        unsigned waits = 0;
+        uint64_t answer, other;
+        int passes;
+        words[0] = kept[0] = S1;
+        words[1] = kept[1] = S2;
+        words[2] = kept[2] = S3;
+        for (i = 3; i < n; i++) {
+            unsigned number;
+            words[i] = some[random_word() % (sizeof some / 8)];
+            number = (unsigned)(words[i] >> 56) & 63;
+            waits += number == 0x26 ? 25 : number == 0x28 ? 33 : number == 0x27 ? 50 : 0;
+            if (number < 0x26 || number > 0x28) kept[m++] = words[i];
+        }
+        list_of(words, n);
+        passes = lanyardrove_number(lanyardrove_check(a_list.bytes, 8 * n)) == 0;
+        fresh(&a_work);
+        fresh(&an_out);
+        answer = lanyardrove_repair_afresh(a_list.bytes, 8 * n, a_work.bytes, 16 * n, an_out.bytes, 16 * n);
+        CHECK(lanyardrove_number(answer) == 0 && untouched_from(&an_out, 8 * (size_t)lanyardrove_place(answer)));
+        CHECK(all_are(a_work.bytes, 16 * n, 0) && untouched_from(&a_work, 16 * n));
+        CHECK(!passes || lanyardrove_cycles(answer) <= waits);
+        memcpy(written, an_out.bytes, 8 * (size_t)lanyardrove_place(answer));
+        list_of(kept, m);
+        other = lanyardrove_repair(a_list.bytes, 8 * m, a_work.bytes, 16 * m, an_out.bytes, 16 * n);
+        CHECK(answer == other && memcmp(an_out.bytes, written, 8 * (size_t)lanyardrove_place(answer)) == 0);
+        other = lanyardrove_repair_afresh(written, 8 * (size_t)lanyardrove_place(answer), a_work.bytes, 32 * n, an_out.bytes, 16 * n);
+        CHECK(answer == other && memcmp(an_out.bytes, written, 8 * (size_t)lanyardrove_place(answer)) == 0);
     }
 }
 
@@ -1748,6 +1845,8 @@ int main(void) {
     check_most_words();
     repair_lists();
     random_repairs();
+    repair_lists_afresh();
+    random_repairs_afresh();
     draw_lists();
     load_and_copy();
     later_bytes_stay();
