@@ -25,6 +25,8 @@ const FUNCTIONS: &[&str] = &[
     "lanyardrove_stream_close",
     "lanyardrove_translate",
     "lanyardrove_repair_afresh",
+    "lanyardrove_compare",
+    "lanyardrove_rest",
 ];
 const BENCH_FUNCTIONS: &[&str] = &["lanyardrove_bench_registers"];
 

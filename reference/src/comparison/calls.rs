@@ -18,10 +18,12 @@ pub enum Function {
     Stream,
     Translate,
     Afresh,
+    Compare,
+    Rest,
 }
 
 impl Function {
-    pub const COUNT: usize = 10;
+    pub const COUNT: usize = 12;
     pub const ALL: [Function; Function::COUNT] = [
         Function::Check,
         Function::Repair,
@@ -33,6 +35,8 @@ impl Function {
         Function::Stream,
         Function::Translate,
         Function::Afresh,
+        Function::Compare,
+        Function::Rest,
     ];
 
     pub fn name(self) -> &'static str {
@@ -47,6 +51,8 @@ impl Function {
             Function::Stream => "stream",
             Function::Translate => "translate",
             Function::Afresh => "afresh",
+            Function::Compare => "compare",
+            Function::Rest => "rest",
         }
     }
 }
@@ -65,6 +71,11 @@ pub struct Call {
     /// The address of lent memory, or the offset of a display list in it.
     pub start: u64,
     pub list: Lent<u8>,
+    /// The list that a first one is compared with.
+    pub second: Lent<u8>,
+    /// The numbers that were lent for entries.
+    pub count: usize,
+    pub entries: Lent<u32>,
     pub suffix: Lent<u8>,
     pub fields: Lent<u64>,
     pub work: Lent<u8>,
@@ -85,6 +96,9 @@ impl Call {
             hazards: 0,
             start: 0,
             list: Lent::default(),
+            second: Lent::default(),
+            count: 0,
+            entries: Lent::default(),
             suffix: Lent::default(),
             fields: Lent::default(),
             work: Lent::default(),
@@ -122,6 +136,8 @@ impl Call {
             Function::Afresh => {
                 side.repair_afresh(list, self.work.slice_mut(), self.out.slice_mut())
             }
+            Function::Compare => side.compare(list, self.second.slice(), self.entries.slice_mut()),
+            Function::Rest => side.rest(list, self.second.slice(), self.count),
         }
     }
 
@@ -129,6 +145,7 @@ impl Call {
     pub fn first_difference(&self, other: &Call) -> Option<(&'static str, i64)> {
         let bytes = [
             ("list", &self.list, &other.list),
+            ("second", &self.second, &other.second),
             ("suffix", &self.suffix, &other.suffix),
             ("work", &self.work, &other.work),
             ("out", &self.out, &other.out),
@@ -140,11 +157,14 @@ impl Call {
         };
         let fields = self.fields.first_difference(&other.fields);
         let in_fields = fields.map(|place| ("fields", place));
+        let entries = self.entries.first_difference(&other.entries);
+        let in_entries = entries.map(|place| ("entries", place));
         let in_portions = self.portions.first_difference(&other.portions);
         bytes
             .into_iter()
             .find_map(differs)
             .or(in_fields)
+            .or(in_entries)
             .or(in_portions)
     }
 }
@@ -185,6 +205,7 @@ impl fmt::Display for Call {
             }
             Function::Stream => write!(f, "{}", self.portions),
             Function::Translate => self.describe_translation(f),
+            Function::Compare | Function::Rest => self.describe_pair(f),
         }
     }
 }
@@ -195,6 +216,18 @@ impl Call {
         writeln!(f, "fields {:x?}", self.fields.slice())?;
         writeln!(f, "suffix {}", hexadecimal(self.suffix.slice()))?;
         writeln!(f, "out {} bytes", self.out.len())
+    }
+
+    fn describe_pair(&self, f: &mut fmt::Formatter) -> fmt::Result {
+        let second = self.second.slice();
+        writeln!(
+            f,
+            "second ({} bytes): {}",
+            second.len(),
+            hexadecimal(second)
+        )?;
+        let count = self.count.max(self.entries.len());
+        writeln!(f, "entries {count} numbers")
     }
 
     fn describe_translation(&self, f: &mut fmt::Formatter) -> fmt::Result {

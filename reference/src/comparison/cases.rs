@@ -6,9 +6,11 @@ use crate::comparison::calls::{Call, Function};
 use crate::comparison::displays::display;
 use crate::comparison::encodings::encode_call;
 use crate::comparison::lent::Lent;
+use crate::comparison::pairs::pair;
 use crate::comparison::portions::Portions;
 use crate::comparison::rng::Rng;
 use crate::decode::decode;
+use crate::differences::{compare, ENTRY};
 use crate::display::walk as walk_display;
 use crate::draw::{works, Work};
 use crate::kinds::{commands, Command};
@@ -20,6 +22,7 @@ use crate::words::WORD_BYTES;
 pub fn calls(rng: &mut Rng, case: u64, list: &[u8]) -> Vec<Call> {
     let place = rng.below(list.len() as u64 / 8 + 1) as usize;
     let tail = &list[place * WORD_BYTES..];
+    let [compare_call, rest_call] = pair_calls(rng, case, list);
     vec![
         check_call(rng, list),
         decode_call(rng, list),
@@ -32,6 +35,8 @@ pub fn calls(rng: &mut Rng, case: u64, list: &[u8]) -> Vec<Call> {
         stream_call(rng, list),
         translate_call(rng, case),
         afresh_call(rng, list),
+        compare_call,
+        rest_call,
     ]
 }
 
@@ -231,5 +236,39 @@ fn translate_call(rng: &mut Rng, case: u64) -> Call {
         memory: Lent::of(rng, &display.memory),
         out: room(rng, written * WORD_BYTES, WORD_BYTES),
         ..Call::of(Function::Translate)
+    }
+}
+
+/// Two lists compared, and the rest of the longer one.
+fn pair_calls(rng: &mut Rng, case: u64, list: &[u8]) -> [Call; 2] {
+    let (first, second) = pair(rng, case, list);
+    let needed = compare(&first, &second, &mut []).map_or_else(|refusal| refusal.place, |_| 0);
+    let count = numbers(rng, needed, ENTRY);
+    let call = |rng: &mut Rng, function| Call {
+        list: Lent::of(rng, &first),
+        second: Lent::of(rng, &second),
+        ..Call::of(function)
+    };
+    let compare = Call {
+        entries: Lent::random_numbers(rng, count),
+        ..call(rng, Function::Compare)
+    };
+    let count = if rng.one_in(20) { usize::MAX } else { count };
+    let rest = Call {
+        count,
+        ..call(rng, Function::Rest)
+    };
+    [compare, rest]
+}
+
+/// A count of numbers: exactly enough, one or an entry too few, more, or none.
+fn numbers(rng: &mut Rng, needed: usize, entry: usize) -> usize {
+    let more = rng.between(1, 9) as usize;
+    match rng.below(12) {
+        0 => needed.saturating_sub(1),
+        1 => needed.saturating_sub(entry),
+        2..=4 => needed + more,
+        5 => 0,
+        _ => needed,
     }
 }

@@ -17,6 +17,8 @@ pub trait Side {
     fn close(&self, record: &mut Record) -> u64;
     fn translate(&self, memory: &[u8], start: u32, out: &mut [u8]) -> u64;
     fn repair_afresh(&self, list: &[u8], work: &mut [u8], out: &mut [u8]) -> u64;
+    fn compare(&self, first: &[u8], second: &[u8], entries: &mut [u32]) -> u64;
+    fn rest(&self, first: &[u8], second: &[u8], count: usize) -> u64;
 }
 
 /// This crate.
@@ -65,5 +67,13 @@ impl Side for Reference {
 
     fn repair_afresh(&self, list: &[u8], work: &mut [u8], out: &mut [u8]) -> u64 {
         packed::repair_afresh(list, work, out)
+    }
+
+    fn compare(&self, first: &[u8], second: &[u8], entries: &mut [u32]) -> u64 {
+        packed::compare(first, second, entries)
+    }
+
+    fn rest(&self, first: &[u8], second: &[u8], count: usize) -> u64 {
+        packed::rest(first, second, count)
     }
 }
