@@ -2,7 +2,7 @@
  * Calls every function of include/lanyardrove.h through the archive: empty, short, cut and longest lists, null pointers where
  * a length is 0, document 01's examples, guard bytes around every buffer, every command number there and back, its length,
  * its step from each of the sixteen hazards, every unassigned number, lists in portions with the cycles that their syncs wait,
- * textures that are loaded and copied, lists whose syncs are chosen afresh, and display lists translated.
+ * textures that are loaded and copied, lists whose syncs are chosen afresh, two lists compared, and display lists translated.
  * It compiles as C11 and as C++17. The last line counts the checks; the exit status says whether all passed.
  */
 #include "lanyardrove.h"
@@ -136,6 +136,7 @@ static void parts(void) {
     CHECK(lanyardrove_cycles(answer) == 100001);
     CHECK(lanyardrove_command(answer) == 100001);
     CHECK(lanyardrove_commands_read(answer) == 100001);
+    CHECK(lanyardrove_list(answer) == 100001);
     CHECK(lanyardrove_place(answer) == 4);
     answer = ~(uint64_t)0;
     CHECK(lanyardrove_number(answer) == 0xFF && lanyardrove_third(answer) == 0xFFFFFF && lanyardrove_place(answer) == 0xFFFFFFFFu);
@@ -507,6 +508,121 @@ static void random_repairs(void) {
         ANSWERS(lanyardrove_check(an_out.bytes, 8 * (n + added)), 0, (unsigned)(n + added), (unsigned)(n + added));
         answer = lanyardrove_check(a_list.bytes, 8 * n);
         CHECK((lanyardrove_number(answer) == 0) == (added == 0));
+    }
+}
+
+/* ---- Two lists compared (request #110). */
+
+#define LENT_NUMBERS 64
+static uint32_t all_entries[LENT_NUMBERS + 16];
+#define ENTRIES (all_entries + 8)
+
+static void fresh_entries(void) {
+    size_t i;
+    for (i = 0; i < LENT_NUMBERS + 16; i++) all_entries[i] = 0xA5A5A5A5u;
+}
+
+static int entries_untouched_from(size_t from) {
+    size_t i;
+    for (i = 0; i < 8; i++)
+        if (all_entries[i] != 0xA5A5A5A5u) return 0;
+    for (i = 8 + from; i < LENT_NUMBERS + 16; i++)
+        if (all_entries[i] != 0xA5A5A5A5u) return 0;
+    return 1;
+}
+
+/* Two lists: the entries, with exactly the room needed and with one number less, and the rest: a list and its byte. */
+static void compares(const uint64_t *one, size_t n, const uint64_t *two, size_t m, const uint32_t *entries, size_t count, unsigned list, unsigned byte, int line) {
+    static uint8_t second[8 * 64];
+    size_t length = list_of(one, n), i;
+    for (i = 0; i < m; i++) put(second + 8 * i, two[i]);
+    fresh_entries();
+    if (count > 0) {
+        expect_answer(lanyardrove_compare(a_list.bytes, length, second, 8 * m, ENTRIES, count - 1), 14, 0, (unsigned)count, line);
+        expect(entries_untouched_from(0), "14 leaves the entries", line);
+        expect_answer(lanyardrove_rest(a_list.bytes, length, second, 8 * m, count - 1), 14, 0, (unsigned)length, line);
+    }
+    expect_answer(lanyardrove_compare(a_list.bytes, length, second, 8 * m, ENTRIES, count), 0, 0, (unsigned)count, line);
+    expect(entries_untouched_from(count), "nothing beyond the entries", line);
+    for (i = 0; i < count; i++) expect(ENTRIES[i] == entries[i], "an entry", line);
+    expect_answer(lanyardrove_rest(a_list.bytes, length, second, 8 * m, count), 0, list, byte, line);
+    expect_answer(lanyardrove_rest(a_list.bytes, length, second, 8 * m, SIZE_MAX), 0, list, byte, line);
+    expect(begins(a_list.bytes, one, n) && untouched_from(&a_list, length), "the first list stays", line);
+    expect(begins(second, two, m), "the second list stays", line);
+}
+#define COMPARES(one, two, entries, count, list, byte) \
+    compares((one), sizeof(one) / 8, (two), sizeof(two) / 8, (entries), (count), (list), (byte), __LINE__)
+
+static void compared_lists(void) {
+    const uint64_t i[] = {S, C, R}, other_color[] = {S, 0x37000000F801003Eu, R}, unused[] = {S1 | 0xC0ull << 56, S2, S3, C | 0x00FFFFFF00000000u, R};
+    const uint64_t more[] = {S, C, R, PIPE, TEXTURED, 0}, modes[] = {0x2FFFFFFFFFFFFFFFu}, no_modes[] = {0x2F00000000000000u};
+    const uint64_t named[] = {0x2F40000F00008000u}, rectangle[] = {TEXTURED, 0, N}, moved[] = {N, TEXTURED, 1};
+    const uint32_t color[] = {3, 3, 0, 1}, all_modes[] = {0, 0, 0xFF, 0xFBFDFFFDu}, numbers[] = {0, 0, 0, 0, 2, 1, 0, 0};
+    const uint64_t cut[] = {S, TEXTURED}, bad[] = {FULL, 0x3100000000000000u, R};
+    size_t length;
+
+    COMPARES(i, i, NULL, 0, 0, 40);
+    COMPARES(i, other_color, color, 4, 0, 40);
+    COMPARES(other_color, i, color, 4, 0, 40);
+    COMPARES(i, unused, NULL, 0, 0, 40); /* bits of no field */
+    COMPARES(i, more, NULL, 0, 1, 40);
+    COMPARES(more, other_color, color, 4, 0, 40);
+    COMPARES(modes, no_modes, all_modes, 4, 0, 8); /* every line but the three without a name */
+    COMPARES(named, no_modes, NULL, 0, 0, 8);
+    COMPARES(rectangle, moved, numbers, 8, 0, 24);
+    COMPARES(bad, bad, NULL, 0, 0, 24); /* 4 and 19 are not looked at */
+
+    /* the first list's grounds come first, then the second's, then 14 */
+    length = LIST(cut);
+    fresh_entries();
+    ANSWERS(lanyardrove_compare(a_list.bytes, length, a_list.bytes, 7, ENTRIES, LENT_NUMBERS), 3, 0, 3);
+    ANSWERS(lanyardrove_compare(a_list.bytes, 7, a_list.bytes, length, ENTRIES, LENT_NUMBERS), 2, 0, 0);
+    ANSWERS(lanyardrove_compare(a_list.bytes, 24, a_list.bytes, length, ENTRIES, LENT_NUMBERS), 3, 0, 3);
+    ANSWERS(lanyardrove_compare(a_list.bytes, 24, a_list.bytes, 15, NULL, 0), 2, 0, 1);
+    ANSWERS(lanyardrove_compare(a_list.bytes, 32776, a_list.bytes, length, NULL, 0), 1, 0, 4096);
+    ANSWERS(lanyardrove_compare(a_list.bytes, 24, a_list.bytes, 32769, NULL, 0), 1, 0, 4096);
+    ANSWERS(lanyardrove_compare(NULL, 0, a_list.bytes, 24, NULL, 0), 0, 0, 0);
+    ANSWERS(lanyardrove_compare(NULL, 0, NULL, 0, NULL, 0), 0, 0, 0);
+    CHECK(entries_untouched_from(0));
+    ANSWERS(lanyardrove_rest(a_list.bytes, length, a_list.bytes, 7, 0), 3, 0, 32);
+    ANSWERS(lanyardrove_rest(a_list.bytes, 24, a_list.bytes, length, 0), 3, 0, 24);
+    ANSWERS(lanyardrove_rest(NULL, 0, a_list.bytes, 24, 0), 0, 1, 0);
+    ANSWERS(lanyardrove_rest(a_list.bytes, 24, NULL, 0, 0), 0, 0, 0);
+    ANSWERS(lanyardrove_rest(NULL, 0, NULL, 0, 0), 0, 0, 0);
+}
+
+/* What differs of two commands of one number, by their fields as they are decoded. */
+static uint64_t differing(unsigned number, const uint8_t *one, const uint8_t *two, size_t words) {
+    uint64_t fields[2][LANYARDROVE_MOST_FIELDS], mask = 0;
+    size_t i, count = lanyardrove_place(lanyardrove_decode(one, 8 * words, fields[0], LANYARDROVE_MOST_FIELDS));
+    lanyardrove_decode(two, 8 * words, fields[1], LANYARDROVE_MOST_FIELDS);
+    for (i = 0; i < count; i++)
+        if (fields[0][i] != fields[1][i]) mask |= (uint64_t)1 << lanyardrove_field_bit(number, (uint32_t)i);
+    if (number >= 8 && number <= 15 && memcmp(one + 32, two + 32, 8 * words - 32) != 0) mask |= (uint64_t)1 << LANYARDROVE_SUFFIX_BIT;
+    return mask;
+}
+
+/* One bit turned over in every word of every command: the field that has it, or nothing. */
+static void compared_bits(void) {
+    unsigned number, bit;
+    for (number = 0; number < 64; number++) {
+        size_t words = (size_t)lanyardrove_words((uint64_t)number << 56), i;
+        uint8_t two[8 * LANYARDROVE_MOST_WORDS];
+        fresh(&a_list);
+        for (i = 0; i < words; i++) put(a_list.bytes + 8 * i, random_word());
+        a_list.bytes[0] = (uint8_t)((a_list.bytes[0] & 0xC0) | number);
+        for (bit = 0; bit < 64 * words; bit++) {
+            uint64_t mask;
+            if (bit >= 2 && bit < 8) continue; /* the command's number */
+            memcpy(two, a_list.bytes, 8 * words);
+            two[bit / 8] = (uint8_t)(two[bit / 8] ^ 0x80 >> bit % 8);
+            mask = differing(number, a_list.bytes, two, words);
+            CHECK((mask & (mask - 1)) == 0); /* one field has it */
+            fresh_entries();
+            ANSWERS(lanyardrove_compare(a_list.bytes, 8 * words, two, 8 * words, ENTRIES, LENT_NUMBERS), 0, 0, mask ? 4 : 0);
+            CHECK(entries_untouched_from(mask ? 4 : 0));
+            CHECK(!mask || (ENTRIES[0] == 0 && ENTRIES[1] == 0 && ENTRIES[2] == (uint32_t)(mask >> 32) && ENTRIES[3] == (uint32_t)mask));
+        }
     }
 }
 
@@ -1847,6 +1963,8 @@ int main(void) {
     random_repairs();
     repair_lists_afresh();
     random_repairs_afresh();
+    compared_lists();
+    compared_bits();
     draw_lists();
     load_and_copy();
     later_bytes_stay();
