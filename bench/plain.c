@@ -525,14 +525,23 @@ static size_t count_commands(const uint8_t *list, size_t words)
     return count;
 }
 
-/* Notes the number of each command at the start of its sixteen bytes of work. */
-static void note_numbers(const uint8_t *list, size_t words, uint8_t *work)
+/* Request #109: a repair afresh forgets these. */
+static bool is_forgotten(unsigned number)
 {
-    for (size_t at = 0; at < words; work += 16) {
+    return number == SYNC_LOAD || number == SYNC_PIPE || number == SYNC_TILE;
+}
+
+/* Notes the number of each command that is kept at the start of its sixteen bytes of work; answers how many are. */
+static inline size_t note_numbers(const uint8_t *list, size_t words, uint8_t *work, bool afresh)
+{
+    size_t kept = 0;
+    for (size_t at = 0; at < words;) {
         unsigned number = number_at(list + 8 * at);
-        work[0] = number;
         at += words_in(number);
+        if (!(afresh && is_forgotten(number)))
+            work[16 * kept++] = number;
     }
+    return kept;
 }
 
 /* The least cycles from a command on, at given hazards, and the first choice that has them. */
@@ -578,11 +587,16 @@ static size_t count_inserts(const uint8_t *work, size_t commands)
     return count;
 }
 
-static void write_plan(const uint8_t *list, size_t words, const uint8_t *work, uint8_t *out)
+static inline void write_plan(const uint8_t *list, size_t words, const uint8_t *work, uint8_t *out, bool afresh)
 {
     unsigned hazards = 0;
-    for (const uint8_t *end = list + 8 * words; list < end; work += 16) {
+    for (const uint8_t *end = list + 8 * words; list < end;) {
+        if (afresh && is_forgotten(number_at(list))) {
+            list += 8;
+            continue;
+        }
         uint8_t choice = work[hazards];
+        work += 16;
         if (choice >> 4 != 0) {
             memset(out, 0, 8);
             out[0] = option_sync[choice >> 4];
@@ -596,7 +610,9 @@ static void write_plan(const uint8_t *list, size_t words, const uint8_t *work, u
     }
 }
 
-uint64_t plain_repair(const uint8_t *list, size_t list_length, uint8_t *work, size_t work_length, uint8_t *out, size_t out_length)
+/* Inlined into a function for each repair. */
+static inline __attribute__((always_inline)) uint64_t repair_by(const uint8_t *list, size_t list_length, uint8_t *work, size_t work_length, uint8_t *out,
+                                                                size_t out_length, bool afresh)
 {
     uint64_t refusal = length_refusal(list_length, 2048);
     if (refusal != 0)
@@ -608,14 +624,24 @@ uint64_t plain_repair(const uint8_t *list, size_t list_length, uint8_t *work, si
     size_t commands = count_commands(list, words);
     if (work_length / 16 < commands)
         return answer(13, 0, commands);
-    note_numbers(list, words, work);
-    uint32_t cycles = plan(work, commands);
-    size_t needed = words + count_inserts(work, commands);
+    size_t kept = note_numbers(list, words, work, afresh);
+    uint32_t cycles = plan(work, kept);
+    size_t needed = words - (commands - kept) + count_inserts(work, kept);
     bool fits = needed <= out_length / 8;
     if (fits)
-        write_plan(list, words, work, out);
+        write_plan(list, words, work, out, afresh);
     memset(work, 0, 16 * commands);
     return fits ? answer(0, cycles, needed) : answer(14, 0, needed);
+}
+
+uint64_t plain_repair(const uint8_t *list, size_t list_length, uint8_t *work, size_t work_length, uint8_t *out, size_t out_length)
+{
+    return repair_by(list, list_length, work, work_length, out, out_length, false);
+}
+
+uint64_t plain_repair_afresh(const uint8_t *list, size_t list_length, uint8_t *work, size_t work_length, uint8_t *out, size_t out_length)
+{
+    return repair_by(list, list_length, work, work_length, out, out_length, true);
 }
 
 /* Drawing: the list is judged as a whole, and then painted. */

@@ -9,6 +9,7 @@
    those that a stream has waited, bits 31:0 the place. */
 uint64_t plain_check(const uint8_t *list, size_t list_length);
 uint64_t plain_repair(const uint8_t *list, size_t list_length, uint8_t *work, size_t work_length, uint8_t *out, size_t out_length);
+uint64_t plain_repair_afresh(const uint8_t *list, size_t list_length, uint8_t *work, size_t work_length, uint8_t *out, size_t out_length);
 uint64_t plain_draw(const uint8_t *list, size_t list_length, uint8_t *memory, size_t memory_length, uint64_t start, uint8_t *texture,
                     size_t texture_length);
 

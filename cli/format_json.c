@@ -83,14 +83,19 @@ static json_t *findings_json(const Checked *checked)
 void json_tell(const Arguments *arguments, const Checked *checked)
 {
     const List *list = checked->list;
+    uint32_t saved;
     (void)arguments;
-    if (list == NULL)
+    if (list == NULL) {
         tell(json_pack("{s:o, s:s}", "file", json_text(checked->path), "verdict", "unread"));
-    else
-        tell(json_pack("{s:o, s:s, s:i, s:I, s:I, s:b, s:o}", "file", json_text(checked->path), "verdict",
-                       is_accepted(list->verdict) ? "accepted" : "refused", "number", (int)list->verdict.number, "place",
-                       (json_int_t)list->verdict.place, "cycles", (json_int_t)cycles_waited(list), "empty", list->length == 0, "findings",
-                       findings_json(checked)));
+        return;
+    }
+    json_t *entry = json_pack("{s:o, s:s, s:i, s:I, s:I, s:b, s:o}", "file", json_text(checked->path), "verdict",
+                              is_accepted(list->verdict) ? "accepted" : "refused", "number", (int)list->verdict.number, "place",
+                              (json_int_t)list->verdict.place, "cycles", (json_int_t)cycles_waited(list), "empty", list->length == 0, "findings",
+                              findings_json(checked));
+    if (entry != NULL && cycles_saved(list, &saved))
+        json_object_set_new(entry, "saved", json_integer(saved));
+    tell(entry);
 }
 
 bool json_end(const Arguments *arguments, const Tally *tally)

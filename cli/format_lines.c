@@ -5,9 +5,13 @@
 
 /* -- text: `number place`, and what it means ---------------------------- */
 
+/* The cycles that the syncs of a list wait, and of an accepted list how many fewer they could be. */
 static void print_cycles(const List *list)
 {
+    uint32_t saved;
     printf(is_accepted(list->verdict) ? "; the list waits %u cycles" : "; the syncs before the refusal wait %u cycles", (unsigned)cycles_waited(list));
+    if (cycles_saved(list, &saved))
+        printf(", and syncs chosen afresh would save %u", (unsigned)saved);
 }
 
 /* With several lists each answer has one line, with the list's name. The verdict comes first, and has the cycles. */

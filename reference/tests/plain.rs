@@ -7,6 +7,14 @@ use reference::comparison::run::run;
 use reference::foreign;
 
 extern "C" {
+    fn plain_repair_afresh(
+        list: *const u8,
+        list_length: usize,
+        work: *mut u8,
+        work_length: usize,
+        out: *mut u8,
+        out_length: usize,
+    ) -> u64;
     fn plain_translate(
         memory: *const u8,
         memory_length: usize,
@@ -23,6 +31,7 @@ const CASES: u64 = 20_000;
 fn the_plain_version_agrees_with_the_reference() {
     let plain = Foreign {
         translate: Some(plain_translate),
+        repair_afresh: Some(plain_repair_afresh),
         ..foreign!(
             plain_check,
             plain_repair,

@@ -251,6 +251,19 @@ pub fn needy(length: usize) -> Vec<u8> {
     bytes_of(&list)
 }
 
+/// An old list: the same with a Sync Pipe before each command.
+pub fn full_of_syncs(length: usize) -> Vec<u8> {
+    let mut rng = Rng::new(10);
+    let mut list = setup(ONE_CYCLE, Pixels::Bits16);
+    while list.len() + 2 < length {
+        let number = rng.pick(NEEDY);
+        list.push(word(SYNC_PIPE, 0));
+        list.extend(random(&mut rng, number));
+    }
+    list.resize(length, word(NO_OPERATION, 0));
+    bytes_of(&list)
+}
+
 /// Bits 63:62 of a display list's commands.
 const DISPLAY: u64 = 3 << 62;
 

@@ -14,6 +14,7 @@ pub enum Job {
     /// A list in portions of at most so many bytes.
     Stream(usize),
     Repair,
+    RepairAfresh,
     /// The display list at an offset: the row's list is the memory that it lies in.
     Translate(u32),
     /// Drawing, with the runs of bytes that the list paints.
@@ -46,6 +47,9 @@ impl Row {
             Job::Registers => (version.registers)(&self.list),
             Job::Stream(portion) => stream(side, &self.list, portion),
             Job::Repair => side.repair(&self.list, &mut buffers.work, &mut buffers.out),
+            Job::RepairAfresh => {
+                side.repair_afresh(&self.list, &mut buffers.work, &mut buffers.out)
+            }
             Job::Translate(start) => side.translate(&self.list, start, &mut buffers.out),
             Job::Draw(_) | Job::Copy(_) | Job::Load(_) => {
                 let (memory, texture) = buffers.drawn();
@@ -133,6 +137,8 @@ pub fn rows() -> Vec<Row> {
     rows.extend(LENGTHS.map(|length| cut_stream("setters", lists::setters(length))));
     rows.push(cut_stream("a game's mix", lists::mixed(4_096)));
     rows.push(repair(lists::needy(2_048)));
+    rows.push(repair_afresh("small commands", lists::needy(2_048)));
+    rows.push(repair_afresh("full of syncs", lists::full_of_syncs(2_048)));
     rows.push(translate(1_000));
     rows.extend(large_draws());
     rows.extend(small_draws());
@@ -183,6 +189,14 @@ fn repair(list: Vec<u8>) -> Row {
         name: format!("repair, small commands, {} words", list.len() / 8),
         list,
         job: Job::Repair,
+    }
+}
+
+fn repair_afresh(what: &str, list: Vec<u8>) -> Row {
+    Row {
+        name: format!("repair afresh, {what}, {} words", list.len() / 8),
+        list,
+        job: Job::RepairAfresh,
     }
 }
 

@@ -16,6 +16,7 @@ pub struct Version {
 /// The proved library.
 static LIBRARY: Foreign = Foreign {
     translate: Some(lanyardrove_translate),
+    repair_afresh: Some(lanyardrove_repair_afresh),
     ..foreign!(
         lanyardrove_check,
         lanyardrove_repair,
@@ -28,6 +29,7 @@ static LIBRARY: Foreign = Foreign {
 /// The plain C version.
 static PLAIN: Foreign = Foreign {
     translate: Some(plain_translate),
+    repair_afresh: Some(plain_repair_afresh),
     ..foreign!(
         plain_check,
         plain_repair,
@@ -38,6 +40,22 @@ static PLAIN: Foreign = Foreign {
 };
 
 extern "C" {
+    fn lanyardrove_repair_afresh(
+        list: *const u8,
+        list_length: usize,
+        work: *mut u8,
+        work_length: usize,
+        out: *mut u8,
+        out_length: usize,
+    ) -> u64;
+    fn plain_repair_afresh(
+        list: *const u8,
+        list_length: usize,
+        work: *mut u8,
+        work_length: usize,
+        out: *mut u8,
+        out_length: usize,
+    ) -> u64;
     fn lanyardrove_translate(
         memory: *const u8,
         memory_length: usize,
