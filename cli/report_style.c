@@ -55,14 +55,16 @@ static const char table[] =
     ".choices:has(#show-marked:checked)~table tbody tr:not(.refused,.cause,.inserted,.comes,.changes),.choices:has(#show-draw:checked)~table tbody tr:not(.draw),\n"
     ".choices:has(#show-load:checked)~table tbody tr:not(.load),.choices:has(#show-set:checked)~table tbody tr:not(.set),\n"
     ".choices:has(#show-sync:checked)~table tbody tr:not(.sync),.choices:has(#show-none:checked)~table tbody tr:not(.none),\n"
-    ".choices:has(#show-unassigned:checked)~table tbody tr:not(.unassigned){display:none}\n"
+    ".choices:has(#show-unassigned:checked)~table tbody tr:not(.unassigned),\n"
+    ".choices:has(#show-differs:checked)~table tbody tr:not(.differs,.rest){display:none}\n"
     "tr:has(:target) td.place,td.place:target{background:var(--wait-soft)}[id^=w]{scroll-margin-top:4rem}\n"
     ".field{display:inline-block;margin-right:.9rem;color:var(--soft)}.field b{color:var(--ink);font-weight:600}\n"
     "tr.refused>*{background:var(--bad-soft)}tr.refused td:first-child{box-shadow:inset .4rem 0 var(--bad)}\n"
     "tr.cause>*{background:var(--wait-soft)}tr.cause td:first-child{box-shadow:inset .4rem 0 var(--wait)}\n"
     "#refused,#cause{scroll-margin-top:7rem}.reason{color:var(--bad);font-weight:700}.cause .reason{color:var(--wait)}\n"
     ".reason a,.meaning a{color:inherit}tr.inserted>*{background:var(--good-soft);color:var(--good)}\n"
-    ".fresh{color:var(--draw);font-weight:700}tr.comes>*{background:var(--panel);color:var(--draw)}\n";
+    ".fresh{color:var(--draw);font-weight:700}tr.comes>*{background:var(--panel);color:var(--draw)}\n"
+    ".pairs tr.differs>*{background:var(--wait-soft)}.pairs tr.rest>*{background:var(--panel)}.pairs .field{display:inline}\n";
 
 /* In a narrow window each command is a block. */
 static const char narrow[] =
