@@ -10,23 +10,25 @@ use lib.ListN.{length, length-take}
 use Rattle.rdp_words.specs.Words.{wordAt}
 use Rattle.rdp_words.specs.Lengths.{firstNumber}
 use Rattle.rdp_command.specs.Decode.{decodeOf}
-use Rattle.rdp_command.specs.Numbers.{fieldsAnswer, fromNumbers}
+use Rattle.rdp_encode.specs.Numbers.{fieldsAnswer, fromNumbers}
 use Rattle.rdp_command.specs.declared.Answer.{Answer}
 use Rattle.rdp_command.specs.declared.Decoded.{Decoded}
 use Rattle.rdp_command.specs.declared.Decoded.the-variants.{Whole, Refused}
 use Rattle.rdp_words.proofs.PlaceLaws.{number-small}
-use Rattle.rdp_command.proofs.BoundLaws.{decode-refused, fields-decoded, lines-most, fields-most, fields-place, from-refused, encode-most, encode-words}
-use Rattle.rdp_check.specs.Hazards.{requiredOf}
-use Rattle.rdp_check.proofs.HazardLaws.{next-small, required-most}
+use Rattle.rdp_command.proofs.BoundLaws.{decode-refused, lines-most}
+use Rattle.rdp_encode.proofs.BoundLaws.{fields-decoded, fields-most, fields-place, from-refused, encode-most, encode-words}
+use Rattle.rdp_hazards.specs.Hazards.{requiredOf}
+use Rattle.rdp_hazards.proofs.HazardLaws.{next-small, required-most}
 use Rattle.rdp_check.specs.Check.{checkRefusals, checkOf}
-use Rattle.rdp_check.specs.declared.Repaired.{Repaired}
+use Rattle.rdp_repair.specs.declared.Repaired.{Repaired}
 use Rattle.rdp_draw.specs.Draw.{drawAnswer}
-use Rattle.rdp_check.proofs.BoundLaws.{checkNumbers, repairNumbers, check-numbers, among-below, place-most, Bounds, repair-bounds}
+use Rattle.rdp_check.proofs.BoundLaws.{checkNumbers, check-numbers, among-below, place-most}
+use Rattle.rdp_repair.proofs.BoundLaws.{repairNumbers, Bounds, repair-bounds, afresh-bounds}
 use Rattle.rdp_draw.proofs.BoundLaws.{drawNumbers, draw-numbers, draw-place}
 use Rattle.rdp_stream.proofs.StreamLaws.{Near, fed-near, closed-near, fed-told, closed-told}
 use Rattle.rdp_stream.specs.declared.Fed.{Fed}
 use Rattle.rdp_stream.specs.Records.{fedOf, closedOf}
-use Rattle.lanyardrove.specs.Replies.{Reply, reply, packed, unpacked, plain, stepReply, checkReply, repairReply, drawReply, decodedReply, decodeReply, madeReply, encodeReply, toldReply, Occurs, ofStep, ofCheck, ofRepair, ofDraw, ofDecode, ofEncode, ofFeed, ofClose, lentPart, translateReply, ofTranslate}
+use Rattle.lanyardrove.specs.Replies.{Reply, reply, packed, unpacked, plain, stepReply, checkReply, repairReply, drawReply, decodedReply, decodeReply, madeReply, encodeReply, toldReply, Occurs, ofStep, ofCheck, ofRepair, ofAfresh, ofDraw, ofDecode, ofEncode, ofFeed, ofClose, lentPart, translateReply, ofTranslate}
 use Rattle.f3dex2.proofs.BoundLaws.{answer-bounds}
 use Rattle.lanyardrove.proofs.PackLaws.{Small, unpacked-packed, packed-fits}
 
@@ -104,6 +106,7 @@ pub small : {r : Reply} → Occurs r → Small r
 small (ofStep hazards number) = step-small hazards number
 small (ofCheck list) = check-small list
 small (ofRepair is) = repair-small _ (repair-bounds is)
+small (ofAfresh is) = repair-small _ (afresh-bounds is)
 small (ofDraw list start len size) = draw-small list start len size
 small (ofDecode list fields) = decode-small list fields
 small (ofEncode number fields suffix out) = encode-small number fields suffix out

@@ -7,15 +7,16 @@ use lib.Dec.{eqb}
 use lib.ListN.{length, take}
 use Rattle.rdp_words.specs.Lengths.{firstNumber}
 use Rattle.rdp_command.specs.Decode.{decodeOf}
-use Rattle.rdp_command.specs.Encode.{encodeAnswer, encodeOut}
-use Rattle.rdp_command.specs.Numbers.{fieldsAnswer, fieldsOut, fromNumbers}
+use Rattle.rdp_encode.specs.Encode.{encodeAnswer, encodeOut}
+use Rattle.rdp_encode.specs.Numbers.{fieldsAnswer, fieldsOut, fromNumbers}
 use Rattle.rdp_command.specs.declared.Answer.{Answer}
 use Rattle.rdp_command.specs.declared.Decoded.{Decoded}
 use Rattle.rdp_command.specs.declared.Decoded.the-variants.{Whole, Refused}
-use Rattle.rdp_check.specs.Hazards.{transitionOf}
+use Rattle.rdp_hazards.specs.Hazards.{transitionOf}
 use Rattle.rdp_check.specs.Check.{checkOf}
-use Rattle.rdp_check.specs.Repair.{RepairIs}
-use Rattle.rdp_check.specs.declared.Repaired.{Repaired}
+use Rattle.rdp_repair.specs.Repair.{RepairIs}
+use Rattle.rdp_repair.specs.Afresh.{AfreshIs}
+use Rattle.rdp_repair.specs.declared.Repaired.{Repaired}
 use Rattle.rdp_draw.specs.Draw.{drawAnswer}
 use Rattle.rdp_stream.specs.Records.{fedOf, closedOf}
 use Rattle.rdp_stream.specs.declared.Stream.{Stream}
@@ -67,6 +68,10 @@ repairReply r = reply (r .number) (r .cycles) (r .place)
 -- a number that is the repair's answer, where it leaves its buffers so
 abbrev pub RepairReplies : List ℕ → List ℕ → List ℕ → ℕ → List ℕ → List ℕ → Type 0
 RepairReplies list work out w work′ out′ = (r : Repaired) × (w ≡ packed (repairReply r)) × RepairIs list work out r work′ out′
+
+-- the second repair's (#109), likewise; its cycles are all waiting
+abbrev pub AfreshReplies : List ℕ → List ℕ → List ℕ → ℕ → List ℕ → List ℕ → Type 0
+AfreshReplies list work out w work′ out′ = (r : Repaired) × (w ≡ packed (repairReply r)) × AfreshIs list work out r work′ out′
 
 -- drawing on memory of `len` bytes that starts at address `start`, with texture memory of `size` bytes
 abbrev pub drawReply : List ℕ → ℕ → ℕ → ℕ → Reply
@@ -145,6 +150,7 @@ pub data Occurs : Reply → Type 0 where
   ofStep : (hazards number : ℕ) → Occurs (stepReply hazards number)
   ofCheck : (list : List ℕ) → Occurs (checkReply list)
   ofRepair : {list work out work′ out′ : List ℕ} {r : Repaired} → RepairIs list work out r work′ out′ → Occurs (repairReply r)
+  ofAfresh : {list work out work′ out′ : List ℕ} {r : Repaired} → AfreshIs list work out r work′ out′ → Occurs (repairReply r)
   ofDraw : (list : List ℕ) (start len size : ℕ) → Occurs (drawReply list start len size)
   ofDecode : (list fields : List ℕ) → Occurs (decodeReply list fields)
   ofEncode : (number : ℕ) (fields suffix out : List ℕ) → Occurs (encodeReply number fields suffix out)

@@ -7,7 +7,7 @@ ghost use lib.ListN.{length};
 ghost use Rattle.lanyardrove.specs.Replies.{mostLent, translateReply, translateBytes};
 ghost use Rattle.rdp_words.specs.Lengths.{commandWords};
 ghost use Rattle.rdp_draw.specs.Draw.{drawn, memories};
-ghost use Rattle.lanyardrove.specs.Replies.{reply, mostThird, packed, stepReply, checkReply, RepairReplies, drawReply, decodeReply, decodeFields, encodeReply, encodeBytes, fedPacked, closedPacked};
+ghost use Rattle.lanyardrove.specs.Replies.{reply, mostThird, packed, stepReply, checkReply, RepairReplies, AfreshReplies, drawReply, decodeReply, decodeFields, encodeReply, encodeBytes, fedPacked, closedPacked};
 use rdp_command::Decoded;
 use rdp_stream::Stream;
 
@@ -71,7 +71,7 @@ pub extern "C" fn lanyardrove_words(first: u64) -> u64
 pub extern "C" fn lanyardrove_step(hazards: u32, number: u32) -> u64
     ensures { λ r. ⌜ r ≡ packed (stepReply hazards number) ⌝ }
 {
-    let step = rdp_check::step((hazards % 16) as u8, (number % 64) as u8);
+    let step = rdp_hazards::step((hazards % 16) as u8, (number % 64) as u8);
     let third = third_of_sync(step.required, step.missing);
     pack(0, third, step.next as u32)
 }
@@ -90,8 +90,18 @@ pub extern "C" fn lanyardrove_check(list: &[u8]) -> u64
 pub extern "C" fn lanyardrove_repair(list: &[u8], work: &mut [u8], out: &mut [u8]) -> u64
     ensures { λ r. ⌜ RepairReplies (now (list .entry)) (now (work .entry)) (now (out .entry)) r (now (work .exit)) (now (out .exit)) ⌝ }
 {
-    let repaired = rdp_check::repair(list, work, out);
+    let repaired = rdp_repair::repair(list, work, out);
     pack(repaired.number, repaired.cycles, repaired.place)
+}
+
+// The second repair (#109), which chooses the Load, Tile and Pipe syncs of a list afresh: the first of the repair's refusals, or 0, all waiting and the words
+// written.
+#[no_mangle]
+pub extern "C" fn lanyardrove_repair_afresh(list: &[u8], work: &mut [u8], out: &mut [u8]) -> u64
+    ensures { λ r. ⌜ AfreshReplies (now (list .entry)) (now (work .entry)) (now (out .entry)) r (now (work .exit)) (now (out .exit)) ⌝ }
+{
+    let renewed = rdp_repair::repair_afresh(list, work, out);
+    pack(renewed.number, renewed.cycles, renewed.place)
 }
 
 // Drawing a list into memory that starts at an address, with texture memory: the first of refusals 1 to 9, 16, and 10, 11, 17, 12 and 18, or 0 and the words of
@@ -121,7 +131,7 @@ pub extern "C" fn lanyardrove_decode(list: &[u8], fields: &mut [u64]) -> u64
     let decoded = rdp_command::decode(list);
     match decoded {
         Decoded::Whole(command) => {
-            let written = rdp_command::fields(command, fields);
+            let written = rdp_encode::fields(command, fields);
             if written.number != 0 {
                 return pack(written.number, 0, written.place);
             }
@@ -144,10 +154,10 @@ pub extern "C" fn lanyardrove_encode(
     ensures reply { λ r. ⌜ r ≡ packed (encodeReply number (now (fields .entry)) (now (suffix .entry)) (now (out .entry))) ⌝ }
     ensures output { λ _. ⌜ now (out .exit) ≡ encodeBytes number (now (fields .entry)) (now (suffix .entry)) (now (out .entry)) ⌝ }
 {
-    let made = rdp_command::from_fields(number, fields);
+    let made = rdp_encode::from_fields(number, fields);
     match made {
         Decoded::Whole(command) => {
-            let encoded = rdp_command::encode(command, suffix, out);
+            let encoded = rdp_encode::encode(command, suffix, out);
             return pack(encoded.number, 0, encoded.place);
         }
         Decoded::Refused(unmade) => return pack(unmade.number, 0, unmade.place),

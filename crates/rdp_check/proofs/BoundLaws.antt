@@ -1,37 +1,26 @@
--- Which answers the check and the repair give, and how large their parts are. Assumes nothing.
-use Prim.Native.Nat.{ℕ, zero, suc, _+_, _*_, _/_, _%_, _≤_, _<_}
+-- Which answers the check gives, and how large their parts are. Assumes nothing.
+use Prim.Native.Nat.{ℕ, zero, suc, _+_, _*_, _%_, _≤_, _<_}
 use mathlib.Core.Bool.{Bool, true, _&&_}
 use mathlib.Core.List.{List, [], _∷_}
-use mathlib.Core.Path.{_≡_, sym, subst}
 use native.Mathlib.Omega.{arith}
-use borrow.Author.Tests.{eqb-true, eqb-false, ltb-true, ltb-false}
+use borrow.Author.Tests.{eqb-true, ltb-true, ltb-false}
 use lib.Dec.{T, eqb, ltb}
-use lib.ListN.{length, length-map}
+use lib.ListN.{length}
 use Rattle.rdp_words.specs.Kinds.{among, wordsOf}
 use Rattle.rdp_words.specs.Lengths.{firstNumber}
 use Rattle.rdp_words.proofs.Tests.{both, true-of, by-test}
 use Rattle.rdp_check.specs.Commands.{commandsOf, restOf, wordsIn}
-use Rattle.rdp_check.specs.Check.{State, start, Refusals, ownRefusals, syncRefusals, checkRefusals, repairRefusals, Outcome, settle, afterCommand, refusalAt, judge, outcomeWithin, checkOf}
+use Rattle.rdp_check.specs.Check.{State, start, Refusals, ownRefusals, syncRefusals, checkRefusals, Outcome, settle, afterCommand, refusalAt, judge, outcomeWithin, checkOf}
 use Rattle.rdp_check.specs.Refusals.{Holds}
-use Rattle.rdp_check.specs.Best.{numbersOf, repairedBytes, leastCycles}
-use Rattle.rdp_check.specs.Repair.{RepairIs}
-use Rattle.rdp_check.specs.declared.Repaired.{Repaired}
 use Rattle.rdp_check.proofs.OrderLaws.{allGive}
-use Rattle.rdp_check.proofs.FirstLaws.{own-numbered, outcome-gives, holds-gives}
+use Rattle.rdp_check.proofs.FirstLaws.{outcome-gives, holds-gives}
 use Rattle.rdp_check.proofs.JoinLaws.{words-inside}
-use Rattle.rdp_check.proofs.BackLaws.{best-most}
-use Rattle.rdp_check.proofs.RoomLaws.{judged, roomed, repair-refused, repair-roomed}
-use Rattle.rdp_check.proofs.RepairedLaws.{sound, repaired-most}
-use Rattle.rdp_check.proofs.RepairLaws.{commands-few, answered, repair-computes}
 
 -- ---- the numbers that there are
 
--- the numbers of the check's answers, and of the repair's
+-- the numbers of the check's answers
 abbrev pub checkNumbers : List ℕ
 checkNumbers = 0 ∷ 1 ∷ 2 ∷ 3 ∷ 4 ∷ 5 ∷ 6 ∷ 7 ∷ 8 ∷ 9 ∷ 19 ∷ []
-
-abbrev pub repairNumbers : List ℕ
-repairNumbers = 0 ∷ 1 ∷ 2 ∷ 3 ∷ 4 ∷ 5 ∷ 6 ∷ 13 ∷ 14 ∷ 19 ∷ []
 
 pub check-known : (s : State) (c : List ℕ) → T (allGive (λ n. among n checkNumbers) (checkRefusals s c))
 unfolding ownRefusals syncRefusals
@@ -42,10 +31,6 @@ check-numbers list = outcome-gives (λ n. among n checkNumbers) checkRefusals ch
 
 pub check-holds : (list : List ℕ) (n p : ℕ) → Holds 4096 checkRefusals list n p → T (among n checkNumbers)
 check-holds list = holds-gives (λ n. among n checkNumbers) checkRefusals check-known tt tt tt tt 4096 list
-
-own-known : (s : State) (c : List ℕ) → T (allGive (λ n. among n repairNumbers) (repairRefusals s c))
-unfolding ownRefusals
-own-known s c = tt
 
 -- a number of a list is below what all of them are below
 abbrev pub allBelow : ℕ → List ℕ → Bool
@@ -82,41 +67,3 @@ place-most words refusals list =
     by-test (eqb (length list % 8) 0)
     (λ t. rw (f, t) (omega (arith, judge-place refusals start 0 (commandsOf list) (restOf list), words-inside list)))
     (λ g. rw (f, g) (omega arith)))
-
--- ---- the repair
-
-pub record Bounds (r : Repaired) : Type 0 where
-  pub number : T (among (r .number) repairNumbers)
-  pub place : r .place ≤ 4096
-  pub cycles : r .cycles ≤ 102400
-
-room-bounds :
-    (list : List ℕ) (work out : ℕ) → judged list .number ≡ 0 → Bounds (roomed list (length (repairedBytes list)) (leastCycles list) work out)
-unfolding roomed
-room-bounds list work out e =
-    let s = sound repairRefusals own-numbered list e in
-    let few : length (commandsOf list) ≤ 2048 = commands-few list e in
-    let long : length (repairedBytes list) / 8 ≤ 4096 = omega (arith, repaired-most list (s .none), s .short) in
-    let least : leastCycles list ≤ 102400 = omega (arith, best-most (numbersOf (commandsOf list)) 0, length-map (commandsOf list) firstNumber) in
-    by-test (ltb work (16 * length (commandsOf list))) (λ t. rw t (record { number = tt; place = omega arith; cycles = omega arith }))
-    (λ f.
-    by-test (ltb out (length (repairedBytes list)))
-    (λ t. rw (f, t) (record { number = tt; place = long; cycles = omega arith }))
-    (λ g. rw (f, g) (record { number = tt; place = long; cycles = least })))
-
-answer-bounds : (list work out : List ℕ) → Bounds (answered list work out)
-answer-bounds list work out =
-    by-test (eqb (judged list .number) 0)
-    (λ t.
-    let e = eqb-true _ _ t in
-    subst Bounds (sym (repair-roomed list _ _ (length work) (length out) e)) (room-bounds list (length work) (length out) e))
-    (λ f.
-    subst Bounds (sym (repair-refused list _ _ (length work) (length out) (eqb-false _ _ f)))
-    (record {
-      number = outcome-gives (λ n. among n repairNumbers) repairRefusals own-known tt tt tt tt 2048 list;
-      place = omega (arith, place-most 2048 repairRefusals list);
-      cycles = omega arith;
-    }))
-
-pub repair-bounds : {list work out work′ out′ : List ℕ} {r : Repaired} → RepairIs list work out r work′ out′ → Bounds r
-repair-bounds {list} {work} {out} is = subst Bounds (sym (repair-computes is .answer)) (answer-bounds list work out)

@@ -16,15 +16,15 @@ use Rattle.rdp_words.proofs.Tests.{both, true-of, false-of}
 use Rattle.rdp_words.proofs.KindLaws.{among-by, draws-among}
 use Rattle.rdp_words.proofs.WordLaws.{word-front}
 use Rattle.rdp_words.proofs.PlaceLaws.{number-small, word-drop}
-use Rattle.rdp_check.specs.Hazards.{requiredOf}
+use Rattle.rdp_hazards.specs.Hazards.{requiredOf}
 use Rattle.rdp_check.specs.Order.{Among}
 use Rattle.rdp_check.specs.Commands.{commandsOf, restOf, wordsIn, joined}
-use Rattle.rdp_check.specs.Marks.{Mark, markP, markD, draws, loads, readsTile, NoneOf, Stands}
+use Rattle.rdp_hazards.specs.Marks.{Mark, markP, markD, draws, loads, readsTile, NoneOf, Stands}
 use Rattle.rdp_check.specs.Cause.{awaited, latest, causeAt, causeOf, IsCause}
 use Rattle.rdp_check.specs.Check.{State, start, ownRefusals, syncRefusals, checkRefusals, judgeList, checkOf}
 use Rattle.rdp_check.specs.Refusals.{stateAfter, CommandHolds, pastEnd, atCommand, Holds, tooLong, notWords, ofCommands}
 use Rattle.rdp_check.specs.View.{refusalsBy, Numbers, IsJudged}
-use Rattle.rdp_check.proofs.HazardLaws.{at-state}
+use Rattle.rdp_hazards.proofs.HazardLaws.{at-state}
 use Rattle.rdp_check.proofs.MarkLaws.{IsMark, is-P, is-T, is-D, is-G, exactly, state-low}
 use Rattle.rdp_check.proofs.JoinLaws.{Alone, AllAlone, command-some, commands-joined, rest-joined, length-joined, words-append, joined-append, parsed, joined-whole}
 use Rattle.rdp_check.proofs.OrderLaws.{among-parts}

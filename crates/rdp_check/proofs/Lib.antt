@@ -1,5 +1,3 @@
-pub mod TableTests
-pub mod HazardLaws
 pub mod ListLaws
 pub mod LeftLaws
 pub mod JoinLaws
@@ -13,17 +11,5 @@ pub mod FirstLaws
 pub mod OnwardLaws
 pub mod MarkLaws
 pub mod CauseLaws
-pub mod SyncLaws
-pub mod ChoiceLaws
-pub mod LeastLaws
-pub mod JudgeLaws
-pub mod RoomLaws
-pub mod RepairedLaws
-pub mod TabulateLaws
-pub mod RankLaws
-pub mod WriteLaws
-pub mod PassLaws
-pub mod BackLaws
-pub mod ForwardLaws
-pub mod RepairLaws
+pub mod WaitLaws
 pub mod BoundLaws

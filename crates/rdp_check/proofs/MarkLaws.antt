@@ -11,11 +11,11 @@ use Rattle.rdp_words.specs.Kinds.{kindOf, hasBit}
 use Rattle.rdp_words.specs.Lengths.{firstNumber}
 use Rattle.rdp_words.proofs.Tests.{both, same, same-bool}
 use Rattle.rdp_words.proofs.PlaceLaws.{number-small}
-use Rattle.rdp_check.specs.Hazards.{hazardsOf, nextOf}
+use Rattle.rdp_hazards.specs.Hazards.{hazardsOf, nextOf}
 use Rattle.rdp_check.specs.Check.{State, start, afterCommand}
 use Rattle.rdp_check.specs.Refusals.{stateAfter}
-use Rattle.rdp_check.specs.Marks.{Mark, markP, markT, markD, markG, NoneOf, Stands, Exactly, MarksAre}
-use Rattle.rdp_check.proofs.HazardLaws.{next-small, allStates, at-state}
+use Rattle.rdp_hazards.specs.Marks.{Mark, markP, markT, markD, markG, NoneOf, Stands, Exactly, MarksAre}
+use Rattle.rdp_hazards.proofs.HazardLaws.{next-small, allStates, at-state}
 
 or-parts : (a b : Bool) → T (a || b) → T a ⊎ T b
 or-parts true b t = inl tt

@@ -19,7 +19,7 @@ use Rattle.rdp_check.specs.declared.Checkpoint.{Checkpoint}
 use Rattle.rdp_check.specs.declared.Judged.{Judged}
 use Rattle.rdp_check.specs.declared.walk.View.{View}
 use Rattle.rdp_check.specs.declared.walk.Stop.{Stop}
-use Rattle.rdp_check.proofs.HazardLaws.{next-low, required-low}
+use Rattle.rdp_hazards.proofs.HazardLaws.{next-low, required-low}
 use Rattle.rdp_check.proofs.JoinLaws.{AllAlone, parsed, command-some, commands-words}
 use Rattle.rdp_check.proofs.AppendLaws.{ending, judge-ending, judge-from}
 use Rattle.rdp_check.proofs.StopLaws.{judge-seen, judged-seen}

@@ -14,9 +14,9 @@ use Rattle.rdp_command.specs.Decode.{decodeOf}
 use Rattle.rdp_command.specs.Reads.{headOf}
 use Rattle.rdp_command.specs.declared.Command.{Command}
 use Rattle.rdp_words.proofs.Tests.{by-test, neither}
-use Rattle.rdp_check.specs.Hazards.{nextOf, requiredOf, entryOf}
+use Rattle.rdp_hazards.specs.Hazards.{nextOf, requiredOf, entryOf}
 use Rattle.rdp_check.specs.Registers.{registersAfter, afterDecoded}
-use Rattle.rdp_check.specs.Marks.{draws}
+use Rattle.rdp_hazards.specs.Marks.{draws}
 use Rattle.rdp_check.specs.Check.{State, afterCommand, ready, fourBitFill, ownRefusals, syncRefusals, refusalAt}
 use Rattle.rdp_check.specs.Order.{ground, firstOf}
 use Rattle.rdp_check.specs.View.{code, codeRefusal, view, viewOf, restAfter, viewAfter, orElse, missing, refusalWith, refusalsBy, restRefusal, ownRefusal, viewRefusal, setsRest, isWatched, Watches, AdvancedIs}
@@ -25,7 +25,7 @@ use Rattle.rdp_command.specs.declared.Head.{Head}
 use Rattle.rdp_check.specs.declared.walk.Rest.{Rest}
 use Rattle.rdp_check.specs.declared.walk.View.{View}
 use Rattle.rdp_check.proofs.KeptLaws.{keeps}
-use Rattle.rdp_check.proofs.HazardLaws.{EntryParts, entry-parts, required-most}
+use Rattle.rdp_hazards.proofs.HazardLaws.{EntryParts, entry-parts, required-most}
 use Rattle.rdp_words.proofs.KindLaws.{among-by}
 use Rattle.rdp_words.proofs.PlaceLaws.{number-small}
 use Rattle.rdp_command.proofs.ReadLaws.{decoded, decodes, decoded-number, reads-other-modes, reads-scissor, reads-color-image}

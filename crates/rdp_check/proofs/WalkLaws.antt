@@ -12,13 +12,13 @@ use lib.Seq.{drop-cons}
 use Rattle.rdp_words.specs.Words.{wordAt, numberIn}
 use Rattle.rdp_words.specs.Kinds.{isAmong, wordsOf}
 use Rattle.rdp_command.specs.Reads.{headOf}
-use Rattle.rdp_check.specs.Hazards.{nextOf, requiredOf, entryOf}
+use Rattle.rdp_hazards.specs.Hazards.{nextOf, requiredOf, entryOf}
 use Rattle.rdp_check.specs.Commands.{commandsFrom, restFrom}
 use Rattle.rdp_check.specs.View.{viewAfter, refusalWith, viewRefusal, Watches, stopAt, settleView, judgeView, judgedView}
 use Rattle.rdp_command.specs.declared.Head.{Head}
 use Rattle.rdp_check.specs.declared.walk.View.{View}
 use Rattle.rdp_check.specs.declared.walk.Stop.{Stop}
-use Rattle.rdp_check.proofs.HazardLaws.{next-small, EntryParts, entry-parts}
+use Rattle.rdp_hazards.proofs.HazardLaws.{next-small, EntryParts, entry-parts}
 use Rattle.rdp_words.proofs.KindLaws.{words-one}
 use Rattle.rdp_words.proofs.PlaceLaws.{number-small, some-words}
 use Rattle.rdp_check.proofs.ListLaws.{commands-at, rest-at, command-word, commands-past, rest-past}

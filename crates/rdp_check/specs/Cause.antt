@@ -9,7 +9,7 @@ use Rattle.rdp_words.specs.Words.{wordAt, numberIn}
 use Rattle.rdp_words.specs.Kinds.{between, wordsOf}
 use Rattle.rdp_words.specs.Lengths.{firstNumber}
 use Rattle.rdp_check.specs.Commands.{commandsOf, wordsIn}
-use Rattle.rdp_check.specs.Marks.{Mark, markP, markT, markD, markG, draws, loads, NoneOf}
+use Rattle.rdp_hazards.specs.Marks.{Mark, markP, markT, markD, markG, draws, loads, NoneOf}
 
 -- the mark that a command needs cleared, by its number: a draw G, a load D, Set Tile T, an attribute P
 unfoldable pub awaited : ℕ → Mark

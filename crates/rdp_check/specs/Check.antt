@@ -7,10 +7,10 @@ use lib.ListN.{length}
 use Rattle.rdp_words.specs.Kinds.{wordsOf, isUnassigned}
 use Rattle.rdp_words.specs.Lengths.{firstNumber}
 use Rattle.rdp_command.specs.Decode.{decodeOf}
-use Rattle.rdp_check.specs.Hazards.{nextOf, requiredOf}
+use Rattle.rdp_hazards.specs.Hazards.{nextOf, requiredOf}
 use Rattle.rdp_check.specs.Order.{Ground, ground, firstOf}
 use Rattle.rdp_check.specs.Commands.{commandsOf, restOf}
-use Rattle.rdp_check.specs.Marks.{draws}
+use Rattle.rdp_hazards.specs.Marks.{draws}
 use Rattle.rdp_check.specs.Cause.{causeOf}
 use Rattle.rdp_check.specs.Registers.{noRegisters, afterDecoded}
 use Rattle.rdp_check.specs.declared.Registers.{Registers}
@@ -121,3 +121,7 @@ checked list o = record { number = o .number; place = o .place; hazards = o .sta
 -- what the check answers
 abbrev pub checkOf : List ℕ → Checked
 checkOf list = checked list (outcomeOf list)
+
+-- what the check before a repair answers: 1 over 16,384 bytes, and "Repair passes over 7 to 9"
+abbrev pub repairCheckOf : List ℕ → Checked
+repairCheckOf list = checked list (outcomeWithin 2048 repairRefusals list)

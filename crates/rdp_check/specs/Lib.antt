@@ -1,16 +1,8 @@
-pub mod Hazards
 pub mod Commands
 pub mod Registers
 pub mod Order
-pub mod Syncs
-pub mod Marks
 pub mod Cause
 pub mod Check
 pub mod Checkpoint
 pub mod Refusals
 pub mod View
-pub mod Inserted
-pub mod Plan
-pub mod Repair
-pub mod Best
-pub mod Work

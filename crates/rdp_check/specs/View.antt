@@ -9,9 +9,9 @@ use Rattle.rdp_words.specs.Words.{wordAt}
 use Rattle.rdp_words.specs.Kinds.{among, isAmong, isUnassigned, wordsOf}
 use Rattle.rdp_command.specs.declared.Head.{Head}
 use Rattle.rdp_command.specs.Reads.{headOf}
-use Rattle.rdp_check.specs.Hazards.{nextOf, requiredOf}
+use Rattle.rdp_hazards.specs.Hazards.{nextOf, requiredOf}
 use Rattle.rdp_check.specs.Commands.{commandsOf, restOf}
-use Rattle.rdp_check.specs.Marks.{draws}
+use Rattle.rdp_hazards.specs.Marks.{draws}
 use Rattle.rdp_check.specs.Cause.{causeOf}
 use Rattle.rdp_check.specs.Check.{State, Refusals, checkRefusals, repairRefusals, Outcome, judgeList}
 use Rattle.rdp_check.specs.declared.walk.Rest.{Rest}

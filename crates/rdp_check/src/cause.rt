@@ -8,7 +8,6 @@ ghost use Rattle.rdp_words.specs.Kinds.{isAmong};
 ghost use Rattle.rdp_check.specs.Commands.{commandsOf, restOf};
 ghost use Rattle.rdp_check.specs.Cause.{awaited, latest, causeOf};
 ghost use Rattle.rdp_check.specs.View.{Numbers, IsJudged};
-use crate::walk;
 
 // Command numbers, a bit for each: the textured draws and the loads, and the loads alone.
 const READS_TILE: u64 = 0x0019_0030_0000_CC00;
@@ -47,7 +46,7 @@ fn latest_among(numbers: u64, list: &[u8], other: usize) -> usize
     let mut at: usize = 0;
     let mut found = other;
     while at < words {
-        let number = walk::number_at(list, at);
+        let number = rdp_words::number_at(list, at);
         found = place_if(rdp_words::is_among(numbers, number), at, found);
         at += rdp_words::words_of(number);
     }
@@ -64,7 +63,7 @@ pub fn cause_of(list: &[u8], number: u32, place: u32, whole: bool) -> usize
         return words;
     }
     let at = place as usize;
-    let refused = walk::number_at(list, at);
+    let refused = rdp_words::number_at(list, at);
     let numbers = awaited_by(refused);
     latest_among(numbers, &list[0..8 * at], words)
 }

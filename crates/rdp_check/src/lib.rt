@@ -1,17 +1,10 @@
-// The check of a command list: hazards, refusals and registers; and its repair.
+// The check of a command list: refusals and registers.
 ghost use mathlib.Core.Path.{_≡_};
-ghost use Prim.Native.Nat.{_%_};
-ghost use Rattle.rdp_check.specs.Hazards.{transitionOf};
-ghost use Rattle.rdp_check.specs.Check.{checkOf};
+ghost use Rattle.rdp_check.specs.Check.{checkOf, repairCheckOf};
 ghost use Rattle.rdp_check.specs.Checkpoint.{checkFrom};
-ghost use Rattle.rdp_check.specs.Repair.{RepairIs};
 
 mod cause;
-mod hazards;
 mod onward;
-mod plan;
-mod repairing;
-mod table;
 mod walk;
 
 use rdp_command::Color;
@@ -180,41 +173,19 @@ pub struct Registers {
     pub tiles: [Tile; 8],
 }
 
-// The number of the first refusal, 0 where the list is repaired; its place, or the words written; and the cycles of the inserted syncs, 0 at a refusal.
-#[repr(C)]
-pub struct Repaired {
-    pub number: u32,
-    pub place: u32,
-    pub cycles: u32,
-}
-
-// The hazards after a command, whether a sync is missing, and the sync that the command requires: 0 none, 1 Load, 2 Tile, 3 Pipe.
-#[repr(C)]
-pub struct Transition {
-    pub next: u8,
-    pub missing: bool,
-    pub required: u8,
-}
-
-// One step of the hazards (1 P, 2 T, 4 D, 8 G, summed) by the table. Of the hazards the low four bits count, of the command number the low six.
-pub fn step(hazards: u8, number: u8) -> Transition
-    ensures { λ r. ⌜ r ≡ transitionOf hazards (number % 64) ⌝ }
-{
-    let table = table::step_table();
-    let e = hazards::entry(&table, hazards % 16, number % 64);
-    Transition {
-        next: e % 16,
-        missing: 16 <= e,
-        required: e / 32,
-    }
-}
-
 // The first refusal of a list, with the hazards there and its cause: 1 and 2 of the list, then 3 to 9 of its commands in order; 0 at the number of words
 // where none holds.
 pub fn check(list: &[u8]) -> Checked
     ensures { λ r. ⌜ r ≡ checkOf (now (list .entry)) ⌝ }
 {
     walk::check_within(list, 4096, true)
+}
+
+// The check that comes before a repair: of at most 2,048 words, and with 7 to 9 passed over.
+pub fn check_for_repair(list: &[u8]) -> Checked
+    ensures { λ r. ⌜ r ≡ repairCheckOf (now (list .entry)) ⌝ }
+{
+    walk::check_within(list, 2048, false)
 }
 
 // The first refusal of the whole commands of bytes, 4 to 9, from a checkpoint on; 0 after them where none holds. A command whose words are not all there is
@@ -242,35 +213,4 @@ pub fn check_from(before: Checkpoint, bytes: &[u8]) -> Judged
         hazards: after,
         ended: rest.ended,
     }
-}
-
-// Writes to out the list with the syncs that it misses inserted, at the least cycles. The work buffer lends sixteen bytes a command. Refusals 1 to 6 of
-// the list, where 7 to 9 are passed over, then 13 and 14 of the room; else 0, the words written and the cycles inserted.
-pub fn repair(list: &[u8], work: &mut [u8], out: &mut [u8]) -> Repaired
-    ensures { λ r. ⌜ RepairIs (now (list .entry)) (now (work .entry)) (now (out .entry)) r (now (work .exit)) (now (out .exit)) ⌝ }
-{
-    let checked = walk::check_within(list, 2048, false);
-    let number = checked.number;
-    if number != 0 {
-        return Repaired {
-            number,
-            place: checked.place,
-            cycles: 0,
-        };
-    }
-    let words = list.len() / 8;
-    let room = work.len() / 16;
-    if words <= room {
-        return repairing::repair_whole(list, words, work, out);
-    }
-    let commands = repairing::count_commands(list, words);
-    let place = commands as u32;
-    if room < commands {
-        return Repaired {
-            number: 13,
-            place,
-            cycles: 0,
-        };
-    }
-    repairing::repair_whole(list, words, work, out)
 }

@@ -3,15 +3,14 @@ ghost use mathlib.Core.Bool.{cond, true};
 ghost use mathlib.Core.Path.{_≡_};
 ghost use Prim.Native.Nat.{_*_, _%_, _<_, _≤_};
 ghost use lib.ListN.{length};
-ghost use Rattle.rdp_words.specs.Words.{wordAt, numberIn};
-ghost use Rattle.rdp_check.specs.Hazards.{Agrees, entryOf};
+ghost use Rattle.rdp_hazards.specs.Hazards.{Agrees, entryOf};
 ghost use Rattle.rdp_check.specs.Check.{start, outcomeWithin, checked};
 ghost use Rattle.rdp_check.specs.View.{refusalsBy, code, viewOf, restAfter, restRefusal, ownRefusal, refusalWith, Watches, AdvancedIs, stopAt, judgedView, causedBy};
 use crate::Checked;
 use crate::cause;
-use crate::hazards;
-use crate::table;
 use rdp_command::Head;
+use rdp_hazards::hazards;
+use rdp_hazards::table;
 
 // Command numbers, a bit for each: the commands that set what the walk carries beside the hazards (Sync Full, Set Scissor, Set Other Modes, Set Color
 // Image) with the unassigned numbers, these and the draws, and all commands.
@@ -48,13 +47,6 @@ pub struct Stop {
     pub number: u32,
     pub place: u32,
     pub view: View,
-}
-
-// The number of the command at a place.
-pub fn number_at(list: &[u8], place: usize) -> u8
-    ensures { λ r. ⌜ r ≡ numberIn (wordAt (now (list .entry)) place) ⌝ }
-{
-    rdp_words::number_in(rdp_words::word_at(list, place))
 }
 
 // Where a walk ends, and the cause of a refusal by 7, 8 or 9.

@@ -31,7 +31,7 @@ use Rattle.rdp_command.proofs.ReadLaws.{decoded, decodes, decoded-number, reads
 use Rattle.rdp_check.specs.Commands.{commandsOf, restOf}
 use Rattle.rdp_check.specs.Registers.{afterDecoded, tileOf}
 use Rattle.rdp_state.specs.RegisterWords.{slotOf, tileIn, setters, storedAt, wordsAfter, registersIn, word, isSet, tileBy}
-use Rattle.rdp_check.specs.Marks.{draws, loads}
+use Rattle.rdp_hazards.specs.Marks.{draws, loads}
 use Rattle.rdp_check.specs.declared.Registers.{Registers}
 use Rattle.rdp_state.proofs.RegisterLaws.{none-set, length-stored, words-kept, registers-stored, tile-small, word-other, FillReads, fill-reads, TextureReads, texture-reads, tile-reads}
 use Rattle.rdp_check.proofs.ListLaws.{commandAt, commands-at, rest-at, commands-past, rest-past, split-at, command-word, command-number, command-whole, command-there}

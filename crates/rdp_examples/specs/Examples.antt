@@ -1,4 +1,4 @@
--- Document 01, "Examples": A to O as one list of cases, each with all that must come out; and those of #104 and #107.
+-- Document 01, "Examples": A to O as one list of cases, each with all that must come out; and those of #104, #107 and #109.
 use Prim.Native.Nat.{ℕ, _+_, _*_}
 use mathlib.Core.Bool.{Bool, true, false, _&&_}
 use mathlib.Core.List.{List, [], _∷_, _++_}
@@ -7,8 +7,9 @@ use lib.ListN.{length, replicate}
 use Rattle.rdp_words.specs.Words.{bytesOf}
 use Rattle.rdp_check.specs.Commands.{commandsOf}
 use Rattle.rdp_check.specs.Check.{checkOf}
-use Rattle.rdp_check.specs.Repair.{repairOf, outAfter, workAfter}
-use Rattle.rdp_check.specs.Best.{repairedBytes, leastCycles}
+use Rattle.rdp_repair.specs.Repair.{repairOf, outAfter, workAfter}
+use Rattle.rdp_repair.specs.Best.{repairedBytes, leastCycles}
+use Rattle.rdp_repair.specs.Afresh.{without}
 use Rattle.rdp_draw.specs.Draw.{drawAnswer, drawn, memories}
 
 -- ---- the paper's words
@@ -63,6 +64,10 @@ syncLoad = 0x2600000000000000
 abbrev pub syncPipe : ℕ
 syncPipe = 0x2700000000000000
 
+-- with other bits
+abbrev pub syncPipeWithBits : ℕ
+syncPipeWithBits = 0xE700000000000001
+
 abbrev pub syncTile : ℕ
 syncTile = 0x2800000000000000
 
@@ -80,6 +85,8 @@ pub data Case : Type 0 where
   checks : List ℕ → ℕ → ℕ → ℕ → ℕ → Case
   -- the repair of a list of words writes a list of words, and inserts so many cycles
   repairs : List ℕ → List ℕ → ℕ → Case
+  -- the second repair (#109) of a list of words writes a list of words, which waits so many cycles
+  renews : List ℕ → List ℕ → ℕ → Case
   -- drawing a list of words into memory, which starts at address 0, with texture memory of zeros, gives number and place, and leaves memory so
   draws : List ℕ → List ℕ → ℕ → ℕ → List ℕ → Case
 
@@ -131,6 +138,13 @@ examples =
     ∷ checks (bytesIn (unassigned ∷ rectangle ∷ [])) 19 0 0 2
     ∷ checks (bytesIn (rectangle ∷ unassigned ∷ [])) 5 0 0 2
     ∷ checks (bytesIn (0x40FFFFFFFFFFFFFF ∷ [])) 0 1 0 1
+    -- #109: of many Pipes one is left, as late as it serves, whatever their other bits; a shorter sync serves; a longer one is needed, and all waiting counts;
+    -- nothing but syncs; Sync Full stays
+    ∷ renews (syncPipe ∷ setup ++ rectangle ∷ syncPipeWithBits ∷ fillColor ∷ syncPipe ∷ []) (setup ++ rectangle ∷ syncPipe ∷ fillColor ∷ []) 50
+    ∷ renews (setup ++ rectangle ∷ syncPipe ∷ loadTile ∷ []) (setup ++ rectangle ∷ syncLoad ∷ loadTile ∷ []) 25
+    ∷ renews (setup ++ rectangle ∷ syncLoad ∷ fillColor ∷ []) (setup ++ rectangle ∷ syncPipe ∷ fillColor ∷ []) 50
+    ∷ renews (syncLoad ∷ syncTile ∷ syncPipeWithBits ∷ []) [] 0
+    ∷ renews (syncPipe ∷ syncFull ∷ []) (syncFull ∷ []) 0
     ∷ []
 
 -- ---- what is right
@@ -150,17 +164,17 @@ checksRight list number place hazards cause =
     let r = checkOf list in
     (eqb (r .number) number && eqb (r .place) place) && (eqb (r .hazards) hazards && eqb (r .cause) cause)
 
--- the repair is computed by the plan that it finds, which its contract determines (`repair-computes` of rdp_check). The work buffer and the output have
--- a word more than is needed, which stays
-abbrev pub repairsRight : List ℕ → List ℕ → ℕ → Bool
-repairsRight given repaired cycles =
+-- a repair is computed by the plan that it finds, which its contract determines (`repair-computes`, `afresh-computes` of rdp_repair): that of the list as
+-- given, or of what remains of it. The work buffer and the output have a word more than is needed, which stays
+abbrev pub repairsRight : (List ℕ → List ℕ) → List ℕ → List ℕ → ℕ → Bool
+repairsRight remains given repaired cycles =
     let list : List ℕ = bytesIn given in
     let written : List ℕ = bytesIn repaired in
     let cleared : ℕ = 16 * length (commandsOf list) in
     let work : List ℕ = replicate (cleared + 8) 0xFF in
     let out : List ℕ = replicate (length written + 8) 0xFF in
-    let least : List ℕ = repairedBytes list in
-    let r = repairOf list (length least) (leastCycles list) (length work) (length out) in
+    let least : List ℕ = repairedBytes (remains list) in
+    let r = repairOf list (length least) (leastCycles (remains list)) (length work) (length out) in
     ((eqb (r .number) 0 && eqb (r .place) (length repaired)) && eqb (r .cycles) cycles) &&
     (sameList (outAfter r least out) (written ++ left) && sameList (workAfter r list work) (zeros cleared ++ left))
 
@@ -173,7 +187,8 @@ drawsRight words memory number place after =
 
 abbrev pub right : Case → Bool
 right (checks list number place hazards cause) = checksRight list number place hazards cause
-right (repairs given repaired cycles) = repairsRight given repaired cycles
+right (repairs given repaired cycles) = repairsRight (λ list. list) given repaired cycles
+right (renews given renewed cycles) = repairsRight without given renewed cycles
 right (draws words memory number place after) = drawsRight words memory number place after
 
 abbrev pub allRight : List Case → Bool

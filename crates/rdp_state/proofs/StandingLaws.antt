@@ -11,7 +11,7 @@ use lib.ListN.{length}
 use Rattle.rdp_words.specs.Words.{wordAt}
 use Rattle.rdp_words.specs.Kinds.{wordsOf}
 use Rattle.rdp_words.specs.Lengths.{firstNumber}
-use Rattle.rdp_check.specs.Hazards.{nextOf}
+use Rattle.rdp_hazards.specs.Hazards.{nextOf}
 use Rattle.rdp_check.specs.Commands.{wordsIn}
 use Rattle.rdp_check.specs.Check.{State, start, afterCommand, checkRefusals, refusalAt, Outcome, outcome, settle, judge}
 use Rattle.rdp_check.specs.declared.Registers.{Registers}

@@ -7,8 +7,8 @@ use lib.ListN.{length, replicate}
 use Rattle.rdp_words.specs.Words.{wordAt}
 use Rattle.rdp_words.specs.Kinds.{wordsOf}
 use Rattle.rdp_words.specs.Lengths.{firstNumber}
-use Rattle.rdp_check.specs.Hazards.{nextOf}
-use Rattle.rdp_check.specs.Syncs.{commandWait}
+use Rattle.rdp_hazards.specs.Hazards.{nextOf}
+use Rattle.rdp_hazards.specs.Syncs.{commandWait}
 use Rattle.rdp_check.specs.Commands.{commandsOf}
 use Rattle.rdp_check.specs.Check.{State, checkRefusals, refusalAt}
 use Rattle.rdp_state.specs.RegisterWords.{wordsAfter, registersIn}

@@ -2,7 +2,7 @@
 ghost use mathlib.Core.Bool.{not};
 ghost use mathlib.Core.Path.{_≡_};
 ghost use Prim.Native.Nat.{_<_};
-ghost use Rattle.rdp_check.specs.Syncs.{commandWait};
+ghost use Rattle.rdp_hazards.specs.Syncs.{commandWait};
 ghost use lib.Dec.{eqb};
 ghost use Rattle.rdp_command.specs.Reads.{colorFields, combinerFields, modeFields, imageFields};
 ghost use Rattle.rdp_check.specs.Commands.{commandsOf};

@@ -9,7 +9,7 @@ use lib.ListN.{length, take, replicate, length-append, length-replicate}
 use lib.Seq.{take-append-seam, drop-append-seam}
 use Rattle.rdp_words.proofs.Tests.{true-of, by-test}
 use Rattle.rdp_check.specs.Commands.{commandsOf, joined}
-use Rattle.rdp_check.specs.Syncs.{waiting}
+use Rattle.rdp_hazards.specs.Syncs.{waiting}
 use Rattle.rdp_check.specs.Order.{answer}
 use Rattle.rdp_check.proofs.BoundLaws.{among-below}
 use Rattle.rdp_state.specs.After.{listStateOf}

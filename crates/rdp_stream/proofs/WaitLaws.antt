@@ -13,9 +13,9 @@ use Rattle.rdp_words.proofs.Tests.{by-test}
 use Rattle.rdp_check.specs.Commands.{commandsOf, wordsIn, joined}
 use Rattle.rdp_check.specs.Check.{checkRefusals, refusalAt}
 use Rattle.rdp_check.specs.Order.{answer}
-use Rattle.rdp_check.specs.Syncs.{commandWait, waiting}
+use Rattle.rdp_hazards.specs.Syncs.{commandWait, waiting}
 use Rattle.rdp_check.proofs.JoinLaws.{Alone, AllAlone, command-some, commands-joined, length-joined, words-append, joined-append, alone-append}
-use Rattle.rdp_check.proofs.SyncLaws.{command-wait-most, waiting-append, waiting-most}
+use Rattle.rdp_check.proofs.WaitLaws.{command-wait-most, waiting-append, waiting-most}
 use Rattle.rdp_state.specs.Resume.{stateIn, standingAfter}
 use Rattle.rdp_stream.specs.Portions.{Feeding, fresh, accepted, remembering, settled, completed, holding, afterByte, fedBytes, closingGrounds, closed}
 use Rattle.rdp_stream.proofs.PortionLaws.{grown-alone}

@@ -9,7 +9,7 @@ use Rattle.rdp_words.specs.Kinds.{among}
 use Rattle.rdp_words.specs.Lengths.{wholeWords}
 use Rattle.rdp_check.specs.Order.{Ground, ground, firstOf, answer}
 use Rattle.rdp_check.specs.Commands.{commandsOf}
-use Rattle.rdp_check.specs.Syncs.{waiting}
+use Rattle.rdp_hazards.specs.Syncs.{waiting}
 use Rattle.rdp_state.specs.declared.Standing.{Standing}
 use Rattle.rdp_stream.specs.declared.Stream.{Stream}
 use Rattle.rdp_stream.specs.declared.Fed.{Fed}

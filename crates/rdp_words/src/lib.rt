@@ -37,6 +37,13 @@ pub fn number_in(w: u64) -> u8
     ((w >> 56) % 64) as u8
 }
 
+// The number of the command at a place of a list; 0 where the list has no whole word there.
+pub fn number_at(list: &[u8], place: usize) -> u8
+    ensures { λ r. ⌜ r ≡ numberIn (wordAt (now (list .entry)) place) ⌝ }
+{
+    number_in(word_at(list, place))
+}
+
 // Command numbers, a bit for each: the draws, the commands of more than one word, and the unassigned numbers (#107).
 pub const DRAWS: u64 = 0x0040_0030_0000_FF00;
 

@@ -6,7 +6,7 @@ use native.Mathlib.Nat.{mod-lt, mod-eq-of-lt}
 use native.Mathlib.Omega.{arith}
 use lib.Dec.{lit<}
 use borrow.Author.Needs.{needs}
-use Rattle.rdp_check.specs.Hazards.{transitionOf}
+use Rattle.rdp_hazards.specs.Hazards.{transitionOf}
 use Rattle.lanyardrove.specs.Replies.{reply, packed, stepReply, ofStep}
 use Rattle.lanyardrove.proofs.BoundLaws.{packs}
 use Rattle.lanyardrove.proofs.lanyardrove_step.Statement.{statement}

@@ -1,9 +1,10 @@
 -- `rdp_check::walk::walk` meets its contract. The loop's invariant: the judgement of what is left is that of the whole list from the first view, and the numbers that are
 -- watched are those of the commands that must be. The measure is what is left of the words. Assumes nothing.
 use mathlib.Core.Path.{ap, _∙_}
-use Prim.Native.Nat.{_-_}
+use Prim.Native.Nat.{_-_, _<_}
 use native.Mathlib.Omega.{arith}
 use borrow.Author.Needs.{needs}
+use Rattle.rdp_hazards.proofs.HazardLaws.{entry-read, next-read}
 use Rattle.rdp_check.specs.View.{viewAfter, Watches, judgedView}
 use Rattle.rdp_words.proofs.PlaceLaws.{number-small}
 use Rattle.rdp_check.proofs.WalkLaws.{Walked, first, ended, past, refused, falls, again, turn, stays, quick, quick-one}
@@ -27,7 +28,7 @@ head-at-requires : tie.Need-head-at-requires Inv-loop μ-loop
 head-at-requires c κs = search needs
 
 entry-requires : tie.Need-entry-requires Inv-loop μ-loop
-entry-requires c κs = let t = c in (t .before .before .before .before .before .before .pre .0, (t .before .before .loop .inv .0 .low, rw (t .head-at .ensures) (number-small _)))
+entry-requires c κs = search needs
 
 is-among-requires : tie.Need-is-among-requires Inv-loop μ-loop
 is-among-requires c κs = search needs
@@ -45,11 +46,15 @@ loop-again : tie.Need-loop-again Inv-loop μ-loop
 loop-again c =
     let t = c .before .before .before in
     let l = t .before .before .before .before .before .loop in
-    let q = turn (l .inv .0) _ (l .inv .1) (t .before .before .before .before .loop-test .taken) _ (t .before .before .before .head-at .ensures) _ (t .before .before .entry .ensures) _ (t .before .is-among .ensures) (t .if1 .taken) in
+    let h = t .before .before .before in
+    let agree = h .before .before .before .before .before .before .pre .0 in
+    let small : h .head-at .result .number < 64 = rw (h .head-at .ensures) (number-small _) in
+    let read = t .before .before .entry .ensures ∙ entry-read _ agree _ _ small in
+    let q = turn (l .inv .0) _ (l .inv .1) (h .before .loop-test .taken) _ (h .head-at .ensures) _ read _ (t .before .is-among .ensures) (t .if1 .taken) in
     (quick-one q (stays q (c .if3 .taken)) _ (c .before .before .is-among2 .ensures) (c .before .if2 .taken), l .inv .1)
 
 next-requires : tie.Need-next-requires Inv-loop μ-loop
-next-requires c κs = let t = c .before .before .before .before .before .before in (t .before .before .before .before .before .before .pre .0, (t .before .before .loop .inv .0 .low, rw (t .head-at .ensures) (number-small _)))
+next-requires c κs = search needs
 
 loop-less-2 : tie.Need-loop-less-2 Inv-loop μ-loop
 loop-less-2 c = omega (arith, c .before .before .before .before .before .before .before .before .loop-test .taken)
@@ -58,8 +63,12 @@ loop-again-2 : tie.Need-loop-again-2 Inv-loop μ-loop
 loop-again-2 c =
     let t = c .before .before .before .before in
     let l = t .before .before .before .before .before .loop in
-    let q = turn (l .inv .0) _ (l .inv .1) (t .before .before .before .before .loop-test .taken) _ (t .before .before .before .head-at .ensures) _ (t .before .before .entry .ensures) _ (t .before .is-among .ensures) (t .if1 .taken) in
-    (quick-one q (c .next .ensures) _ (c .before .before .before .is-among2 .ensures) (c .before .before .if2 .taken), l .inv .1)
+    let h = t .before .before .before in
+    let agree = h .before .before .before .before .before .before .pre .0 in
+    let small : h .head-at .result .number < 64 = rw (h .head-at .ensures) (number-small _) in
+    let read = t .before .before .entry .ensures ∙ entry-read _ agree _ _ small in
+    let q = turn (l .inv .0) _ (l .inv .1) (h .before .loop-test .taken) _ (h .head-at .ensures) _ read _ (t .before .is-among .ensures) (t .if1 .taken) in
+    (quick-one q (c .next .ensures ∙ next-read _ agree _ _ (l .inv .0 .low) small) _ (c .before .before .before .is-among2 .ensures) (c .before .before .if2 .taken), l .inv .1)
 
 words-of-requires : tie.Need-words-of-requires Inv-loop μ-loop
 words-of-requires c κs = search needs
@@ -77,7 +86,7 @@ returns c =
     past (t .before .before .loop .inv .0) (t .before .loop-test .taken) _ (ap (λ x. x .number) (t .head-at .ensures)) _ (c .before .before .words-of .ensures) (c .before .if4 .taken)
 
 next-requires-2 : tie.Need-next-requires-2 Inv-loop μ-loop
-next-requires-2 c κs = let t = c .before .before .before .before .before .before .before in (t .before .before .before .before .before .before .pre .0, (t .before .before .loop .inv .0 .low, rw (t .head-at .ensures) (number-small _)))
+next-requires-2 c κs = search needs
 
 add-at-2 : tie.Need-add-at-2 Inv-loop μ-loop
 add-at-2 c = let w = c .before .before .before .before .before .before .before .before .before .before .loop .inv .0 in omega (arith, c .before .if4 .left, w .within, w .few)
@@ -91,11 +100,18 @@ loop-again-3 : tie.Need-loop-again-3 Inv-loop μ-loop
 loop-again-3 c =
     let t = c .before .before .before .before .before in
     let l = t .before .before .before .before .before .loop in
-    let q = turn (l .inv .0) _ (l .inv .1) (t .before .before .before .before .loop-test .taken) _ (t .before .before .before .head-at .ensures) _ (t .before .before .entry .ensures) _ (t .before .is-among .ensures) (t .if1 .taken) in
-    (quick q (c .next2 .ensures) _ (c .before .before .words-of .ensures) (c .before .if4 .left), l .inv .1)
+    let h = t .before .before .before in
+    let agree = h .before .before .before .before .before .before .pre .0 in
+    let small : h .head-at .result .number < 64 = rw (h .head-at .ensures) (number-small _) in
+    let read = t .before .before .entry .ensures ∙ entry-read _ agree _ _ small in
+    let q = turn (l .inv .0) _ (l .inv .1) (h .before .loop-test .taken) _ (h .head-at .ensures) _ read _ (t .before .is-among .ensures) (t .if1 .taken) in
+    (quick q (c .next2 .ensures ∙ next-read _ agree _ _ (l .inv .0 .low) small) _ (c .before .before .words-of .ensures) (c .before .if4 .left), l .inv .1)
 
 advance-requires : tie.Need-advance-requires Inv-loop μ-loop
-advance-requires c κs = (rw (c .before .before .before .head-at .ensures) (number-small _), c .before .before .entry .ensures)
+advance-requires c κs =
+    let h = c .before .before .before in
+    let small : h .head-at .result .number < 64 = rw (h .head-at .ensures) (number-small _) in
+    (small, c .before .before .entry .ensures ∙ entry-read _ (h .before .before .before .before .before .before .pre .0) _ _ small)
 
 sub-if5 : tie.Need-sub-if5 Inv-loop μ-loop
 sub-if5 c = omega (arith, c .before .before .before .before .before .loop-test .taken)

@@ -1,6 +1,6 @@
 -- `rdp_state::updates::wait_of` meets its contract: each arm is a line of `commandWait`. Assumes nothing.
 use borrow.Author.Tests.{ne-eqb}
-use Rattle.rdp_check.specs.Syncs.{commandWait}
+use Rattle.rdp_hazards.specs.Syncs.{commandWait}
 use Rattle.rdp_state.proofs.updates.wait_of.Statement.{statement}
 use Rattle.rdp_state.proofs.updates.wait_of.Tie as tie
 

@@ -1,0 +1,3 @@
+pub mod Hazards
+pub mod Syncs
+pub mod Marks

@@ -1,0 +1,16 @@
+pub mod SyncLaws
+pub mod ChoiceLaws
+pub mod LeastLaws
+pub mod JudgeLaws
+pub mod RoomLaws
+pub mod RepairedLaws
+pub mod AfreshLaws
+pub mod TabulateLaws
+pub mod RankLaws
+pub mod BackLaws
+pub mod ForwardLaws
+pub mod WriteLaws
+pub mod DropLaws
+pub mod PassLaws
+pub mod RepairLaws
+pub mod BoundLaws
