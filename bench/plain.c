@@ -1628,7 +1628,7 @@ uint64_t plain_rest(const uint8_t *first, size_t first_length, const uint8_t *se
     uint64_t refusal = compare_refusal(first, first_length, second, second_length);
     size_t ends[2] = {first_length, second_length};
     if (refusal != 0)
-        return answer(refusal >> 56, 0, (uint32_t)first_length);
+        return answer(refusal >> 56, 0, first_length < UINT32_MAX ? first_length : UINT32_MAX);
     if (compare_lists(first, &ends[0], second, &ends[1], NULL) > count)
         return answer(14, 0, first_length);
     return ends[1] < second_length ? answer(0, 1, ends[1]) : answer(0, 0, ends[0]);
