@@ -21,6 +21,10 @@ uint64_t plain_stream_close(struct plain_stream *stream);
 /* The RDP list of a display list in memory; bits 55:32 are the display list commands read. */
 uint64_t plain_translate(const uint8_t *memory, size_t memory_length, uint32_t start, uint8_t *out, size_t out_length);
 
+/* Two lists compared, four numbers an entry, and the rest of the longer one: bits 55:32 say which that is. */
+uint64_t plain_compare(const uint8_t *first, size_t first_length, const uint8_t *second, size_t second_length, uint32_t *entries, size_t count);
+uint64_t plain_rest(const uint8_t *first, size_t first_length, const uint8_t *second, size_t second_length, size_t count);
+
 /* The check's answer and the registers after a list, as one number: what lanyardrove_bench_registers of crates/rdp_bench answers. */
 uint64_t plain_registers(const uint8_t *list, size_t list_length);
 

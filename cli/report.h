@@ -49,6 +49,8 @@ typedef struct {
 /* -- report_page.c, report_style.c, report_strip.c, report_table.c ------ */
 
 void style_add(Text *text);
+void head_add(Text *text, const char *verdict, const char *path, const char *kind);
+void foot_add(Text *text);
 void page_add(Text *text, const Report *report);
 void meaning_add(Text *text, const Report *report);
 void strip_add(Text *text, const Rows *rows);

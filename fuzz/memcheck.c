@@ -61,6 +61,23 @@ static void one_translate(const uint8_t *list, size_t length, uint32_t start, si
     free(out);
 }
 
+// The list beside itself with one byte turned over, and less its last word
+static void one_compare(const uint8_t *list, size_t length, size_t count, bool null) {
+    uint8_t *other = copy(list, length, null);
+    uint32_t *entries = (uint32_t *)(void *)exact(4 * count, null);
+    if (length) other[length / 2] ^= 0xFF;
+    for (size_t less = 0; less <= length && less <= 8; less += 8) {
+        const uint64_t answer = lanyardrove_compare(list, length, other, length - less, entries, count);
+        const uint64_t rest = lanyardrove_rest(list, length, other, length - less, count);
+        calls += 2;
+        written(&answer, sizeof answer);
+        written(&rest, sizeof rest);
+        if (number_of(answer) == 0) written(entries, 4 * (size_t)place_of(answer));
+    }
+    free(other);
+    free(entries);
+}
+
 static void one_decode(const uint8_t *list, size_t length, size_t count, bool null) {
     uint64_t *fields = (uint64_t *)(void *)exact(8 * count, null);
     const uint64_t answer = lanyardrove_decode(list, length, fields, count);
@@ -122,6 +139,7 @@ static void one_list(const uint8_t *bytes, size_t length) {
         const uint32_t offsets[] = {0, 4, 8, (uint32_t)length, UINT32_MAX - 7};
         for (size_t s = 0; s < sizeof offsets / sizeof *offsets; s++)
             for (size_t o = 0; o < sizeof room / sizeof *room; o++) one_translate(list, length, offsets[s], room[o], null);
+        for (size_t o = 0; o < sizeof room / sizeof *room; o++) one_compare(list, length, room[o], null);
         for (size_t count = 0; count < MOST_FIELDS; count++) one_decode(list, length, count, null);
         const size_t portions[] = {1, 7, 64, 175, 176, 40000};
         for (size_t p = 0; p < sizeof portions / sizeof *portions; p++) one_stream(list, length, portions[p], null);

@@ -10,6 +10,8 @@ uint64_t right_check(const uint8_t *list, size_t length);
 uint64_t right_repair(const uint8_t *list, size_t length, uint8_t *work, size_t work_length, uint8_t *out, size_t out_length);
 uint64_t right_repair_afresh(const uint8_t *list, size_t length, uint8_t *work, size_t work_length, uint8_t *out, size_t out_length);
 uint64_t right_draw(const uint8_t *list, size_t length, uint8_t *memory, size_t memory_length, uint64_t start, uint8_t *texture, size_t texture_length);
+uint64_t right_compare(const uint8_t *first, size_t first_length, const uint8_t *second, size_t second_length, uint32_t *entries, size_t count);
+uint64_t right_rest(const uint8_t *first, size_t first_length, const uint8_t *second, size_t second_length, size_t count);
 uint64_t right_translate(const uint8_t *memory, size_t memory_length, uint32_t start, uint8_t *out, size_t out_length);
 uint64_t right_decode(const uint8_t *list, size_t length, uint64_t *fields, size_t count);
 uint64_t right_encode(uint32_t number, const uint64_t *fields, size_t count, const uint8_t *suffix, size_t suffix_length, uint8_t *out, size_t out_length);
@@ -138,6 +140,40 @@ uint64_t lanyardrove_repair_afresh(const uint8_t *list, size_t length, uint8_t *
                 out[8 * i] = 0x27;
                 return a + (25ull << 32);
             }
+    return a;
+}
+
+static void swap(uint32_t *numbers) {
+    const uint32_t first = numbers[0];
+    numbers[0] = numbers[1];
+    numbers[1] = first;
+}
+
+uint64_t lanyardrove_compare(const uint8_t *first, size_t first_length, const uint8_t *second, size_t second_length, uint32_t *entries, size_t count) {
+    if (wrong(115)) {  // the second list's grounds first
+        const uint64_t of_second = right_compare(second, second_length, second, second_length, NULL, 0);
+        if (of_second >> 56) return of_second;
+    }
+    const uint64_t a = right_compare(first, first_length, second, second_length, entries, count), number = a >> 56;
+    const size_t numbers = (uint32_t)a;
+    if (wrong(114) && number == 0 && numbers && numbers == count) return 14ull << 56 | numbers;          // room for one more
+    if (wrong(119) && number == 14 && count) entries[count - 1] ^= 1;                                     // writes and refuses
+    if (wrong(118) && number == 0 && numbers == 0 && count >= 4 && first_length == second_length && first_length && memcmp(first, second, first_length)) {
+        memset(entries, 0, 16);  // bits of no field count
+        return 4;
+    }
+    for (size_t i = 0; number == 0 && i < numbers; i += 4) {
+        if (wrong(111)) swap(entries + i + 2);  // low half first
+        if (wrong(112)) swap(entries + i);      // places
+        if (wrong(113) && command_number(first + 8 * entries[i]) / 8 == 1 && entries[i + 3] >> 21) entries[i + 3] ^= 3u << 21;  // the suffix is bit 22
+    }
+    return a;
+}
+
+uint64_t lanyardrove_rest(const uint8_t *first, size_t first_length, const uint8_t *second, size_t second_length, size_t count) {
+    const uint64_t a = right_rest(first, first_length, second, second_length, count), number = a >> 56;
+    if (wrong(116) && number == 0 && (uint32_t)a < first_length) return a ^ 1ull << 32;       // the other list
+    if (wrong(117) && number == 14) return right_rest(first, first_length, second, second_length, SIZE_MAX) | 14ull << 56;  // the rest at 14
     return a;
 }
 

@@ -218,7 +218,7 @@ uint64_t lanyardrove_compare(const uint8_t *first, size_t first_length,
    lanyardrove_compare answers where count numbers are lent for its entries. At 0 the third number, lanyardrove_list, says
    which list has more commands, 0 the first and 1 the second, and the place is the byte of that list where they begin: they
    go on to its end. Where both have as many, and at every other number, it is the empty end of the first: 0 and
-   first_length. */
+   first_length, as the place at most 4,294,967,295, which stands for that and more. */
 uint64_t lanyardrove_rest(const uint8_t *first, size_t first_length,
                           const uint8_t *second, size_t second_length,
                           size_t count);
