@@ -1,0 +1,2 @@
+pub mod PixelLaws
+pub mod ViewLaws
