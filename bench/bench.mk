@@ -12,10 +12,11 @@ $(BENCH_ARCHIVE): $(SOURCES)
 	cp target/staticlib/librdp_bench.a $@
 
 # Measures the library beside the independent Rust version and the plain C version, all built for release, and prints a table (about five seconds).
+# ROWS=translate measures only the rows whose names hold it.
 # The second archive comes after the first, since two provers in one folder would meet.
 bench: $(LANYARDROVE_ARCHIVE)
 	$(MAKE) $(BENCH_ARCHIVE)
-	$(BENCH_ENVIRONMENT) cargo run --quiet -j1 --manifest-path reference/Cargo.toml --release --features bench --bin bench
+	$(BENCH_ENVIRONMENT) cargo run --quiet -j1 --manifest-path reference/Cargo.toml --release --features bench --bin bench -- $(ROWS)
 
 # Compares the plain C version with the independent version on random cases, and the registers of all three.
 bench-test: $(BENCH_ARCHIVE)

@@ -1,5 +1,5 @@
-/* The plain C version: what one would write without proofs and without SIMD. The rules are document 01's ("01" below), and of textures those of
-   request #106. */
+/* The plain C version: what one would write without proofs and without SIMD. The rules are document 01's ("01" below), of textures those of
+   request #106, of display lists those of #108. */
 #include "plain.h"
 
 #include <endian.h>
@@ -525,14 +525,23 @@ static size_t count_commands(const uint8_t *list, size_t words)
     return count;
 }
 
-/* Notes the number of each command at the start of its sixteen bytes of work. */
-static void note_numbers(const uint8_t *list, size_t words, uint8_t *work)
+/* Request #109: a repair afresh forgets these. */
+static bool is_forgotten(unsigned number)
 {
-    for (size_t at = 0; at < words; work += 16) {
+    return number == SYNC_LOAD || number == SYNC_PIPE || number == SYNC_TILE;
+}
+
+/* Notes the number of each command that is kept at the start of its sixteen bytes of work; answers how many are. */
+static inline size_t note_numbers(const uint8_t *list, size_t words, uint8_t *work, bool afresh)
+{
+    size_t kept = 0;
+    for (size_t at = 0; at < words;) {
         unsigned number = number_at(list + 8 * at);
-        work[0] = number;
         at += words_in(number);
+        if (!(afresh && is_forgotten(number)))
+            work[16 * kept++] = number;
     }
+    return kept;
 }
 
 /* The least cycles from a command on, at given hazards, and the first choice that has them. */
@@ -578,11 +587,16 @@ static size_t count_inserts(const uint8_t *work, size_t commands)
     return count;
 }
 
-static void write_plan(const uint8_t *list, size_t words, const uint8_t *work, uint8_t *out)
+static inline void write_plan(const uint8_t *list, size_t words, const uint8_t *work, uint8_t *out, bool afresh)
 {
     unsigned hazards = 0;
-    for (const uint8_t *end = list + 8 * words; list < end; work += 16) {
+    for (const uint8_t *end = list + 8 * words; list < end;) {
+        if (afresh && is_forgotten(number_at(list))) {
+            list += 8;
+            continue;
+        }
         uint8_t choice = work[hazards];
+        work += 16;
         if (choice >> 4 != 0) {
             memset(out, 0, 8);
             out[0] = option_sync[choice >> 4];
@@ -596,7 +610,9 @@ static void write_plan(const uint8_t *list, size_t words, const uint8_t *work, u
     }
 }
 
-uint64_t plain_repair(const uint8_t *list, size_t list_length, uint8_t *work, size_t work_length, uint8_t *out, size_t out_length)
+/* Inlined into a function for each repair. */
+static inline __attribute__((always_inline)) uint64_t repair_by(const uint8_t *list, size_t list_length, uint8_t *work, size_t work_length, uint8_t *out,
+                                                                size_t out_length, bool afresh)
 {
     uint64_t refusal = length_refusal(list_length, 2048);
     if (refusal != 0)
@@ -608,14 +624,24 @@ uint64_t plain_repair(const uint8_t *list, size_t list_length, uint8_t *work, si
     size_t commands = count_commands(list, words);
     if (work_length / 16 < commands)
         return answer(13, 0, commands);
-    note_numbers(list, words, work);
-    uint32_t cycles = plan(work, commands);
-    size_t needed = words + count_inserts(work, commands);
+    size_t kept = note_numbers(list, words, work, afresh);
+    uint32_t cycles = plan(work, kept);
+    size_t needed = words - (commands - kept) + count_inserts(work, kept);
     bool fits = needed <= out_length / 8;
     if (fits)
-        write_plan(list, words, work, out);
+        write_plan(list, words, work, out, afresh);
     memset(work, 0, 16 * commands);
     return fits ? answer(0, cycles, needed) : answer(14, 0, needed);
+}
+
+uint64_t plain_repair(const uint8_t *list, size_t list_length, uint8_t *work, size_t work_length, uint8_t *out, size_t out_length)
+{
+    return repair_by(list, list_length, work, work_length, out, out_length, false);
+}
+
+uint64_t plain_repair_afresh(const uint8_t *list, size_t list_length, uint8_t *work, size_t work_length, uint8_t *out, size_t out_length)
+{
+    return repair_by(list, list_length, work, work_length, out, out_length, true);
 }
 
 /* Drawing: the list is judged as a whole, and then painted. */
@@ -1278,4 +1304,173 @@ uint64_t plain_stream_close(struct plain_stream *stream)
     else if (stream->number == 0 && stream->held_count != 0)
         remember(stream, 3, (stream->taken - stream->held_count) / 8);
     return told(stream);
+}
+
+/* Display lists (request #108, with the formats of document 003). */
+
+enum {
+    GO = 0xDE,
+    END = 0xDF,
+    FIRST_HALF = 0xE1,
+    MODES_LOW = 0xE2,
+    MODES_HIGH = 0xE3,
+    RECTANGLE = 0xE4,
+    RECTANGLE_FLIP = 0xE5,
+    MODES = 0xEF,
+    SECOND_HALF = 0xF1,
+};
+
+enum { MOST_READ = 4096, MOST_CALLS = 8 };
+
+#define MOST_MEMORY 4294967288u
+
+/* A walk under way: the commands read, the words written, the other modes, and where the calls that have not returned go on. */
+struct walk {
+    const uint8_t *memory;
+    size_t length;
+    uint8_t *out; /* NULL where words are counted only */
+    size_t read, words, calls;
+    uint64_t modes;
+    uint64_t returns[MOST_CALLS];
+};
+
+/* 20, 21, or 0 where a command can be read. */
+static inline unsigned read_refusal(const struct walk *walk, uint64_t offset)
+{
+    if (offset % 8 != 0 || walk->length < 8 || offset > walk->length - 8)
+        return 20;
+    return walk->read == MOST_READ ? 21 : 0;
+}
+
+static inline void write_word(struct walk *walk, uint64_t word)
+{
+    if (walk->out != NULL) {
+        uint64_t bytes = htobe64(word);
+        memcpy(walk->out + 8 * walk->words, &bytes, 8);
+    }
+    walk->words++;
+}
+
+static inline bool has_segment(uint64_t word)
+{
+    return (word >> 24 & 0xFF) != 0;
+}
+
+/* 0xDE: calls the list at an address, or goes there for good. Answers 23 or 0. */
+static inline unsigned go(struct walk *walk, uint64_t word, uint64_t *offset)
+{
+    unsigned parameter = word >> 48 & 0xFF;
+    if (has_segment(word) || parameter > 1 || (parameter == 0 && walk->calls == MOST_CALLS))
+        return 23;
+    if (parameter == 0)
+        walk->returns[walk->calls++] = *offset + 8;
+    *offset = (uint32_t)word;
+    return 0;
+}
+
+/* 0xE2 and 0xE3: LO & ~(((1 << count) - 1) << shift) | data, and a Set Other Modes of the whole. Answers 23 or 0. */
+static inline unsigned change_modes(struct walk *walk, uint64_t word, unsigned first_bit)
+{
+    unsigned count = (word >> 32 & 0xFF) + 1, top = (word >> 40 & 0xFF) + count;
+    if (top > 32)
+        return 23;
+    uint64_t mask = (((uint64_t)1 << count) - 1) << (32 - top);
+    walk->modes = (walk->modes & ~(mask << first_bit)) | (uint64_t)(uint32_t)word << first_bit;
+    write_word(walk, (uint64_t)SET_OTHER_MODES << 56 | bits(walk->modes, 55, 0));
+    return 0;
+}
+
+/* The half-word that must stand at an offset; answers 20, 21, 22 or 0. */
+static inline unsigned take_half(struct walk *walk, uint64_t offset, unsigned number, uint64_t *half)
+{
+    unsigned refusal = read_refusal(walk, offset);
+    if (refusal != 0)
+        return refusal;
+    uint64_t word = word_at(walk->memory + offset);
+    if (word >> 56 != number)
+        return 22;
+    walk->read++;
+    *half = (uint32_t)word;
+    return 0;
+}
+
+/* 0xE4 and 0xE5 with the two half-words. The offset is that of the command after, or of the refused half-word. */
+static inline unsigned rectangle(struct walk *walk, uint64_t word, uint64_t *offset)
+{
+    uint64_t high, low;
+    unsigned refusal = take_half(walk, *offset += 8, FIRST_HALF, &high);
+    if (refusal == 0)
+        refusal = take_half(walk, *offset += 8, SECOND_HALF, &low);
+    if (refusal != 0)
+        return refusal;
+    write_word(walk, bits(word, 61, 0));
+    write_word(walk, high << 32 | low);
+    *offset += 8;
+    return 0;
+}
+
+/* Runs a command that writes its own word; answers 22, 23 or 0. */
+static inline unsigned pass_on(struct walk *walk, uint64_t word)
+{
+    unsigned number = word >> 56;
+    if (number < 0xE6 || number == SECOND_HALF)
+        return 22;
+    if (number >= 0xFD && has_segment(word))
+        return 23;
+    if (number == MODES)
+        walk->modes = word;
+    write_word(walk, bits(word, 61, 0));
+    return 0;
+}
+
+/* Runs the display list at an offset. Inlined into a loop that counts and one that writes. */
+static inline __attribute__((always_inline)) uint64_t walk_display(struct walk *walk, uint64_t offset)
+{
+    for (;;) {
+        unsigned refusal = read_refusal(walk, offset);
+        if (refusal != 0)
+            return answer(refusal, walk->read, offset);
+        uint64_t word = word_at(walk->memory + offset);
+        walk->read++; /* a refused command is taken off again */
+        switch (word >> 56) {
+        case GO:
+            refusal = go(walk, word, &offset);
+            break;
+        case END:
+            if (walk->calls == 0)
+                return answer(0, walk->read, walk->words);
+            offset = walk->returns[--walk->calls];
+            break;
+        case RECTANGLE:
+        case RECTANGLE_FLIP:
+            refusal = rectangle(walk, word, &offset);
+            if (refusal != 0)
+                return answer(refusal, walk->read, offset);
+            break;
+        case MODES_LOW:
+        case MODES_HIGH:
+            refusal = change_modes(walk, word, word >> 56 == MODES_LOW ? 0 : 32);
+            offset += refusal == 0 ? 8 : 0;
+            break;
+        default:
+            refusal = pass_on(walk, word);
+            offset += refusal == 0 ? 8 : 0;
+        }
+        if (refusal != 0)
+            return answer(refusal, walk->read - 1, offset);
+    }
+}
+
+/* A refusal leaves the output, so that words are counted first. */
+uint64_t plain_translate(const uint8_t *memory, size_t memory_length, uint32_t start, uint8_t *out, size_t out_length)
+{
+    size_t length = memory_length < MOST_MEMORY ? memory_length : MOST_MEMORY;
+    struct walk counting = {.memory = memory, .length = length};
+    uint64_t counted = walk_display(&counting, start);
+    if (is_refusal(counted))
+        return counted;
+    if (out_length / 8 < counting.words)
+        return answer(14, counting.read, counting.words);
+    struct walk writing = {.memory = memory, .length = length, .out = out};
+    return walk_display(&writing, start);
 }

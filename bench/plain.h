@@ -9,6 +9,7 @@
    those that a stream has waited, bits 31:0 the place. */
 uint64_t plain_check(const uint8_t *list, size_t list_length);
 uint64_t plain_repair(const uint8_t *list, size_t list_length, uint8_t *work, size_t work_length, uint8_t *out, size_t out_length);
+uint64_t plain_repair_afresh(const uint8_t *list, size_t list_length, uint8_t *work, size_t work_length, uint8_t *out, size_t out_length);
 uint64_t plain_draw(const uint8_t *list, size_t list_length, uint8_t *memory, size_t memory_length, uint64_t start, uint8_t *texture,
                     size_t texture_length);
 
@@ -16,6 +17,9 @@ uint64_t plain_draw(const uint8_t *list, size_t list_length, uint8_t *memory, si
 struct plain_stream;
 uint64_t plain_stream_feed(struct plain_stream *stream, const uint8_t *portion, size_t portion_length);
 uint64_t plain_stream_close(struct plain_stream *stream);
+
+/* The RDP list of a display list in memory; bits 55:32 are the display list commands read. */
+uint64_t plain_translate(const uint8_t *memory, size_t memory_length, uint32_t start, uint8_t *out, size_t out_length);
 
 /* The check's answer and the registers after a list, as one number: what lanyardrove_bench_registers of crates/rdp_bench answers. */
 uint64_t plain_registers(const uint8_t *list, size_t list_length);

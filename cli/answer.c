@@ -58,7 +58,7 @@ static const char *refusal_text(unsigned number)
 /* What an answer means, without a cause. */
 static void explain(const List *list, Answer answer, Purpose purpose, Meaning *meaning)
 {
-    char *text = meaning->text;
+    char *text = meaning->text, offset[OFFSET_ROOM];
     size_t room = sizeof meaning->text;
     unsigned place = answer.place;
     meaning->start = 0;
@@ -73,21 +73,23 @@ static void explain(const List *list, Answer answer, Purpose purpose, Meaning *m
     case LANYARDROVE_NOT_WORDS: snprintf(text, room, "the length of %zu bytes is no multiple of 8", list->length); break;
     case LANYARDROVE_TEXTURE_LENGTH: snprintf(text, room, "texture memory is not 4,096 bytes"); break;
     default:
-        meaning->start = (size_t)snprintf(text, room, "word %u: ", place);
+        meaning->start = (size_t)snprintf(text, room, "word %u%s: ", place, offset_text(list, place, " (", ")", offset));
         snprintf(text + meaning->start, room - meaning->start, "%s %s", name_at(list, place), refusal_text(answer.number));
     }
 }
 
-/* What an answer means; of a missing sync also for which command it is missing. */
+/* What an answer means; of a missing sync also for which command it is missing. With each word of a translated list stands its offset in memory. */
 Meaning meaning_of(const List *list, Answer answer, Purpose purpose)
 {
     static const char between[] = ", for the ";
     Meaning meaning;
+    char offset[OFFSET_ROOM];
     explain(list, answer, purpose, &meaning);
     meaning.end = meaning.cause = strlen(meaning.text);
     if (is_missing_sync(answer)) {
         unsigned place = answer.third;
-        snprintf(meaning.text + meaning.end, sizeof meaning.text - meaning.end, "%s%s at word %u", between, name_at(list, place), place);
+        snprintf(meaning.text + meaning.end, sizeof meaning.text - meaning.end, "%s%s at word %u%s", between, name_at(list, place), place,
+                 offset_text(list, place, " (", ")", offset));
         meaning.cause += strlen(between);
     }
     return meaning;

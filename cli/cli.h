@@ -33,6 +33,7 @@ typedef struct {
     size_t length;
     size_t limit; /* of the bytes; one more tells that the list goes on */
     bool arrived; /* through a pipe, so that the verdict is that of portions */
+    uint32_t *offsets; /* of a translated list: where in memory the command of each word comes from; NULL where that is not known */
     Answer verdict;
 } List;
 
@@ -40,7 +41,7 @@ typedef enum { FOR_CHECK, FOR_REPAIR, FOR_DRAW } Purpose;
 
 /* What an answer means, in one line. */
 typedef struct {
-    char text[160];    /* the longest fits in */
+    char text[200];    /* the longest fits in */
     size_t start, end; /* of what it says of the command: after its place, before its cause */
     size_t cause;      /* where it names the command that a missing sync has to wait for; its end where it names none */
 } Meaning;
@@ -184,10 +185,37 @@ typedef struct {
     uint32_t before, after; /* the cycles that the given list waits, and the repaired one */
 } Repaired;
 
+typedef uint64_t RepairFunction(const uint8_t *list, size_t list_length, uint8_t *work, size_t work_length, uint8_t *out, size_t out_length);
+
+bool repair_by(RepairFunction *repair, const List *list, Answer *answer, List *written);
 bool repaired_of(const List *list, Repaired *repaired);
 size_t given_place(const Repaired *repaired, size_t place);
 void inserted_text(const Repaired *repaired, bool done, char *text, size_t room);
 void repaired_free(Repaired *repaired);
+
+/* -- afresh.c: the repair that forgets the syncs of a list --------------- */
+
+/* What becomes of a sync: the command numbers of the given one and of the written one, 0 where there is none. Where they are the same, its other bits go. */
+typedef struct {
+    size_t place; /* of the given sync; where there is none, of the command that the written one comes before */
+    unsigned given, written;
+} Change;
+
+typedef struct {
+    Answer answer;
+    List list;
+    Change *changes;
+    size_t count;
+    uint32_t before, after; /* the cycles that the given list waits, and the written one */
+} Afresh;
+
+#define CHANGE_ROOM 192 /* bytes that what is said of changes fits in */
+
+bool afresh_of(const List *list, Afresh *afresh);
+void change_text(const List *list, const Change *change, char *text, size_t room);
+void afresh_text(const Afresh *afresh, char *text, size_t room);
+bool cycles_saved(const List *list, uint32_t *saved);
+void afresh_free(Afresh *afresh);
 
 /* -- picture.c: the picture in memory ----------------------------------- */
 
@@ -218,6 +246,14 @@ uint8_t *image_ppm(const Image *image, const uint8_t *rgb, size_t *length);
 Answer translated(const char *path, uint64_t start, Memory *memory, List *list);
 void translation_text(Answer answer, const Memory *memory, char text[TRANSLATION_ROOM]);
 
+/* -- offsets.c: where the commands of a translated list come from ------- */
+
+#define OFFSET_ROOM 64 /* bytes that an offset fits in with what is around it */
+
+uint32_t *offsets_of(const Memory *memory, uint32_t start, Answer answer);
+bool offset_at(const List *list, size_t place, uint32_t *offset);
+const char *offset_text(const List *list, size_t place, const char *before, const char *after, char text[OFFSET_ROOM]);
+
 /* -- message.c: messages, and names that are shown ---------------------- */
 
 void complain(const char *format, ...) __attribute__((format(printf, 1, 2)));
@@ -247,7 +283,7 @@ typedef struct {
     int count;
     Input input;
     const char *output; /* NULL where -o is not given */
-    bool help, brief, quiet, verbose, failures, all, dry, in_place, has_memory, has_image;
+    bool help, brief, quiet, verbose, failures, all, afresh, dry, in_place, has_memory, has_image;
     const struct Format *format; /* of what check tells */
     Number from, to, around; /* places that dump shows */
     const char *memory_file, *texture; /* files of memory and of texture memory; NULL where they are zeros */

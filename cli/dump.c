@@ -47,10 +47,14 @@ static void print_fields(const Dump *dump, const Command *command)
     printf("%s%s", column > 0 ? "\n" : "", style(dump, RESET));
 }
 
-/* Place, byte in the file, and the word there. */
+/* Place, byte in the file, and the word there. Of a translated list the byte is the offset of the command that it comes from, if that is known. */
 static void print_word(const Dump *dump, size_t place)
 {
-    printf("%6zu  %06" PRIX64 "  %016" PRIX64, place, dump->arguments->input.offset.value + 8 * place, word_at(dump->list->bytes, place));
+    uint32_t offset;
+    bool translated = dump->arguments->input.display.is_given, known = offset_at(dump->list, place, &offset);
+    uint64_t byte = known ? offset : dump->arguments->input.offset.value + 8 * place;
+    printf(translated && !known ? "%6zu  ------  " : "%6zu  %06" PRIX64 "  ", place, byte);
+    printf("%016" PRIX64, word_at(dump->list->bytes, place));
 }
 
 /* The further words of a command; those after a triangle's base are named. */
@@ -99,8 +103,9 @@ static void print_refusal(const Dump *dump)
 /* The command that it has to wait for is marked too. */
 static void print_cause(const Dump *dump)
 {
-    char note[64];
-    snprintf(note, sizeof note, "causes the refusal at word %u", (unsigned)dump->list->verdict.place);
+    char note[64 + OFFSET_ROOM], offset[OFFSET_ROOM];
+    size_t place = dump->list->verdict.place;
+    snprintf(note, sizeof note, "causes the refusal at word %zu%s", place, offset_text(dump->list, place, " (", ")", offset));
     print_note(dump, YELLOW, note);
 }
 
@@ -146,7 +151,7 @@ static void print_list(const Dump *dump)
     print_answer(stdout, dump->list, dump->list->verdict, FOR_CHECK);
     fputs(style(dump, RESET), stdout);
     if (dump->list->length >= 8)
-        printf("\n place    byte  word              command\n");
+        printf("\n place  %6s  word              command\n", dump->arguments->input.display.is_given ? "offset" : "byte");
     for (size_t place = 0; command_at(dump->list, place, &command); place += command.words) {
         if (place + command.words > dump->first && place <= dump->last)
             print_command(dump, &command, hazards);

@@ -44,9 +44,19 @@ static json_t *json_text(const char *text)
 
 /* -- json ---------------------------------------------------------------- */
 
+/* The offset in memory of a word of a translated list. */
+static void add_offset(json_t *object, const List *list, size_t place)
+{
+    uint32_t offset;
+    if (object != NULL && offset_at(list, place, &offset))
+        json_object_set_new(object, "offset", json_integer(offset));
+}
+
 static json_t *command_json(const List *list, size_t place)
 {
-    return json_pack("{s:I, s:s}", "place", (json_int_t)place, "command", name_at(list, place));
+    json_t *command = json_pack("{s:I, s:s}", "place", (json_int_t)place, "command", name_at(list, place));
+    add_offset(command, list, place);
+    return command;
 }
 
 /* A refusal: of a command, with the one that a missing sync has to wait for, or of the whole list. */
@@ -56,6 +66,7 @@ static json_t *finding_json(const List *list, Answer answer)
     json_t *finding = json_pack("{s:i, s:I, s:s}", "number", (int)answer.number, "place", (json_int_t)answer.place, "text", meaning.text);
     if (finding != NULL && answer.number >= LANYARDROVE_PAST_END)
         json_object_set_new(finding, "command", json_string(name_at(list, answer.place)));
+    add_offset(finding, list, answer.place);
     if (finding != NULL && is_missing_sync(answer))
         json_object_set_new(finding, "cause", command_json(list, answer.third));
     return finding;
@@ -72,14 +83,19 @@ static json_t *findings_json(const Checked *checked)
 void json_tell(const Arguments *arguments, const Checked *checked)
 {
     const List *list = checked->list;
+    uint32_t saved;
     (void)arguments;
-    if (list == NULL)
+    if (list == NULL) {
         tell(json_pack("{s:o, s:s}", "file", json_text(checked->path), "verdict", "unread"));
-    else
-        tell(json_pack("{s:o, s:s, s:i, s:I, s:I, s:b, s:o}", "file", json_text(checked->path), "verdict",
-                       is_accepted(list->verdict) ? "accepted" : "refused", "number", (int)list->verdict.number, "place",
-                       (json_int_t)list->verdict.place, "cycles", (json_int_t)cycles_waited(list), "empty", list->length == 0, "findings",
-                       findings_json(checked)));
+        return;
+    }
+    json_t *entry = json_pack("{s:o, s:s, s:i, s:I, s:I, s:b, s:o}", "file", json_text(checked->path), "verdict",
+                              is_accepted(list->verdict) ? "accepted" : "refused", "number", (int)list->verdict.number, "place",
+                              (json_int_t)list->verdict.place, "cycles", (json_int_t)cycles_waited(list), "empty", list->length == 0, "findings",
+                              findings_json(checked));
+    if (entry != NULL && cycles_saved(list, &saved))
+        json_object_set_new(entry, "saved", json_integer(saved));
+    tell(entry);
 }
 
 bool json_end(const Arguments *arguments, const Tally *tally)
@@ -107,13 +123,22 @@ static json_t *uri_json(const char *path)
     return value;
 }
 
-/* The word of a list that a place names; of a translated list the file alone, which does not hold it. */
-static json_t *location_json(const Arguments *arguments, const char *path, size_t place, const char *text)
+/* Where the word of a place stands in the file; of a translated list the command that it comes from. */
+static bool byte_of(const Arguments *arguments, const List *list, size_t place, uint64_t *byte)
 {
-    json_t *physical = json_pack("{s:{s:o}}", "artifactLocation", "uri", uri_json(path));
-    if (physical != NULL && !arguments->input.display.is_given)
-        json_object_set_new(physical, "region", json_pack("{s:I, s:i}", "byteOffset", (json_int_t)(arguments->input.offset.value + 8 * place),
-                                                          "byteLength", 8));
+    uint32_t offset = 0;
+    bool known = !arguments->input.display.is_given || offset_at(list, place, &offset);
+    *byte = arguments->input.display.is_given ? offset : arguments->input.offset.value + 8 * place;
+    return known;
+}
+
+/* The word of a list that a place names; the file alone where the word comes from no place that is known. */
+static json_t *location_json(const Arguments *arguments, const Checked *checked, size_t place, const char *text)
+{
+    json_t *physical = json_pack("{s:{s:o}}", "artifactLocation", "uri", uri_json(checked->path));
+    uint64_t byte;
+    if (physical != NULL && byte_of(arguments, checked->list, place, &byte))
+        json_object_set_new(physical, "region", json_pack("{s:I, s:i}", "byteOffset", (json_int_t)byte, "byteLength", 8));
     json_t *location = json_pack("{s:o}", "physicalLocation", physical);
     if (location != NULL && text != NULL)
         json_object_set_new(location, "message", json_pack("{s:s}", "text", text));
@@ -131,9 +156,9 @@ void sarif_tell(const Arguments *arguments, const Checked *checked)
         Answer answer = checked->findings->answers[i];
         Meaning meaning = meaning_of(checked->list, answer, FOR_CHECK);
         json_t *result = json_pack("{s:o, s:s, s:{s:s}, s:[o]}", "ruleId", rule_id(answer.number), "level", "error", "message", "text", meaning.text,
-                                   "locations", location_json(arguments, checked->path, answer.place, NULL));
+                                   "locations", location_json(arguments, checked, answer.place, NULL));
         if (result != NULL && is_missing_sync(answer))
-            json_object_set_new(result, "relatedLocations", json_pack("[o]", location_json(arguments, checked->path, answer.third,
+            json_object_set_new(result, "relatedLocations", json_pack("[o]", location_json(arguments, checked, answer.third,
                                                                                           meaning.text + meaning.cause)));
         tell(result);
     }

@@ -5,9 +5,13 @@
 
 /* -- text: `number place`, and what it means ---------------------------- */
 
+/* The cycles that the syncs of a list wait, and of an accepted list how many fewer they could be. */
 static void print_cycles(const List *list)
 {
+    uint32_t saved;
     printf(is_accepted(list->verdict) ? "; the list waits %u cycles" : "; the syncs before the refusal wait %u cycles", (unsigned)cycles_waited(list));
+    if (cycles_saved(list, &saved))
+        printf(", and syncs chosen afresh would save %u", (unsigned)saved);
 }
 
 /* With several lists each answer has one line, with the list's name. The verdict comes first, and has the cycles. */
@@ -70,6 +74,14 @@ bool lines_end(const Arguments *arguments, const Tally *tally)
 
 /* -- as compilers do: FILE:PLACE: error: .. ------------------------------ */
 
+/* How a line begins; the place of a translated list is followed by its offset in memory. */
+static void print_start(const Checked *checked, uint32_t place, const char *kind)
+{
+    char offset[OFFSET_ROOM];
+    print_shown(stdout, checked->path);
+    printf(":%u: %s: %s", (unsigned)place, kind, offset_text(checked->list, place, "", ": ", offset));
+}
+
 void gcc_tell(const Arguments *arguments, const Checked *checked)
 {
     (void)arguments;
@@ -77,11 +89,11 @@ void gcc_tell(const Arguments *arguments, const Checked *checked)
         Answer answer = checked->findings->answers[i];
         Meaning meaning = meaning_of(checked->list, answer, FOR_CHECK);
         meaning.text[meaning.end] = '\0';
-        print_shown(stdout, checked->path);
-        printf(":%u: error: %s [%u]\n", (unsigned)answer.place, meaning.text + meaning.start, answer.number);
+        print_start(checked, answer.place, "error");
+        printf("%s [%u]\n", meaning.text + meaning.start, answer.number);
         if (is_missing_sync(answer)) {
-            print_shown(stdout, checked->path);
-            printf(":%u: note: the %s that it has to wait for\n", (unsigned)answer.third, name_at(checked->list, answer.third));
+            print_start(checked, answer.third, "note");
+            printf("the %s that it has to wait for\n", name_at(checked->list, answer.third));
         }
     }
 }

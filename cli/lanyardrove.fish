@@ -15,6 +15,7 @@ complete -c lanyardrove -n "__fish_seen_subcommand_from check" -l failures -d "l
 complete -c lanyardrove -n "__fish_seen_subcommand_from check" -l all -d "every missing sync"
 complete -c lanyardrove -n "__fish_seen_subcommand_from check" -l format -x -a "text gcc github json sarif"
 
+complete -c lanyardrove -n "__fish_seen_subcommand_from repair" -l afresh -d "choose all syncs afresh"
 complete -c lanyardrove -n "__fish_seen_subcommand_from repair" -l check -d "write nothing"
 complete -c lanyardrove -n "__fish_seen_subcommand_from repair" -s i -l in-place -d "write each list over itself"
 

@@ -14,7 +14,7 @@ _lanyardrove()
     fi
     case $words[2] in
     check) options=($display -q --quiet -v --verbose --failures --all '--format=:form:(text gcc github json sarif)') ;;
-    repair) options=(--check -i --in-place '-o:output:_files' '--output=:output:_files') ;;
+    repair) options=(--afresh --check -i --in-place '-o:output:_files' '--output=:output:_files') ;;
     dump) options=($display --brief '--from=:place:' '--to=:place:' '--around=:place:') ;;
     draw) options=($memory '--image=:image:' '-o:output:_files' '--output=:output:_files') ;;
     report) options=($memory '-o:output:_files' '--output=:output:_files') ;;

@@ -115,6 +115,8 @@ bool list_read(const char *path, List *list, const Reading *reading, const Input
 void list_free(List *list)
 {
     free(list->bytes);
+    free(list->offsets);
     list->bytes = NULL;
+    list->offsets = NULL;
     list->length = 0;
 }

@@ -20,7 +20,8 @@ static const Entry entries[] = {
       "and says which sync stands before which command, and the cycles that the list\n"
       "waits before and after. Without -o the list goes to standard output and the\n"
       "text to standard error. Nothing is written where the list is refused for another\n"
-      "reason than a missing sync." },
+      "reason than a missing sync.\n"
+      "With --afresh it says which syncs go, come and change." },
     { OF_DUMP, "dump", run_dump, 1, "list",
       "dump [OPTION].. FILE\n"
       "Shows the verdict, then the list command by command: place, byte, words, name,\n"

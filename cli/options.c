@@ -106,8 +106,11 @@ static const Option options[] = {
       "the scissor" },
     { OF_TRANSLATE, "start", 0, DISPLAY,
       "where the display list begins in the memory; 0 if not\ngiven" },
-    { OF_REPAIR, "check", 0, FLAG(dry), "write nothing; status 1 where a sync would be inserted" },
-    { OF_REPAIR, "in-place", 'i', FLAG(in_place), "write each list over itself, where a sync is inserted" },
+    { OF_REPAIR, "afresh", 0, FLAG(afresh),
+      "forget the Load, Tile and Pipe syncs of the list, and\n"
+      "choose all afresh, so that it waits as little as it can" },
+    { OF_REPAIR, "check", 0, FLAG(dry), "write nothing; status 1 where the list would change" },
+    { OF_REPAIR, "in-place", 'i', FLAG(in_place), "write each list over itself, where it changes" },
     { OF_REPAIR, "output", 'o', OUTPUT, "the file to write; it may be FILE itself" },
     { OF_DRAW, "output", 'o', OUTPUT,
       "the file to write: .png or .ppm for the picture, .bin for\n"

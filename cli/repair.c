@@ -19,17 +19,34 @@ static void print_name(const Repair *repair, const char *path)
     }
 }
 
+/* A line of what is told of a list. */
+static void print_line(const Repair *repair, const char *path, const char *text)
+{
+    print_name(repair, path);
+    fprintf(repair->stream, "%s\n", text);
+}
+
 static void print_insertions(const Repair *repair, const char *path, const List *list, const Repaired *repaired)
 {
-    char all[160];
+    char text[160];
     for (size_t i = 0; i < repaired->count; i++) {
         const Insertion *insertion = &repaired->inserted[i];
-        print_name(repair, path);
-        fprintf(repair->stream, "%s before word %zu, %s\n", command_name(insertion->number), insertion->place, name_at(list, insertion->place));
+        snprintf(text, sizeof text, "%s before word %zu, %s", command_name(insertion->number), insertion->place, name_at(list, insertion->place));
+        print_line(repair, path, text);
     }
-    print_name(repair, path);
-    inserted_text(repaired, !repair->arguments->dry, all, sizeof all);
-    fprintf(repair->stream, "%s\n", all);
+    inserted_text(repaired, !repair->arguments->dry, text, sizeof text);
+    print_line(repair, path, text);
+}
+
+static void print_changes(const Repair *repair, const char *path, const List *list, const Afresh *afresh)
+{
+    char text[CHANGE_ROOM];
+    for (size_t i = 0; i < afresh->count; i++) {
+        change_text(list, &afresh->changes[i], text, sizeof text);
+        print_line(repair, path, text);
+    }
+    afresh_text(afresh, text, sizeof text);
+    print_line(repair, path, text);
 }
 
 /* As check tells a refusal. */
@@ -45,38 +62,58 @@ static int refuse(const Repair *repair, const char *path, const List *list, Answ
     return STATUS_REFUSED;
 }
 
-/* Where the repaired list goes; NULL where nothing is written. A list that misses nothing is left as it is in place. */
-static const char *output_of(const Arguments *arguments, const char *path, const Repaired *repaired)
+/* Where the repaired list goes; NULL where nothing is written. In place a list is left as it is where nothing changes. */
+static const char *output_of(const Arguments *arguments, const char *path, bool changes)
 {
     if (arguments->in_place)
-        return repaired->count > 0 ? path : NULL;
+        return changes ? path : NULL;
     if (arguments->dry)
         return NULL;
     return arguments->output != NULL ? arguments->output : "-";
 }
 
-static int tell_repaired(const Repair *repair, const char *path, const List *list, const Repaired *repaired)
+/* Writes the repaired list where it goes; the status. */
+static int write_repaired(const Repair *repair, const char *path, const List *given, const List *list)
 {
-    const char *output = output_of(repair->arguments, path, repaired);
-    if (is_refused(repaired->answer))
-        return refuse(repair, path, list, repaired->answer);
-    if (output != NULL && !file_write(output, repaired->list.bytes, repaired->list.length))
+    bool changes = list->length != given->length || memcmp(list->bytes, given->bytes, list->length) != 0;
+    const char *output = output_of(repair->arguments, path, changes);
+    if (output != NULL && !file_write(output, list->bytes, list->length))
         return STATUS_ERROR;
-    print_insertions(repair, path, list, repaired);
-    return repair->arguments->dry && repaired->count > 0 ? STATUS_REFUSED : STATUS_ACCEPTED;
+    return repair->arguments->dry && changes ? STATUS_REFUSED : STATUS_ACCEPTED;
+}
+
+/* The syncs that the list misses are inserted. */
+static int insert(const Repair *repair, const char *path, const List *list)
+{
+    Repaired repaired;
+    if (!repaired_of(list, &repaired))
+        return STATUS_ERROR;
+    int status = is_refused(repaired.answer) ? refuse(repair, path, list, repaired.answer) : write_repaired(repair, path, list, &repaired.list);
+    if (is_accepted(repaired.answer) && status != STATUS_ERROR)
+        print_insertions(repair, path, list, &repaired);
+    repaired_free(&repaired);
+    return status;
+}
+
+/* All syncs are chosen afresh. */
+static int choose_afresh(const Repair *repair, const char *path, const List *list)
+{
+    Afresh afresh;
+    if (!afresh_of(list, &afresh))
+        return STATUS_ERROR;
+    int status = is_refused(afresh.answer) ? refuse(repair, path, list, afresh.answer) : write_repaired(repair, path, list, &afresh.list);
+    if (is_accepted(afresh.answer) && status != STATUS_ERROR)
+        print_changes(repair, path, list, &afresh);
+    afresh_free(&afresh);
+    return status;
 }
 
 static int repair_file(const Repair *repair, const char *path)
 {
     List list;
-    Repaired repaired;
     if (!list_read(path, &list, &to_repair, &repair->arguments->input))
         return STATUS_ERROR;
-    int status = STATUS_ERROR;
-    if (repaired_of(&list, &repaired)) {
-        status = tell_repaired(repair, path, &list, &repaired);
-        repaired_free(&repaired);
-    }
+    int status = repair->arguments->afresh ? choose_afresh(repair, path, &list) : insert(repair, path, &list);
     list_free(&list);
     return status;
 }

@@ -25,28 +25,39 @@ static bool find_insertions(const List *list, Repaired *repaired)
     return 8 * at == out->length;
 }
 
-/* False where memory is short or the lists cannot be compared; a refusal is in the answer. */
-static bool repair_whole(const List *list, Repaired *repaired)
+/* What a repair answers of a list, and the list that it writes, to be freed. False where memory is short, which is told. */
+bool repair_by(RepairFunction *repair, const List *list, Answer *answer, List *written)
 {
     size_t words = list->length / 8 + 1;
     uint8_t *work = calloc(words, 16);
-    repaired->list.bytes = calloc(2 * words + LANYARDROVE_MOST_WORDS, 8);
-    repaired->inserted = calloc(words, sizeof *repaired->inserted);
-    bool done = work != NULL && repaired->list.bytes != NULL && repaired->inserted != NULL;
+    *written = (List){ .bytes = calloc(2 * words + LANYARDROVE_MOST_WORDS, 8) };
+    bool done = work != NULL && written->bytes != NULL;
     if (done) {
-        repaired->answer = answer_of(lanyardrove_repair(list->bytes, list->length, work, 16 * words, repaired->list.bytes, 16 * words));
-        if (is_accepted(repaired->answer)) {
-            repaired->list.length = 8 * (size_t)repaired->answer.place;
-            repaired->after = cycles_waited(&repaired->list);
-            repaired->before = repaired->after - repaired->answer.third; /* every given command stands in the repaired list */
-            done = find_insertions(list, repaired);
-            if (!done)
-                complain("the repaired list cannot be compared with the given one");
-        }
-    }
-    else
+        *answer = answer_of(repair(list->bytes, list->length, work, 16 * words, written->bytes, 16 * words));
+        written->length = is_accepted(*answer) ? 8 * (size_t)answer->place : 0;
+    } else
         complain("not enough memory for the repair");
     free(work);
+    return done;
+}
+
+/* The cycles before and after, and what was inserted. */
+static bool compare(const List *list, Repaired *repaired)
+{
+    repaired->after = cycles_waited(&repaired->list);
+    repaired->before = repaired->after - repaired->answer.third; /* every given command stands in the repaired list */
+    repaired->inserted = calloc(list->length / 8 + 1, sizeof *repaired->inserted);
+    bool done = repaired->inserted != NULL && find_insertions(list, repaired);
+    if (!done)
+        complain("the repaired list cannot be compared with the given one");
+    return done;
+}
+
+/* False where memory is short or the lists cannot be compared; a refusal is in the answer. */
+static bool repair_whole(const List *list, Repaired *repaired)
+{
+    bool done = repair_by(lanyardrove_repair, list, &repaired->answer, &repaired->list)
+                && (is_refused(repaired->answer) || compare(list, repaired));
     if (!done)
         repaired_free(repaired);
     return done;

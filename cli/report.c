@@ -45,6 +45,14 @@ static void number_as_given(Report *report)
         report->drawing.place = (uint32_t)given_place(&report->repaired, report->drawing.place);
 }
 
+/* Where both repairs write the same, the second has nothing to add. */
+static void compare_plans(Report *report)
+{
+    const List *one = &report->repaired.list, *two = &report->afresh.list;
+    if (one->length == two->length && one->bytes != NULL && two->bytes != NULL && memcmp(one->bytes, two->bytes, one->length) == 0)
+        report->afresh.count = 0;
+}
+
 /* A list that is too long for the repair still gets the sync that its refused command misses. */
 static void find_missing(Report *report)
 {
@@ -81,8 +89,9 @@ static bool gather(Report *report)
 {
     const List *list = &report->list;
     report->drawing = report->answer = list->verdict;
-    if (!rows_of(list, report->answer, &report->rows) || !repaired_of(list, &report->repaired))
+    if (!rows_of(list, report->answer, &report->rows) || !repaired_of(list, &report->repaired) || !afresh_of(list, &report->afresh))
         return false;
+    compare_plans(report);
     find_missing(report);
     if (report->repaired.count == 0) /* drawing runs the whole check first */
         return is_refused(report->answer) || draw_picture(report, list);
@@ -133,6 +142,7 @@ int run_report(const Arguments *arguments)
     free(report.rows.rows);
     free(report.repaired_rows.rows);
     repaired_free(&report.repaired);
+    afresh_free(&report.afresh);
     list_free(&report.list);
     return status;
 }

@@ -37,6 +37,7 @@ typedef struct {
     Answer answer;
     Rows rows;
     Repaired repaired;  /* its answer says whether the list can be repaired */
+    Afresh afresh;      /* the other plan: all syncs chosen afresh; without changes where both are the same */
     Insertion missing;  /* the sync that the refused command misses, where it cannot; its number is 0 where there is none */
     Rows repaired_rows; /* of the repaired list, where syncs were inserted */
     Answer drawing;     /* what drawing the list, or the repaired list, answers */

@@ -27,9 +27,10 @@ void place_add(Text *text, size_t place)
 /* A sync that is or would be inserted, and before what. */
 static void add_insertion(Text *text, const Report *report, const Insertion *insertion)
 {
+    char offset[OFFSET_ROOM];
     text_add(text, "%s before ", command_name(insertion->number));
     place_add(text, insertion->place);
-    text_add(text, ", %s", name_at(&report->list, insertion->place));
+    text_add(text, "%s, %s", offset_text(&report->list, insertion->place, " (", ")", offset), name_at(&report->list, insertion->place));
 }
 
 /* `number place` and what it means, in the middle of a sentence. */
@@ -115,6 +116,23 @@ static void add_insertions(Text *text, const Report *report)
     text_add(text, "</ul></details>\n");
 }
 
+/* The other plan: what becomes of each sync where all are chosen afresh. */
+static void add_afresh(Text *text, const Report *report)
+{
+    const Afresh *afresh = &report->afresh;
+    char line[CHANGE_ROOM];
+    afresh_text(afresh, line, sizeof line);
+    if (afresh->count == 0)
+        text_add(text, "<p>Chosen afresh, the syncs would be the same.</p>\n");
+    else
+        text_add(text, "<details%s><summary>Chosen afresh: %s</summary>\n<ul id=\"afresh\">\n", afresh->count <= OPEN_LIMIT ? " open" : "", line);
+    for (size_t i = 0; i < afresh->count; i++) {
+        change_text(&report->list, &afresh->changes[i], line, sizeof line);
+        text_add(text, "<li><a href=\"#w%zu\">%s</a></li>\n", afresh->changes[i].place, line);
+    }
+    text_add(text, afresh->count > 0 ? "</ul></details>\n" : "");
+}
+
 static void add_repair(Text *text, const Report *report)
 {
     text_add(text, "<section>\n<h2>Repair</h2>\n");
@@ -131,6 +149,8 @@ static void add_repair(Text *text, const Report *report)
         text_add(text, "<p>No sync is missing.</p>\n");
     else
         add_insertions(text, report);
+    if (is_accepted(report->afresh.answer))
+        add_afresh(text, report);
     text_add(text, "</section>\n");
 }
 

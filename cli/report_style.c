@@ -49,10 +49,10 @@ static const char table[] =
     "thead th{background:var(--panel);font-size:.85rem;color:var(--soft);white-space:nowrap;position:sticky;top:0}\n"
     ".place{text-align:right;font-variant-numeric:tabular-nums}.place a{color:inherit;text-decoration:none}.place a:hover{text-decoration:underline}\n"
     ".name{white-space:nowrap;font-weight:600}td.words summary{font-weight:400;list-style:none}\n"
-    ".more{color:var(--link);text-decoration:underline}\n"
+    ".more{color:var(--link);text-decoration:underline}.from{color:var(--soft);font-size:.85em;white-space:nowrap}\n"
     ".choices{border:0;padding:0;margin:0;font-size:.9rem}.choices legend{float:left;padding:0;margin-right:.9rem;color:var(--soft)}\n"
     ".choices label{display:inline-block;margin-right:.9rem}\n"
-    ".choices:has(#show-marked:checked)~table tbody tr:not(.refused,.cause,.inserted),.choices:has(#show-draw:checked)~table tbody tr:not(.draw),\n"
+    ".choices:has(#show-marked:checked)~table tbody tr:not(.refused,.cause,.inserted,.comes,.changes),.choices:has(#show-draw:checked)~table tbody tr:not(.draw),\n"
     ".choices:has(#show-load:checked)~table tbody tr:not(.load),.choices:has(#show-set:checked)~table tbody tr:not(.set),\n"
     ".choices:has(#show-sync:checked)~table tbody tr:not(.sync),.choices:has(#show-none:checked)~table tbody tr:not(.none),\n"
     ".choices:has(#show-unassigned:checked)~table tbody tr:not(.unassigned){display:none}\n"
@@ -61,7 +61,8 @@ static const char table[] =
     "tr.refused>*{background:var(--bad-soft)}tr.refused td:first-child{box-shadow:inset .4rem 0 var(--bad)}\n"
     "tr.cause>*{background:var(--wait-soft)}tr.cause td:first-child{box-shadow:inset .4rem 0 var(--wait)}\n"
     "#refused,#cause{scroll-margin-top:7rem}.reason{color:var(--bad);font-weight:700}.cause .reason{color:var(--wait)}\n"
-    ".reason a,.meaning a{color:inherit}tr.inserted>*{background:var(--good-soft);color:var(--good)}\n";
+    ".reason a,.meaning a{color:inherit}tr.inserted>*{background:var(--good-soft);color:var(--good)}\n"
+    ".fresh{color:var(--draw);font-weight:700}tr.comes>*{background:var(--panel);color:var(--draw)}\n";
 
 /* In a narrow window each command is a block. */
 static const char narrow[] =

@@ -87,18 +87,39 @@ static void add_reason(Text *text, const Report *report)
 /* Which command has to wait for this one. */
 static void add_cause(Text *text, const Report *report)
 {
-    text_add(text, "<div class=\"reason\">&#9654; Causes the refusal at <a href=\"#refused\">word %u</a></div>", (unsigned)report->answer.place);
+    char offset[OFFSET_ROOM];
+    text_add(text, "<div class=\"reason\">&#9654; Causes the refusal at <a href=\"#refused\">word %u</a>%s</div>", (unsigned)report->answer.place,
+             offset_text(&report->list, report->answer.place, " (", ")", offset));
 }
 
-/* The start of a row: the refused command and its cause have an anchor of their own. */
+/* The change of the sync at a place by a fresh choice, or of the one that would come before the command there; NULL where there is none. */
+static const Change *change_at(const Report *report, size_t place, bool comes)
+{
+    for (size_t i = 0; i < report->afresh.count; i++)
+        if (report->afresh.changes[i].place == place && (report->afresh.changes[i].given == 0) == comes)
+            return &report->afresh.changes[i];
+    return NULL;
+}
+
+static void add_change(Text *text, const Report *report, const Change *change)
+{
+    char line[CHANGE_ROOM];
+    change_text(&report->list, change, line, sizeof line);
+    text_add(text, "<div class=\"fresh\">Chosen afresh: %s</div>", line);
+}
+
+/* The start of a row: the refused command and its cause have an anchor of their own. Below the place of a translated list stands its offset in memory. */
 static void add_start(Text *text, const Report *report, size_t row, const Command *command)
 {
+    char offset[OFFSET_ROOM];
     const char *mark = row == report->rows.refused ? "refused" : row == report->rows.cause ? "cause" : NULL;
+    const char *changes = change_at(report, command->place, false) != NULL ? " changes" : "";
     if (mark != NULL)
-        text_add(text, "<tr id=\"%s\" class=\"%s %s\">", mark, kind_of(command->number), mark);
+        text_add(text, "<tr id=\"%s\" class=\"%s %s%s\">", mark, kind_of(command->number), mark, changes);
     else
-        text_add(text, "<tr class=\"%s\">", kind_of(command->number));
-    text_add(text, "<td class=\"place\" id=\"w%zu\"><a href=\"#w%zu\">%zu</a></td>", command->place, command->place, command->place);
+        text_add(text, "<tr class=\"%s%s\">", kind_of(command->number), changes);
+    text_add(text, "<td class=\"place\" id=\"w%zu\"><a href=\"#w%zu\">%zu</a>%s</td>", command->place, command->place, command->place,
+             offset_text(&report->list, command->place, "<br><span class=\"from\">", "</span>", offset));
 }
 
 static void add_row(Text *text, const Report *report, size_t row)
@@ -107,6 +128,7 @@ static void add_row(Text *text, const Report *report, size_t row)
     char hazards[64];
     if (!command_at(&report->list, report->rows.rows[row].place, &command))
         return;
+    const Change *change = change_at(report, command.place, false);
     hazards_text(report->rows.rows[row].hazards, hazards, sizeof hazards);
     add_start(text, report, row, &command);
     text_add(text, "<td class=\"words\">");
@@ -116,22 +138,24 @@ static void add_row(Text *text, const Report *report, size_t row)
         add_reason(text, report);
     if (row == report->rows.cause)
         add_cause(text, report);
+    if (change != NULL)
+        add_change(text, report, change);
     add_fields(text, &command);
     if (command.whole)
         add_swatches(text, &command);
     text_add(text, "</td><td class=\"hazards\">%s</td></tr>\n", hazards);
 }
 
-static void add_insertion(Text *text, const Insertion *insertion, const char *what)
+static void add_insertion(Text *text, unsigned number, const char *kind, const char *what)
 {
-    text_add(text, "<tr class=\"inserted\"><td></td><td></td><th scope=\"row\" class=\"name\">+ %s</th><td colspan=\"2\">%s</td></tr>\n",
-             command_name(insertion->number), what);
+    text_add(text, "<tr class=\"%s\"><td></td><td></td><th scope=\"row\" class=\"name\">+ %s</th><td colspan=\"2\">%s</td></tr>\n", kind,
+             command_name(number), what);
 }
 
 /* Which rows are shown is chosen without a script: the style goes by the choice that is checked. */
 static void add_choices(Text *text)
 {
-    static const struct { const char *kind, *label; } choices[] = { { "all", "all" }, { "marked", "only what is refused or inserted" }, { "draw", "draws" },
+    static const struct { const char *kind, *label; } choices[] = { { "all", "all" }, { "marked", "only what is refused or would change" }, { "draw", "draws" },
                                                                     { "load", "loads" }, { "set", "settings" }, { "sync", "syncs" },
                                                                     { "none", "no operations" }, { "unassigned", "unassigned numbers" } };
     text_add(text, "<fieldset class=\"choices\"><legend>Show:</legend>\n");
@@ -141,16 +165,19 @@ static void add_choices(Text *text)
     text_add(text, "</fieldset>\n");
 }
 
-/* The rows, each after the sync that a repair would insert before it. */
+/* The rows, each after the syncs that a repair would insert before it, and that would come afresh. */
 static void add_rows(Text *text, const Report *report)
 {
     const Repaired *repaired = &report->repaired;
     size_t next = 0;
     for (size_t row = 0; row < report->rows.count; row++) {
         if (next < repaired->count && repaired->inserted[next].place == report->rows.rows[row].place)
-            add_insertion(text, &repaired->inserted[next++], "a repair would insert this");
+            add_insertion(text, repaired->inserted[next++].number, "inserted", "a repair would insert this");
         if (report->missing.number != 0 && row == report->rows.refused)
-            add_insertion(text, &report->missing, "this sync is missing");
+            add_insertion(text, report->missing.number, "inserted", "this sync is missing");
+        const Change *change = change_at(report, report->rows.rows[row].place, true);
+        if (change != NULL)
+            add_insertion(text, change->written, "comes", "chosen afresh, this comes here");
         add_row(text, report, row);
     }
 }

@@ -21,6 +21,7 @@ Answer translated(const char *path, uint64_t start, Memory *memory, List *list)
     }
     answer = answer_of(lanyardrove_translate(memory->bytes, memory->length, (uint32_t)start, list->bytes, LIST_LIMIT));
     list->length = is_accepted(answer) ? 8 * (size_t)answer.place : 0;
+    list->offsets = offsets_of(memory, (uint32_t)start, answer);
     return answer;
 }
 

@@ -24,9 +24,11 @@ static void written(const void *bytes, size_t length) {
     if (length && VALGRIND_CHECK_MEM_IS_DEFINED(bytes, length)) undefined++;
 }
 
-static void one_repair(const uint8_t *list, size_t length, size_t work_length, size_t out_length, bool null) {
+typedef uint64_t repair_function(const uint8_t *list, size_t list_length, uint8_t *work, size_t work_length, uint8_t *out, size_t out_length);
+
+static void one_repair(repair_function *repair, const uint8_t *list, size_t length, size_t work_length, size_t out_length, bool null) {
     uint8_t *work = exact(work_length, null), *out = exact(out_length, null);
-    const uint64_t answer = lanyardrove_repair(list, length, work, work_length, out, out_length);
+    const uint64_t answer = repair(list, length, work, work_length, out, out_length);
     calls++;
     written(&answer, sizeof answer);
     const unsigned number = number_of(answer);
@@ -108,7 +110,10 @@ static void one_list(const uint8_t *bytes, size_t length) {
         written(&check, sizeof check);
         const size_t room[] = {0, 1, 15, 16, length, 2 * length, 2 * length + 8, 40000};
         for (size_t w = 0; w < sizeof room / sizeof *room; w++)
-            for (size_t o = 0; o < sizeof room / sizeof *room; o++) one_repair(list, length, room[w], room[o], null);
+            for (size_t o = 0; o < sizeof room / sizeof *room; o++) {
+                one_repair(lanyardrove_repair, list, length, room[w], room[o], null);
+                one_repair(lanyardrove_repair_afresh, list, length, room[w], room[o], null);
+            }
         const uint64_t starts[] = {0, 1, 18, 64, 0x3FFFFC0, UINT64_MAX - 3, UINT64_MAX};
         const size_t memories[] = {0, 1, 4, 37, 38, 64, 4099}, textures[] = {4096, 0, 4095, 4097};
         for (size_t s = 0; s < sizeof starts / sizeof *starts; s++)

@@ -8,6 +8,7 @@
 
 uint64_t right_check(const uint8_t *list, size_t length);
 uint64_t right_repair(const uint8_t *list, size_t length, uint8_t *work, size_t work_length, uint8_t *out, size_t out_length);
+uint64_t right_repair_afresh(const uint8_t *list, size_t length, uint8_t *work, size_t work_length, uint8_t *out, size_t out_length);
 uint64_t right_draw(const uint8_t *list, size_t length, uint8_t *memory, size_t memory_length, uint64_t start, uint8_t *texture, size_t texture_length);
 uint64_t right_translate(const uint8_t *memory, size_t memory_length, uint32_t start, uint8_t *out, size_t out_length);
 uint64_t right_decode(const uint8_t *list, size_t length, uint64_t *fields, size_t count);
@@ -94,6 +95,49 @@ uint64_t lanyardrove_repair(const uint8_t *list, size_t length, uint8_t *work, s
     if (wrong(15) && number == 0 && 8 * words < out_length) out[8 * words] ^= 1;  // beyond what is written
     if (wrong(16) && number == 13) return a + 1;                             // place
     if (wrong(20) && number == 19 && work_length < 16) return 13ull << 56 | 1;  // 13 before 19
+    return a;
+}
+
+// The commands of a list but for the syncs that a repair afresh forgets; their bytes.
+static size_t without_syncs(const uint8_t *list, size_t length, uint8_t *kept) {
+    size_t bytes = 0;
+    for (size_t at = 0, here; at < length; at += here) {
+        here = 8 * words_of(command_number(list + at));
+        if (at + here > length) here = length - at;
+        if (cycles_of(command_number(list + at))) continue;
+        memcpy(kept + bytes, list + at, here);
+        bytes += here;
+    }
+    return bytes;
+}
+
+// The list with its first sync that has other bits kept, as if it were none.
+static uint64_t odd_sync_kept(const uint8_t *list, size_t length, uint8_t *work, size_t work_length, uint8_t *out, size_t out_length) {
+    for (size_t at = 0; at < length; at += 8 * words_of(command_number(list + at)))
+        if (cycles_of(command_number(list + at)) && list[at + 7]) return right_repair(list, length, work, work_length, out, out_length);
+    return right_repair_afresh(list, length, work, work_length, out, out_length);
+}
+
+uint64_t lanyardrove_repair_afresh(const uint8_t *list, size_t length, uint8_t *work, size_t work_length, uint8_t *out, size_t out_length) {
+    static uint8_t kept[LONGEST_LIST];
+    const bool usual = length <= 16384 && length % 8 == 0;
+    if (wrong(101)) return right_repair(list, length, work, work_length, out, out_length);                          // the first repair's list
+    if (wrong(102) && usual) {                                                                                      // 13 by what remains
+        const size_t bytes = without_syncs(list, length, kept);
+        return right_repair(kept, bytes, work, work_length, out, out_length);
+    }
+    if (wrong(103) && usual && length) return odd_sync_kept(list, length, work, work_length, out, out_length);      // a sync with other bits stays
+    const uint64_t a = right_repair_afresh(list, length, work, work_length, out, out_length), number = a >> 56;
+    const size_t words = (uint32_t)a;
+    if (wrong(104) && number == 0 && (a >> 32)) return with_third(a, 0);                                            // only what was added, of none
+    if (wrong(105) && number == 14 && out_length) out[0] ^= 1;                                                      // writes and refuses
+    if (wrong(106) && number == 0 && words && out[8 * words - 8] == 0x29) return a - 1;                             // Sync Full dropped
+    if (wrong(107) && number == 0)                                                                                  // Pipe where Load is enough
+        for (size_t i = 0; i < words; i++)
+            if (memcmp(out + 8 * i, "\x26\0\0\0\0\0\0", 8) == 0) {
+                out[8 * i] = 0x27;
+                return a + (25ull << 32);
+            }
     return a;
 }
 

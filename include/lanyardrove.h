@@ -1,6 +1,6 @@
 /*
- * Lanyardrove: checks, repairs, draws, decodes and encodes command lists of the Nintendo 64's display processor (RDP), and
- * translates the display lists of games into them.
+ * Lanyardrove: checks, repairs, draws, compares, decodes and encodes command lists of the Nintendo 64's display processor
+ * (RDP), and translates the display lists of games into them.
  *
  * Link with build/liblanyardrove.a (`make`) and the C library. The functions allocate nothing, keep no state between calls,
  * use less than 8 KiB of stack and touch only the bytes that they are lent, so calls on different buffers may run at the
@@ -8,15 +8,15 @@
  *
  * A list is 64-bit words, most significant byte first, at any alignment. Places are counted in words from 0.
  *
- * Lent bytes. Each buffer is a pointer and a length, in bytes for bytes and in elements for 64-bit numbers; the pointer
- * may be null where the length is 0. Pointers to 64-bit numbers are aligned as the platform asks, no buffer is longer
+ * Lent bytes. Each buffer is a pointer and a length, in bytes for bytes and in elements for numbers of 32 or 64 bits; the
+ * pointer may be null where the length is 0. Pointers to numbers are aligned as the platform asks, no buffer is longer
  * than PTRDIFF_MAX bytes, and a buffer that is written overlaps no other buffer of the call: C cannot check these three,
  * and they are the caller's to keep. Every content and every length is otherwise allowed. A record is lent by its pointer,
  * which is never null.
  *
  * Answers. Each function but lanyardrove_version and lanyardrove_words answers one 64-bit number, whose parts
  * lanyardrove_number, lanyardrove_place and lanyardrove_third give (or by their meaning _cause, _cycles, _command,
- * _commands_read, _hazards, _required). Number 0 says that all went well; any other is the first refusal that holds: 1 and 2
+ * _commands_read, _list, _hazards, _required). Number 0 says that all went well; any other is the first refusal that holds: 1 and 2
  * of the list, then command by command 3, 4, 19, 5, 6 and 7 to 9, then those that the function adds, in the order of its
  * description. A refusal leaves every byte as it was, but for the repair's work buffer at 14 and a stream's record, which
  * remembers it.
@@ -42,7 +42,7 @@ uint32_t lanyardrove_version(void);
 
 /* The number of an answer, with the place that it has. */
 enum lanyardrove_ground {
-    LANYARDROVE_ACCEPTED = 0,           /* Accepted; the place is the words of the list, or the words or fields written. */
+    LANYARDROVE_ACCEPTED = 0,           /* Accepted; the place is the words of the list, or what was written. */
     LANYARDROVE_TOO_LONG = 1,           /* The list is over 32,768 bytes (repair: 16,384); place 4,096 (repair: 2,048). */
     LANYARDROVE_NOT_WORDS = 2,          /* The byte length is no multiple of 8; place length / 8, rounded down. */
     LANYARDROVE_PAST_END = 3,           /* A command runs past the end of the list; place its first word. */
@@ -82,14 +82,15 @@ static inline uint32_t lanyardrove_number(uint64_t answer) { return (uint32_t)(a
 static inline uint32_t lanyardrove_place(uint64_t answer) { return (uint32_t)answer; }
 static inline uint32_t lanyardrove_third(uint64_t answer) { return (uint32_t)(answer >> 32) & 0xFFFFFFu; }
 
-/* The third number by its meaning: the cause that the check gives; the cycles, of a repair those that it inserted, of a stream
-   those that its syncs have waited; the number of a decoded command; the display list commands that translating has read.
+/* The third number by its meaning: the cause that the check gives; the cycles, of a repair those that it inserted, of a repair
+   afresh all that the written list waits, of a stream those that its syncs have waited; the number of a decoded command; the display list commands that translating has read.
    Those of a repair and of decoding are 0 at a refusal. In the answers of drawing and encoding the third number is 0.
    Of a step's answer the place is the hazards after it, and the third number's low two bits are the sync required. */
 static inline uint32_t lanyardrove_cause(uint64_t checked) { return lanyardrove_third(checked); }
 static inline uint32_t lanyardrove_cycles(uint64_t repaired_or_fed) { return lanyardrove_third(repaired_or_fed); }
 static inline uint32_t lanyardrove_command(uint64_t decoded) { return lanyardrove_third(decoded); }
 static inline uint32_t lanyardrove_commands_read(uint64_t translated) { return lanyardrove_third(translated); }
+static inline uint32_t lanyardrove_list(uint64_t rest) { return lanyardrove_third(rest); }
 static inline uint32_t lanyardrove_hazards(uint64_t stepped) { return lanyardrove_place(stepped); }
 static inline uint32_t lanyardrove_required(uint64_t stepped) { return lanyardrove_third(stepped) % 4; }
 
@@ -163,6 +164,18 @@ uint64_t lanyardrove_repair(const uint8_t *list, size_t list_length,
                             uint8_t *work, size_t work_length,
                             uint8_t *out, size_t out_length);
 
+/* The second repair of a list: forgets its Sync Load, Sync Tile and Sync Pipe commands, whatever their other bits, and chooses
+   afresh. It writes all other commands to the front of out, in order and byte for byte, with syncs between them: the written
+   list passes the check, and no list of those other commands that passes waits fewer cycles (25, 33 and 50 each).
+   Answers 0, the words written as the place and as lanyardrove_cycles all that the written list waits; or the first refusal of
+   lanyardrove_repair, in its order and of the list as given, a sync that would be forgotten among its commands: 1 to 6 and 19,
+   then 13 at the number of these commands, then 14 at the words that this repair needs.
+   Where the given list passes the check, it waits at least as long; what was written is written again, byte for byte.
+   work and out: as for lanyardrove_repair, by the commands as given, and left as there. */
+uint64_t lanyardrove_repair_afresh(const uint8_t *list, size_t list_length,
+                                   uint8_t *work, size_t work_length,
+                                   uint8_t *out, size_t out_length);
+
 /* The bytes of texture memory. */
 #define LANYARDROVE_TEXTURE_BYTES 4096
 
@@ -186,6 +199,29 @@ uint64_t lanyardrove_repair(const uint8_t *list, size_t list_length,
 uint64_t lanyardrove_draw(const uint8_t *list, size_t list_length,
                           uint8_t *memory, size_t memory_length, uint64_t start,
                           uint8_t *texture, size_t texture_length);
+
+/* Compares two lists command by command, by their index from the first on. Two commands differ where their numbers do, or a
+   field; bits that belong to no field don't count, nor do bits 63:62 of a first word. Each pair that differs is an entry of
+   four numbers, written to the front of entries in the order of the commands: the place in the first list, the place in the
+   second, and 64 bits, the high half first, that say which fields differ: lanyardrove_field_bit has the bit of a field, and
+   LANYARDROVE_SUFFIX_BIT that of the words after a triangle's first four, as one field. They are all zero where the numbers
+   of the commands differ.
+   Answers 0 at the numbers written; or the first of refusals 1, 2 and 3 of the first list, then of the second, each at the
+   place that the check gives it; then 14 at the numbers needed. The third number is 0. No other refusal is looked at: a list
+   that the check refuses by 4 and up is compared too. Both lists are read only, and may be the same bytes.
+   entries: count is its length in numbers; 4 for each command of the shorter list always suffice. */
+uint64_t lanyardrove_compare(const uint8_t *first, size_t first_length,
+                             const uint8_t *second, size_t second_length,
+                             uint32_t *entries, size_t count);
+
+/* The rest of two lists: the commands of the longer one that have none to be compared with. Answers the number that
+   lanyardrove_compare answers where count numbers are lent for its entries. At 0 the third number, lanyardrove_list, says
+   which list has more commands, 0 the first and 1 the second, and the place is the byte of that list where they begin: they
+   go on to its end. Where both have as many, and at every other number, it is the empty end of the first: 0 and
+   first_length. */
+uint64_t lanyardrove_rest(const uint8_t *first, size_t first_length,
+                          const uint8_t *second, size_t second_length,
+                          size_t count);
 
 /* Translates a display list of Fast3DEX2 at an offset of a memory: writes the RDP list that it stands for to the front of out.
    A command is 8 bytes, most significant first, and its number the first of them. 0xE6 to 0xF0 and 0xF2 to 0xFF are written as
@@ -355,6 +391,16 @@ enum lanyardrove_image_field { /* Set Texture Image, whose address has 24 bits, 
 enum lanyardrove_depth_image_field { /* Set Depth Image. */
     LANYARDROVE_DEPTH_IMAGE_ADDRESS, /* 24 */ LANYARDROVE_DEPTH_IMAGE_FIELDS
 };
+
+/* The bit of a field of a command in what lanyardrove_compare writes: its line in N64brew's list, counted from the one after
+   the command's on. In Set Other Modes three lines without a name are counted too; their bits are never set. */
+static inline uint32_t lanyardrove_field_bit(uint32_t command_number, uint32_t field)
+{
+    if (command_number != LANYARDROVE_SET_OTHER_MODES) return field;
+    return field + (field >= LANYARDROVE_OTHER_MODES_CYCLE_TYPE) + (field >= LANYARDROVE_OTHER_MODES_BL_M1A_0) +
+           (field >= LANYARDROVE_OTHER_MODES_FORCE_BLEND);
+}
+#define LANYARDROVE_SUFFIX_BIT 21
 
 #ifdef __cplusplus
 }

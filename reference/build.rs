@@ -24,6 +24,9 @@ const FUNCTIONS: &[&str] = &[
     "lanyardrove_stream_feed",
     "lanyardrove_stream_close",
     "lanyardrove_translate",
+    "lanyardrove_repair_afresh",
+    "lanyardrove_compare",
+    "lanyardrove_rest",
 ];
 const BENCH_FUNCTIONS: &[&str] = &["lanyardrove_bench_registers"];
 

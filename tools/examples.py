@@ -151,6 +151,7 @@ LISTS = {
     'k': (of(SETUP + [RECTANGLE, LOAD, RECTANGLE]), '7 4'),
     'm': (of(SETUP + [RECTANGLE, NOTHING, COLOR]), '9 5'),
     'o': (of(SETUP_WIDTH_7 + [COLOR, FIRST_COLUMN]), '0 5'),
+    'old': (of(SETUP + [word for each in (COLOR, RECTANGLE, LOAD, COLOR, FULL_SYNC) for word in (PIPE_SYNC, each)]), '0 13'),
     'sunset': (of(sunset()), '0 244'),
     'valley': (of(valley()), '0 134'),
 }

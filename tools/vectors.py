@@ -5,7 +5,7 @@
     tools/vectors.py --check    says whether that file is as it would write it
 
 The bit lines below are typed from the bit lists of document 000 (N64brew, RDP commands); signs, widths of addresses and refusals
-follow document 01. Nothing here is taken from crates/rdp_command, so that the program's output and this file are independent.
+follow document 01. Nothing here is taken from crates/rdp_command or rdp_encode, so that the program's output and this file are independent.
 """
 import pathlib
 import re

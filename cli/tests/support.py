@@ -80,6 +80,12 @@ def inserted(syncs, cycles, in_all, before=0, done="inserted"):
             f"the list waits {before} cycles before, {before + cycles} after\n")
 
 
+def chosen(go, come, change, in_all, before, after):
+    """The line in which a repair says what it chose afresh."""
+    return (f"syncs that go: {go}, that come: {come}, that change: {change}; {in_all} words in all; "
+            f"the list waits {before} cycles before, {after} after\n")
+
+
 def files():
     return sorted(os.listdir("."))
 

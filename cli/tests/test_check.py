@@ -94,20 +94,33 @@ def check_accepts_what_the_readme_says_that_it_does():
 def told_cycles(*arguments, **more):
     """The cycles that check tells of each list, in its text and in its document."""
     text = run("check", "-v", *arguments, **more)[1]
-    return [int(cycles) for cycles in re.findall(r" waits? (\d+) cycles$", text, re.M)], \
+    return [int(cycles) for cycles in re.findall(r" waits? (\d+) cycles(?:, and syncs chosen afresh would save \d+)?$", text, re.M)], \
         [one["cycles"] for one in json.loads(run("check", "--format=json", *arguments, **more)[1])["lists"]]
 
 
 @test
 def check_says_the_cycles_that_a_list_waits():
     meaning = "word 5: Set Fill Color requires Sync Pipe, for the Fill Rectangle at word 3"
-    same(run("check", "-v", example("h-pipe.rdp")), (0, "0 6\naccepted: 6 words; the list waits 50 cycles\n", ""))
+    same(run("check", "-v", example("h-pipe.rdp")), (0, "0 6\naccepted: 6 words; the list waits 50 cycles, and syncs chosen afresh would save 0\n", ""))
     same(run("check", "--verbose", example("h-tile.rdp")), (1, f"9 5\n{meaning}; the syncs before the refusal wait 33 cycles\n", ""))
     same(run("check", "-v", "--all", "-", stdin=words(*S, R, TILE, C, PIPE, R, C))[1],
          f"9 5\n{meaning}; the syncs before the refusal wait 33 cycles\n9 8\n{meaning.replace('5', '8').replace('3', '7')}\n")
     same(run("check", "-q", "-v", "-"), (2, "", "lanyardrove: check has one of --quiet and --verbose\nTry 'lanyardrove check --help'.\n"))
     given = [example("h-tile.rdp"), example("h-pipe.rdp"), write("stray.rdp", words(LOAD) + b"x"), write("long.rdp", words(*[PIPE] * 4097))]
     same(told_cycles(*given), ([33, 50, 25, 204800],) * 2)
+
+
+@test
+def check_says_what_a_fresh_choice_would_save():
+    for given, waits, saved in (([*S, PIPE, R, PIPE, TILE, C], 133, 83), ([], 0, 0), ([PIPE] * 2048, 102400, 102400), ([*S, R, PIPE, C, FULL], 50, 0)):
+        same(run("check", "-v", write("list.rdp", words(*given)))[1].split("; ")[1], f"the list waits {waits} cycles, and syncs chosen afresh would save {saved}\n")
+        found = json.loads(run("check", "--format=json", "list.rdp")[1])["lists"][0]
+        same((found["cycles"], found["saved"]), (waits, saved))
+        after = run("repair", "--afresh", "list.rdp", "-o", "after.rdp")[1].split(", ")[-1]
+        same(after, f"{waits - saved} after\n")
+    for given in ([PIPE] * 2049, [*S, R, C]):  # too long for a repair, or refused
+        assert "saved" not in json.loads(run("check", "--format=json", write("list.rdp", words(*given)))[1])["lists"][0]
+        assert "afresh" not in run("check", "-v", "list.rdp")[1]
 
 
 @test

@@ -110,10 +110,10 @@ def json_has_the_fields_of_the_manual_page():
     finding = {"number": 9, "place": 4, "text": text, "command": "Set Fill Color", "cause": {"place": 3, "command": "Fill Rectangle"}}
     same(found["lists"], [
         {"file": "g.rdp", "verdict": "refused", "number": 9, "place": 4, "cycles": 0, "empty": False, "findings": [finding]},
-        {"file": "i.rdp", "verdict": "accepted", "number": 0, "place": 5, "cycles": 0, "empty": False, "findings": []},
+        {"file": "i.rdp", "verdict": "accepted", "number": 0, "place": 5, "cycles": 0, "saved": 0, "empty": False, "findings": []},
         {"file": "gone.rdp", "verdict": "unread"},
-        {"file": "-", "verdict": "accepted", "number": 0, "place": 0, "cycles": 0, "empty": True, "findings": []}])
-    same(described(".B json\n", ".B sarif\n"), {*found, *found["lists"][0], *finding, *finding["cause"]})
+        {"file": "-", "verdict": "accepted", "number": 0, "place": 0, "cycles": 0, "saved": 0, "empty": True, "findings": []}])
+    same(described(".B json\n", ".B sarif\n"), {*found, *found["lists"][1], *finding, *finding["cause"], "offset"})  # of translated lists, see test_translate
     same(json.loads(run("check", "--format=json", write("b.rdp", bytes(7)))[1])["lists"][0]["findings"],
          [{"number": 2, "place": 0, "text": "the length of 7 bytes is no multiple of 8"}])
 

@@ -5,8 +5,8 @@ import random
 import re
 import subprocess
 
-from rules import NAMES, cycles_of, words_of
-from support import BLOCK, C, L, LOAD, N, ONE_CYCLE, PIPE, R, S, SET_TILE, TILE, TOOL, example, files, inserted, read, run, same, test, words, write
+from rules import NAMES, commands_of, cycles_of, words_of
+from support import BLOCK, C, FULL, L, LOAD, N, ONE_CYCLE, PIPE, R, S, SET_TILE, TILE, TOOL, chosen, example, files, inserted, read, run, same, test, words, write
 
 
 @test
@@ -136,3 +136,84 @@ def repair_of_many_lists_goes_on_after_a_refusal():
     same(run("repair", "--check", "-", stdin=words(*S, R, C)),
          (1, "Sync Pipe before word 4, Set Fill Color\n" + inserted(1, 50, 6, done="would be inserted"), ""))
     same(run("repair", "--check", example("i.rdp"))[0], 0)
+
+
+SYNCS = {0x26: "Sync Load", 0x27: "Sync Pipe", 0x28: "Sync Tile"}
+
+
+@test
+def afresh_drops_the_syncs_that_nobody_needs():
+    for given, told, expected in (
+            ([*S, PIPE, R, TILE, LOAD, FULL], "Sync Pipe goes at word 3\nSync Tile goes at word 5\nSync Load goes at word 6\n" + chosen(3, 0, 0, 5, 108, 0), [*S, R, FULL]),
+            ([*S, R, L, PIPE, C], "Sync Pipe comes before word 4, Load Tile\nSync Pipe goes at word 5\n" + chosen(1, 1, 0, 7, 50, 50), [*S, R, PIPE, L, C]),
+            ([BLOCK, PIPE, SET_TILE], "Sync Pipe at word 1 becomes Sync Tile\n" + chosen(0, 0, 1, 3, 50, 33), [BLOCK, TILE, SET_TILE]),
+            ([*S, R, PIPE, TILE, PIPE, C], "Sync Pipe goes at word 4\nSync Tile goes at word 5\n" + chosen(2, 0, 0, 6, 133, 50), [*S, R, PIPE, C]),
+            ([*S, R, PIPE | 0xC1 << 56 | 7, C], "Sync Pipe at word 4 loses its other bits\n" + chosen(0, 0, 1, 6, 50, 50), [*S, R, PIPE, C]),
+            ([*S, R, L, C], "Sync Pipe comes before word 4, Load Tile\n" + chosen(0, 1, 0, 7, 0, 50), [*S, R, PIPE, L, C]),
+            ([PIPE, TILE], "Sync Pipe goes at word 0\nSync Tile goes at word 1\n" + chosen(2, 0, 0, 0, 83, 0), []),
+            ([*S, R, PIPE, C], chosen(0, 0, 0, 6, 50, 50), [*S, R, PIPE, C]), ([], chosen(0, 0, 0, 0, 0, 0), [])):
+        same(run("repair", "--afresh", write("in.rdp", words(*given)), "-o", "out.rdp"), (0, told, ""), given)
+        same(read("out.rdp"), words(*expected), given)
+        same(run("repair", "--afresh", "--check", "in.rdp"), (int(given != expected), told, ""), given)
+        same(run("repair", "--afresh", "--check", "out.rdp")[0], 0)  # a second time changes nothing
+
+
+@test
+def afresh_in_place_and_of_many_lists():
+    write("a.rdp", words(*S, PIPE, R))
+    write("b.rdp", words(*S, R, PIPE, C))
+    write("f.rdp", words(FULL, PIPE))
+    before = os.stat("b.rdp").st_ino
+    status, out, err = run("repair", "--afresh", "-i", "a.rdp", "b.rdp", "f.rdp")
+    same((status, err), (1, ""))
+    same(out, f"a.rdp: Sync Pipe goes at word 3\na.rdp: {chosen(1, 0, 0, 4, 50, 0)}b.rdp: {chosen(0, 0, 0, 6, 50, 50)}"
+              "f.rdp: 4 1, word 1: Sync Pipe stands after Sync Full\n")  # judged as it is given
+    same((read("a.rdp"), read("f.rdp"), os.stat("b.rdp").st_ino), (words(*S, R), words(FULL, PIPE), before))
+    done = subprocess.run([TOOL, "repair", "--afresh", "-"], input=words(*S, R, TILE, C), capture_output=True)
+    same((done.returncode, done.stdout), (0, words(*S, R, PIPE, C)))
+    same(done.stderr.decode(), "Sync Tile at word 4 becomes Sync Pipe\n" + chosen(0, 0, 1, 6, 33, 50))
+
+
+@test
+def afresh_refuses_as_the_repair_does():
+    for name in ("b.rdp", "c1.rdp", "e.rdp", "f.rdp"):
+        same(run("repair", "--afresh", example(name), "-o", "new.rdp"), run("repair", example(name), "-o", "new.rdp"), name)
+    same(run("repair", "--afresh", "--check", write("long.rdp", bytes(16392))), (1, "1 2048\nthe list is over 16,384 bytes\n", ""))
+    same(files(), ["long.rdp"])
+
+
+def of_changes(out, given):
+    """The list that a text of changes makes of one."""
+    words_of_syncs = {name: number << 56 for number, name in SYNCS.items()}
+    goes = {int(place): name for name, place in re.findall(r"^(Sync \w+) goes at word (\d+)$", out, re.M)}
+    comes = {int(place): name for name, place in re.findall(r"^(Sync \w+) comes before word (\d+), ", out, re.M)}
+    becomes = {int(place): (one, two) for one, place, two in re.findall(r"^(Sync \w+) at word (\d+) becomes (Sync \w+)$", out, re.M)}
+    plain = {int(place): (name, name) for name, place in re.findall(r"^(Sync \w+) at word (\d+) loses its other bits$", out, re.M)}
+    made, starts = [], dict(commands_of(given))
+    for place, word in enumerate(given):
+        number = starts.get(place)
+        named = goes.get(place) or {**becomes, **plain}.get(place, (None,))[0]
+        assert named is None or named == SYNCS[number], (place, named)
+        made += [words_of_syncs[comes[place]]] if place in comes else []
+        made += [] if place in goes else [words_of_syncs[{**becomes, **plain}[place][1]]] if place in {**becomes, **plain} else [word]
+    return made, (len(goes), len(comes), len(becomes) + len(plain))
+
+
+@test
+def afresh_says_what_became_of_every_sync():
+    """The list that the text describes is the list written, its cycles are those said, and where it passed before they are no more."""
+    rng = random.Random(9)
+    for _ in range(25):
+        given = [ONE_CYCLE, *S[1:]]
+        for _ in range(60):
+            number = rng.choice([0x36, 0x24, 0x34, 0x35, 0x37, 0x26, 0x27, 0x27, 0x27, 0x28, 0x3A])
+            stray = rng.getrandbits(56) if number in SYNCS and rng.random() < 0.2 else 0
+            given += [number << 56 | stray] + [rng.getrandbits(64)] * (words_of(number) - 1)
+        status, out, err = run("repair", "--afresh", write("in.rdp", words(*given)), "-o", "out.rdp")
+        same((status, err), (0, ""))
+        made, counts = of_changes(out, given)
+        same(read("out.rdp"), words(*made))
+        same(out.split("\n")[-2] + "\n", chosen(*counts, len(made), cycles_of(given), cycles_of(made)))
+        same(run("check", "-q", "out.rdp")[0], 0)
+        passed = run("check", "-q", "in.rdp")[0] == 0
+        assert not passed or cycles_of(made) <= cycles_of(given)

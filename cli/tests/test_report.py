@@ -6,7 +6,7 @@ import re
 import struct
 
 from rules import commands_of, hazards_along
-from support import (C, FULL, L, N, ONE_CYCLE, PIPE, R, S, SET_TILE, TEXELS, TILE, example, inserted, memory_of_i,
+from support import (C, FULL, L, N, ONE_CYCLE, PIPE, R, S, SET_TILE, TEXELS, TILE, chosen, example, inserted, memory_of_i,
                      png_pixels, read, rgb_of, run, same, test, words, write)
 
 
@@ -245,3 +245,26 @@ def report_shows_a_picture_at_a_useful_size():
         image = 0x3F10000000000000 | width - 1 << 32
         page = reported(words(S[0], image, 0x2D00000000000000 | width * 4 << 12 | height * 4, R), 0)
         same(re.search(r'<img alt="[^"]+" width="(\d+)" height="(\d+)"', page.source).groups(), tuple(map(str, shown)))
+
+
+@test
+def report_shows_both_plans():
+    given = [PIPE, *S, R, TILE, PIPE, C, R, L, PIPE, C]
+    page = reported(words(*given), 1)
+    told = ["Sync Pipe goes at word 0", "Sync Tile goes at word 5", "Sync Pipe comes before word 9, Load Tile", "Sync Pipe goes at word 10"]
+    assert inserted(1, 25, 13, 183, done="would be inserted").strip() in page.text and "Sync Load before word 9, Load Tile" in page.text
+    assert "Chosen afresh: " + chosen(3, 1, 0, 10, 183, 100).strip() in page.text, page.text
+    same(re.findall(r'<li><a href="#w(\d+)">(Sync .*?)</a></li>', page.source), [(re.search(r"word (\d+)", line)[1], line) for line in told])
+    same(re.findall(r'<div class="fresh">Chosen afresh: (.*?)</div>', page.source), [line for line in told if " goes " in line])
+    same(len(page.rows_of("changes")), 3)
+    same([" ".join(row.split()) for row in page.rows_of("comes")], ["+ Sync Pipe chosen afresh, this comes here"])
+    same([" ".join(row.split()) for row in page.rows_of("inserted")], ["+ Sync Load a repair would insert this"])
+
+
+@test
+def report_says_where_both_plans_are_the_same():
+    for given, status in (([*S, R, PIPE, C], 0), ([*S, R, L, C], 1), ([], 0)):
+        page = reported(words(*given), status)
+        assert "Chosen afresh, the syncs would be the same." in page.text
+        same((page.rows_of("comes"), page.rows_of("changes")), ([], []))
+    assert "hosen afresh" not in reported(words(R), 1).text  # no list that can be repaired

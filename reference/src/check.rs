@@ -91,6 +91,17 @@ fn length_test(list: &[u8], limit: usize) -> Result<(), Refusal> {
     }
 }
 
+/// Grounds 1 to 3 alone: whether a list "decodes".
+pub fn decodes(list: &[u8]) -> Result<(), Refusal> {
+    length_test(list, CHECK_LIMIT)?;
+    let end = list.len() / WORD_BYTES;
+    let is_cut = |command: &Command| command.place + words(command.number()) > end;
+    match commands(list).find(is_cut) {
+        Some(cut) => Err(Refusal::new(Ground::CutCommand, cut.place)),
+        None => Ok(()),
+    }
+}
+
 fn walk_commands(list: &[u8], state: &mut State, syncs: Syncs) -> Result<usize, Refusal> {
     let end = list.len() / WORD_BYTES;
     for command in commands(list) {

@@ -68,6 +68,11 @@ pub fn wait(number: u8) -> u32 {
     }
 }
 
+/// Whether the command is a Sync Load, Tile or Pipe.
+pub fn is_short_sync(number: u8) -> bool {
+    matches!(kind(number), Kind::Sync(sync) if sync != Sync::Full)
+}
+
 /// Whether the number names no command.
 pub fn is_unassigned(number: u8) -> bool {
     kind(number) == Kind::Unassigned

@@ -8,6 +8,7 @@ pub mod area;
 pub mod check;
 pub mod comparison;
 pub mod decode;
+pub mod differences;
 pub mod display;
 pub mod draw;
 pub mod encode;

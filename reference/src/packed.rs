@@ -1,15 +1,16 @@
 //! The answers as the C functions give them, each in one 64-bit number: bits
 //! 63:56 the number, bits 31:0 the place (words written, at 0), bits 55:32 the
-//! third number (cause for check, cycles for repair, command number for decode,
-//! sync for step, total waiting for streams, commands read for translate, else 0).
-//! Only the words of a command are a plain count.
+//! third number (cause for check, cycles for repairs, command number for decode,
+//! sync for step, total waiting for streams, commands read for translate, the list for
+//! rest, else 0). Only the words of a command are a plain count.
 
 use crate::answer::{Ground, Refusal};
 use crate::kinds::{words_from, Sync};
 use crate::marks::Marks;
 use crate::record::{self, Record};
+use crate::repair::Repaired;
 use crate::stream::{Stream, Told, DAMAGED};
-use crate::{check, decode, display, draw, encode, repair};
+use crate::{check, decode, differences, display, draw, encode, repair};
 
 /// An answer in its three parts.
 #[derive(Clone, Copy, Debug, PartialEq, Eq)]
@@ -73,7 +74,16 @@ pub fn check(list: &[u8]) -> u64 {
 
 /// `lanyardrove_repair`.
 pub fn repair(list: &[u8], work: &mut [u8], out: &mut [u8]) -> u64 {
-    match repair::repair(list, work, out) {
+    repaired(repair::repair(list, work, out))
+}
+
+/// `lanyardrove_repair_afresh`.
+pub fn repair_afresh(list: &[u8], work: &mut [u8], out: &mut [u8]) -> u64 {
+    repaired(repair::repair_afresh(list, work, out))
+}
+
+fn repaired(outcome: Result<Repaired, Refusal>) -> u64 {
+    match outcome {
         Ok(repaired) => accepted(repaired.words, repaired.cycles),
         Err(refusal) => refused(refusal),
     }
@@ -170,4 +180,20 @@ fn told(answer: Told, total: u32) -> u64 {
 pub fn translate(memory: &[u8], start: u32, out: &mut [u8]) -> u64 {
     let translated = display::translate(memory, start, out);
     told_always(translated.outcome, translated.read)
+}
+
+/// `lanyardrove_compare`: the place is the numbers written, or needed at 14.
+pub fn compare(first: &[u8], second: &[u8], entries: &mut [u32]) -> u64 {
+    match differences::compare(first, second, entries) {
+        Ok(numbers) => accepted(numbers, 0),
+        Err(refusal) => refused(refusal),
+    }
+}
+
+/// `lanyardrove_rest`: the number that comparing gives, the first byte of the rest as the
+/// place, and the list that it is of as the third number.
+pub fn rest(first: &[u8], second: &[u8], count: usize) -> u64 {
+    let (rest, outcome) = differences::rest(first, second, count);
+    let number = outcome.map_or_else(|refusal| refusal.ground as u8, |()| 0);
+    packed(number, rest.first_byte, rest.of_second.into())
 }

@@ -1,4 +1,5 @@
-//! The repair: the least syncs that make a list pass.
+//! The repair: the least syncs that make a list pass. Request #109: the same for a list
+//! whose own syncs are forgotten.
 //!
 //! Method: plans grow from the first command on. For each state of the marks
 //! that some plan reaches, the best plan is kept whole, and plans are compared
@@ -10,7 +11,7 @@ use std::collections::BTreeMap;
 
 use crate::answer::{Ground, Refusal};
 use crate::check::{walk, Syncs};
-use crate::kinds::{commands, words, Command, Sync};
+use crate::kinds::{commands, is_short_sync, words, Command, Sync};
 use crate::marks::Marks;
 use crate::words::WORD_BYTES;
 
@@ -77,13 +78,41 @@ pub struct Repaired {
 /// "On success and at 14 the work buffer's first 16 bytes a command are left
 /// zero, the rest as received."
 pub fn repair(list: &[u8], work: &mut [u8], out: &mut [u8]) -> Result<Repaired, Refusal> {
+    judge(list, work)?;
+    write_least(list, out)
+}
+
+/// Request #109: "A second repair forgets the Load, Tile and Pipe syncs present and
+/// chooses afresh", so that "the answer's cycles are the total". Refusals are "judged on
+/// the list as given; the work buffer goes by its commands too".
+pub fn repair_afresh(list: &[u8], work: &mut [u8], out: &mut [u8]) -> Result<Repaired, Refusal> {
+    judge(list, work)?;
+    write_least(&without_syncs(list), out)
+}
+
+/// The commands of a list that are no Sync Load, Tile or Pipe.
+pub fn without_syncs(list: &[u8]) -> Vec<u8> {
+    let kept = commands(list).filter(|command| !is_short_sync(command.number()));
+    kept.flat_map(|command| bytes_of_command(list, command))
+        .copied()
+        .collect()
+}
+
+/// Refuses all but 14, and clears the work buffer.
+fn judge(list: &[u8], work: &mut [u8]) -> Result<(), Refusal> {
     walk(list, REPAIR_LIMIT, Syncs::PassedOver).outcome?;
-    let given: Vec<Command> = commands(list).collect();
-    let work_needed = given.len() * WORK_BYTES;
+    let count = commands(list).count();
+    let work_needed = count * WORK_BYTES;
     if work.len() < work_needed {
-        return Err(Refusal::new(Ground::WorkTooShort, given.len()));
+        return Err(Refusal::new(Ground::WorkTooShort, count));
     }
     work[..work_needed].fill(0);
+    Ok(())
+}
+
+/// Writes a list with its least plan, or refuses by 14.
+fn write_least(list: &[u8], out: &mut [u8]) -> Result<Repaired, Refusal> {
+    let given: Vec<Command> = commands(list).collect();
     let plan = least_plan(&given);
     let repaired = with_plan(list, &given, &plan.adds);
     let words = repaired.len() / WORD_BYTES;

@@ -6,13 +6,17 @@ use std::collections::BTreeSet;
 use reference::answer::Ground;
 use reference::check::check;
 use reference::comparison::calls::Function;
+use reference::comparison::laws::sync_cycles;
 use reference::comparison::lists::list;
 use reference::comparison::rng::Rng;
 use reference::comparison::run::{run, Difference};
 use reference::comparison::side::{Reference, Side};
+use reference::decode::suffix;
+use reference::differences::ENTRY;
 use reference::display::{walk, MOST_CALLS};
-use reference::kinds::{commands, is_draw, is_textured_draw, is_unassigned};
+use reference::kinds::{base_words, commands, is_draw, is_textured_draw, is_unassigned, Command};
 use reference::record::{pack, unpack, Record, NUMBERS};
+use reference::repair::without_syncs;
 use reference::stream::{MOST_TOTAL, ROOM};
 use reference::texture::TEXTURE_BYTES;
 use reference::words::{command_number, word_at};
@@ -145,6 +149,24 @@ enum Fault {
     CutRead,
     /// Bits 63:62 of a display list command are kept.
     TopBitsKept,
+    /// The second repair keeps the syncs present.
+    SyncsKept,
+    /// The second repair counts only the commands that remain.
+    RemainingCounted,
+    /// The second repair tells what it added to the waiting.
+    AddedTold,
+    /// The low half of an entry's bits comes first.
+    LowHalfFirst,
+    /// Bits that are no field's count too.
+    UnusedBitsCount,
+    /// A triangle's suffix does not count.
+    SuffixUnseen,
+    /// The second list is judged first.
+    SecondFirst,
+    /// The rest is always the first list's.
+    RestOfFirst,
+    /// At 14 the rest is that of a success.
+    RestAtGround14,
 }
 
 /// The reference with one fault.
@@ -298,6 +320,74 @@ impl Side for Faulty {
     fn translate(&self, memory: &[u8], start: u32, out: &mut [u8]) -> u64 {
         faulty_translate(self.0, memory, start, out)
     }
+
+    fn repair_afresh(&self, list: &[u8], work: &mut [u8], out: &mut [u8]) -> u64 {
+        match self.0 {
+            Fault::SyncsKept => Reference.repair(list, work, out),
+            Fault::RemainingCounted if check(list).outcome.is_ok() => {
+                Reference.repair_afresh(&without_syncs(list), work, out)
+            }
+            Fault::AddedTold => told_added(list, Reference.repair_afresh(list, work, out)),
+            _ => Reference.repair_afresh(list, work, out),
+        }
+    }
+
+    fn compare(&self, first: &[u8], second: &[u8], entries: &mut [u32]) -> u64 {
+        faulty_compare(self.0, first, second, entries)
+    }
+
+    fn rest(&self, first: &[u8], second: &[u8], count: usize) -> u64 {
+        let answer = Reference.rest(first, second, count);
+        match (self.0, ground(answer)) {
+            (Fault::RestOfFirst, _) => with_third(answer, 0),
+            (Fault::RestAtGround14, 14) => 14 << 56 | Reference.rest(first, second, usize::MAX),
+            _ => answer,
+        }
+    }
+}
+
+/// Two lists compared with one fault.
+fn faulty_compare(fault: Fault, first: &[u8], second: &[u8], entries: &mut [u32]) -> u64 {
+    let second = match fault {
+        Fault::SuffixUnseen => with_suffixes_of(first, second),
+        _ => second.to_vec(),
+    };
+    let answer = Reference.compare(first, &second, entries);
+    let written = answer as u32 as usize;
+    let only_unused_bits = answer == 0 && first.len() == second.len() && first != second;
+    match fault {
+        Fault::LowHalfFirst if ground(answer) == 0 => {
+            let entries = entries[..written].chunks_exact_mut(ENTRY);
+            entries.for_each(|entry| entry.swap(2, 3));
+        }
+        Fault::UnusedBitsCount if only_unused_bits => return 14 << 56 | 4,
+        Fault::SecondFirst if matches!(ground(answer), 1..=3) => {
+            return Reference.compare(&second, first, entries);
+        }
+        _ => {}
+    }
+    answer
+}
+
+/// The second list, where a triangle stands in both, with the suffixes of the first.
+fn with_suffixes_of(first: &[u8], second: &[u8]) -> Vec<u8> {
+    let mut other = second.to_vec();
+    for (left, right) in commands(first).zip(commands(second)) {
+        let suffix = suffix(&first[8 * left.place..]);
+        let at = 8 * (right.place + base_words(right.number()));
+        let room = other.get_mut(at..at + suffix.len());
+        if let Some(room) = room.filter(|_| left.number() == right.number()) {
+            room.copy_from_slice(suffix);
+        }
+    }
+    other
+}
+
+/// A second repair's answer that tells the cycles beyond those of the list.
+fn told_added(list: &[u8], answer: u64) -> u64 {
+    let cycles = (answer >> 32) as u32 & 0xFF_FFFF;
+    let added = cycles.saturating_sub(sync_cycles(list));
+    with_third(answer, added as usize)
 }
 
 /// A display list translated with one fault.
@@ -465,6 +555,15 @@ fn every_fault_is_found_in_its_function() {
         (Fault::ParameterBit, Function::Translate),
         (Fault::CutRead, Function::Translate),
         (Fault::TopBitsKept, Function::Translate),
+        (Fault::SyncsKept, Function::Afresh),
+        (Fault::RemainingCounted, Function::Afresh),
+        (Fault::AddedTold, Function::Afresh),
+        (Fault::LowHalfFirst, Function::Compare),
+        (Fault::UnusedBitsCount, Function::Compare),
+        (Fault::SuffixUnseen, Function::Compare),
+        (Fault::SecondFirst, Function::Compare),
+        (Fault::RestOfFirst, Function::Rest),
+        (Fault::RestAtGround14, Function::Rest),
     ];
     for (fault, function) in faults {
         assert_eq!(found(fault).call.function, function, "{fault:?}");

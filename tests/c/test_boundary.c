@@ -2,7 +2,7 @@
  * Calls every function of include/lanyardrove.h through the archive: empty, short, cut and longest lists, null pointers where
  * a length is 0, document 01's examples, guard bytes around every buffer, every command number there and back, its length,
  * its step from each of the sixteen hazards, every unassigned number, lists in portions with the cycles that their syncs wait,
- * textures that are loaded and copied, and display lists translated.
+ * textures that are loaded and copied, lists whose syncs are chosen afresh, two lists compared, and display lists translated.
  * It compiles as C11 and as C++17. The last line counts the checks; the exit status says whether all passed.
  */
 #include "lanyardrove.h"
@@ -136,6 +136,7 @@ static void parts(void) {
     CHECK(lanyardrove_cycles(answer) == 100001);
     CHECK(lanyardrove_command(answer) == 100001);
     CHECK(lanyardrove_commands_read(answer) == 100001);
+    CHECK(lanyardrove_list(answer) == 100001);
     CHECK(lanyardrove_place(answer) == 4);
     answer = ~(uint64_t)0;
     CHECK(lanyardrove_number(answer) == 0xFF && lanyardrove_third(answer) == 0xFFFFFF && lanyardrove_place(answer) == 0xFFFFFFFFu);
@@ -150,6 +151,7 @@ static void null_pointers(void) {
     size_t n;
     ANSWERS(lanyardrove_check(NULL, 0), 0, 0, 0);
     ANSWERS(lanyardrove_repair(NULL, 0, NULL, 0, NULL, 0), 0, 0, 0);
+    ANSWERS(lanyardrove_repair_afresh(NULL, 0, NULL, 0, NULL, 0), 0, 0, 0);
     fresh(&a_texture);
     ANSWERS(lanyardrove_draw(NULL, 0, NULL, 0, 0, NULL, 0), 16, 0, 0);
     ANSWERS(lanyardrove_draw(NULL, 0, NULL, 0, 0, a_texture.bytes, LANYARDROVE_TEXTURE_BYTES), 0, 0, 0);
@@ -178,6 +180,8 @@ static void null_pointers(void) {
     ANSWERS(lanyardrove_repair(a_list.bytes, n, NULL, 0, NULL, 0), 13, 0, 1);
     ANSWERS(lanyardrove_repair(a_list.bytes, n, NULL, 0, an_out.bytes, 8), 13, 0, 1);
     ANSWERS(lanyardrove_repair(a_list.bytes, n, a_work.bytes, 16, NULL, 0), 14, 0, 1);
+    ANSWERS(lanyardrove_repair_afresh(a_list.bytes, n, NULL, 0, NULL, 0), 13, 0, 1);
+    ANSWERS(lanyardrove_repair_afresh(a_list.bytes, n, a_work.bytes, 16, NULL, 0), 14, 0, 1);
     CHECK(all_are(a_work.bytes, 16, 0) && untouched_from(&a_work, 16));
 
     /* fields of a Set Fill Color, with nothing else */
@@ -290,20 +294,22 @@ static void check_most_words(void) {
     free(list);
 }
 
-/* ---- The repair: examples J, K and M, refusals, the longest. */
+/* ---- The repair: examples J, K and M, refusals, the longest; and the second repair, which forgets the syncs of a list. */
+
+typedef uint64_t (*repair_function)(const uint8_t *list, size_t list_length, uint8_t *work, size_t work_length, uint8_t *out, size_t out_length);
 
 /* A list in, a list out, with exactly the room needed; and the refusals where there is a byte less. */
-static void repairs(const uint64_t *words, size_t n, unsigned commands, const uint64_t *repaired, size_t m, unsigned cycles, int line) {
+static void repairs(repair_function repair, const uint64_t *words, size_t n, unsigned commands, const uint64_t *repaired, size_t m, unsigned cycles, int line) {
     size_t length = list_of(words, n);
     fresh(&a_work);
     fresh(&an_out);
-    expect_answer(lanyardrove_repair(a_list.bytes, length, a_work.bytes, 16 * commands - 1, an_out.bytes, 8 * m), 13, 0, commands, line);
+    expect_answer(repair(a_list.bytes, length, a_work.bytes, 16 * commands - 1, an_out.bytes, 8 * m), 13, 0, commands, line);
     expect(untouched_from(&a_work, 0) && untouched_from(&an_out, 0), "13 leaves all bytes", line);
-    expect_answer(lanyardrove_repair(a_list.bytes, length, a_work.bytes, 16 * commands, an_out.bytes, 8 * m - 1), 14, 0, (unsigned)m, line);
+    expect_answer(repair(a_list.bytes, length, a_work.bytes, 16 * commands, an_out.bytes, 8 * m - 1), 14, 0, (unsigned)m, line);
     expect(all_are(a_work.bytes, 16 * commands, 0) && untouched_from(&a_work, 16 * commands), "14 zeroes the work buffer", line);
     expect(untouched_from(&an_out, 0), "14 leaves the output", line);
     fresh(&a_work);
-    expect_answer(lanyardrove_repair(a_list.bytes, length, a_work.bytes, 16 * commands, an_out.bytes, 8 * m), 0, cycles, (unsigned)m, line);
+    expect_answer(repair(a_list.bytes, length, a_work.bytes, 16 * commands, an_out.bytes, 8 * m), 0, cycles, (unsigned)m, line);
     expect(begins(an_out.bytes, repaired, m) && untouched_from(&an_out, 8 * m), "the repaired list, and nothing beyond", line);
     expect(all_are(a_work.bytes, 16 * commands, 0) && untouched_from(&a_work, 16 * commands), "0 zeroes the work buffer", line);
     expect(begins(a_list.bytes, words, n) && untouched_from(&a_list, length), "the given list stays", line);
@@ -311,18 +317,23 @@ static void repairs(const uint64_t *words, size_t n, unsigned commands, const ui
     /* room to spare changes nothing */
     fresh(&a_work);
     fresh(&an_out);
-    expect_answer(lanyardrove_repair(a_list.bytes, length, a_work.bytes, ROOM, an_out.bytes, ROOM), 0, cycles, (unsigned)m, line);
+    expect_answer(repair(a_list.bytes, length, a_work.bytes, ROOM, an_out.bytes, ROOM), 0, cycles, (unsigned)m, line);
     expect(begins(an_out.bytes, repaired, m) && untouched_from(&an_out, 8 * m), "the repaired list, with room to spare", line);
     expect(all_are(a_work.bytes, 16 * commands, 0) && untouched_from(&a_work, 16 * commands), "the work buffer, with room to spare", line);
 }
 #define REPAIRS(words, commands, repaired, cycles) \
-    repairs((words), sizeof(words) / 8, (commands), (repaired), sizeof(repaired) / 8, (cycles), __LINE__)
+    repairs(lanyardrove_repair, (words), sizeof(words) / 8, (commands), (repaired), sizeof(repaired) / 8, (cycles), __LINE__)
+#define REPAIRS_AFRESH(words, commands, repaired, cycles) \
+    repairs(lanyardrove_repair_afresh, (words), sizeof(words) / 8, (commands), (repaired), sizeof(repaired) / 8, (cycles), __LINE__)
 
+/* Both repairs refuse the list as it is given. */
 static void repair_refuses(size_t length, unsigned number, unsigned place, int line) {
     fresh(&a_work);
     fresh(&an_out);
     expect_answer(lanyardrove_repair(a_list.bytes, length, a_work.bytes, ROOM, an_out.bytes, ROOM), number, 0, place, line);
     expect(untouched_from(&a_work, 0) && untouched_from(&an_out, 0), "a refusal leaves all bytes", line);
+    expect_answer(lanyardrove_repair_afresh(a_list.bytes, length, a_work.bytes, ROOM, an_out.bytes, ROOM), number, 0, place, line);
+    expect(untouched_from(&a_work, 0) && untouched_from(&an_out, 0), "a refusal of the second repair leaves all bytes", line);
 }
 #define REPAIR_REFUSES(length, number, place) repair_refuses((length), (number), (place), __LINE__)
 
@@ -377,6 +388,93 @@ static void repair_lists(void) {
     }
 }
 
+/* Request #109. */
+static void repair_lists_afresh(void) {
+    const uint64_t any = 0xC0FFFFFFFFFFFFFFu; /* bits that a sync may have besides its number */
+    const uint64_t old[] = {S, PIPE | any, R, TILE | any, LOAD, FULL}, old_repaired[] = {S, R, FULL};
+    const uint64_t twice[] = {S, R, PIPE, L, PIPE | any, C}, late[] = {S, R, L, PIPE, C}, moved[] = {S, R, PIPE, L, C};
+    const uint64_t tile[] = {S, R, TILE, PIPE, PIPE, C}, h[] = {S, R, PIPE, C};
+    const uint64_t block[] = {LOAD, BLOCK, PIPE, SET_TILE, TILE}, block_repaired[] = {BLOCK, TILE, SET_TILE};
+    const uint64_t syncs[] = {LOAD, TILE | any, PIPE};
+    const uint64_t full[] = {FULL, PIPE}, bare[] = {PIPE, R}, cut[] = {S, TILE, 0x2400000000000000u}, unassigned[] = {PIPE, 0x3100000000000000u};
+    static uint64_t pipes[2048], most[2048], repaired[2048];
+    size_t i, n = 0, length;
+
+    REPAIRS_AFRESH(old, 8, old_repaired, 0);
+    REPAIRS_AFRESH(twice, 8, moved, 50);
+    REPAIRS_AFRESH(late, 7, moved, 50);
+    REPAIRS_AFRESH(moved, 7, moved, 50); /* a second time changes nothing */
+    REPAIRS_AFRESH(tile, 8, h, 50);
+    REPAIRS_AFRESH(block, 5, block_repaired, 33);
+
+    /* a list of syncs is written as nothing, and has commands all the same */
+    length = LIST(syncs);
+    fresh(&a_work);
+    fresh(&an_out);
+    ANSWERS(lanyardrove_repair_afresh(a_list.bytes, length, a_work.bytes, 47, an_out.bytes, ROOM), 13, 0, 3);
+    CHECK(untouched_from(&a_work, 0));
+    ANSWERS(lanyardrove_repair_afresh(a_list.bytes, length, a_work.bytes, ROOM, NULL, 0), 0, 0, 0);
+    CHECK(all_are(a_work.bytes, 48, 0) && untouched_from(&a_work, 48) && untouched_from(&an_out, 0));
+
+    /* the list is judged as it is given, with the syncs that would be forgotten */
+    REPAIR_REFUSES(LIST(full), 4, 1);
+    REPAIR_REFUSES(LIST(bare), 5, 1);
+    REPAIR_REFUSES(LIST(cut), 3, 4);
+    REPAIR_REFUSES(LIST(unassigned), 19, 1);
+    for (i = 0; i < 2048; i++) pipes[i] = PIPE;
+    length = list_of(pipes, 2048);
+    ANSWERS(lanyardrove_repair_afresh(a_list.bytes, length + 1, a_work.bytes, ROOM, an_out.bytes, ROOM), 1, 0, 2048);
+    ANSWERS(lanyardrove_repair_afresh(a_list.bytes, length - 1, a_work.bytes, ROOM, an_out.bytes, ROOM), 2, 0, 2047);
+    ANSWERS(lanyardrove_repair_afresh(a_list.bytes, length, a_work.bytes, ROOM, an_out.bytes, 0), 0, 0, 0);
+
+    /* the longest list, where every other word is a Sync Pipe: the least syncs come in their place */
+    for (i = 0; i < 2048; i++) most[i] = i < 3 ? (i == 0 ? S1 : i == 1 ? S2 : S3) : i % 2 ? PIPE : i % 4 ? L : R;
+    for (i = 0; i < 2048; i++) {
+        if (i > 4 && most[i] != PIPE) repaired[n++] = LOAD;
+        if (most[i] != PIPE) repaired[n++] = most[i];
+    }
+    CHECK(n == 3 + 1022 + 1021);
+    repairs(lanyardrove_repair_afresh, most, 2048, 2048, repaired, n, 25 * 1021, __LINE__);
+}
+
+/* The second repair is the first of what remains; where the list passes, it does not wait longer; and again it changes nothing. */
+static void random_repairs_afresh(void) {
+    static const uint64_t some[] = {R, R, L, L, C, N, TILE, LOAD, PIPE, PIPE, 0xE7AAAAAAAAAAAAAAu, SET_TILE, S1, S3, 0x3E00000000000000u};
+    static uint8_t written[640];
+    uint64_t words[40], kept[40];
+    size_t round;
+    for (round = 0; round < 2000; round++) {
+        size_t n = 3 + (size_t)(random_word() % 37), m = 3, i;
+        unsigned waits = 0;
+        uint64_t answer, other;
+        int passes;
+        words[0] = kept[0] = S1;
+        words[1] = kept[1] = S2;
+        words[2] = kept[2] = S3;
+        for (i = 3; i < n; i++) {
+            unsigned number;
+            words[i] = some[random_word() % (sizeof some / 8)];
+            number = (unsigned)(words[i] >> 56) & 63;
+            waits += number == 0x26 ? 25 : number == 0x28 ? 33 : number == 0x27 ? 50 : 0;
+            if (number < 0x26 || number > 0x28) kept[m++] = words[i];
+        }
+        list_of(words, n);
+        passes = lanyardrove_number(lanyardrove_check(a_list.bytes, 8 * n)) == 0;
+        fresh(&a_work);
+        fresh(&an_out);
+        answer = lanyardrove_repair_afresh(a_list.bytes, 8 * n, a_work.bytes, 16 * n, an_out.bytes, 16 * n);
+        CHECK(lanyardrove_number(answer) == 0 && untouched_from(&an_out, 8 * (size_t)lanyardrove_place(answer)));
+        CHECK(all_are(a_work.bytes, 16 * n, 0) && untouched_from(&a_work, 16 * n));
+        CHECK(!passes || lanyardrove_cycles(answer) <= waits);
+        memcpy(written, an_out.bytes, 8 * (size_t)lanyardrove_place(answer));
+        list_of(kept, m);
+        other = lanyardrove_repair(a_list.bytes, 8 * m, a_work.bytes, 16 * m, an_out.bytes, 16 * n);
+        CHECK(answer == other && memcmp(an_out.bytes, written, 8 * (size_t)lanyardrove_place(answer)) == 0);
+        other = lanyardrove_repair_afresh(written, 8 * (size_t)lanyardrove_place(answer), a_work.bytes, 32 * n, an_out.bytes, 16 * n);
+        CHECK(answer == other && memcmp(an_out.bytes, written, 8 * (size_t)lanyardrove_place(answer)) == 0);
+    }
+}
+
 /* Any list of one-word commands that the repair accepts: what it writes passes, and the words that it adds are its cycles. */
 static void random_repairs(void) {
     static const uint64_t some[] = {R, R, L, L, C, N, TILE, LOAD, PIPE, SET_TILE, S1, S3, 0x3E00000000000000u};
@@ -410,6 +508,121 @@ static void random_repairs(void) {
         ANSWERS(lanyardrove_check(an_out.bytes, 8 * (n + added)), 0, (unsigned)(n + added), (unsigned)(n + added));
         answer = lanyardrove_check(a_list.bytes, 8 * n);
         CHECK((lanyardrove_number(answer) == 0) == (added == 0));
+    }
+}
+
+/* ---- Two lists compared (request #110). */
+
+#define LENT_NUMBERS 64
+static uint32_t all_entries[LENT_NUMBERS + 16];
+#define ENTRIES (all_entries + 8)
+
+static void fresh_entries(void) {
+    size_t i;
+    for (i = 0; i < LENT_NUMBERS + 16; i++) all_entries[i] = 0xA5A5A5A5u;
+}
+
+static int entries_untouched_from(size_t from) {
+    size_t i;
+    for (i = 0; i < 8; i++)
+        if (all_entries[i] != 0xA5A5A5A5u) return 0;
+    for (i = 8 + from; i < LENT_NUMBERS + 16; i++)
+        if (all_entries[i] != 0xA5A5A5A5u) return 0;
+    return 1;
+}
+
+/* Two lists: the entries, with exactly the room needed and with one number less, and the rest: a list and its byte. */
+static void compares(const uint64_t *one, size_t n, const uint64_t *two, size_t m, const uint32_t *entries, size_t count, unsigned list, unsigned byte, int line) {
+    static uint8_t second[8 * 64];
+    size_t length = list_of(one, n), i;
+    for (i = 0; i < m; i++) put(second + 8 * i, two[i]);
+    fresh_entries();
+    if (count > 0) {
+        expect_answer(lanyardrove_compare(a_list.bytes, length, second, 8 * m, ENTRIES, count - 1), 14, 0, (unsigned)count, line);
+        expect(entries_untouched_from(0), "14 leaves the entries", line);
+        expect_answer(lanyardrove_rest(a_list.bytes, length, second, 8 * m, count - 1), 14, 0, (unsigned)length, line);
+    }
+    expect_answer(lanyardrove_compare(a_list.bytes, length, second, 8 * m, ENTRIES, count), 0, 0, (unsigned)count, line);
+    expect(entries_untouched_from(count), "nothing beyond the entries", line);
+    for (i = 0; i < count; i++) expect(ENTRIES[i] == entries[i], "an entry", line);
+    expect_answer(lanyardrove_rest(a_list.bytes, length, second, 8 * m, count), 0, list, byte, line);
+    expect_answer(lanyardrove_rest(a_list.bytes, length, second, 8 * m, SIZE_MAX), 0, list, byte, line);
+    expect(begins(a_list.bytes, one, n) && untouched_from(&a_list, length), "the first list stays", line);
+    expect(begins(second, two, m), "the second list stays", line);
+}
+#define COMPARES(one, two, entries, count, list, byte) \
+    compares((one), sizeof(one) / 8, (two), sizeof(two) / 8, (entries), (count), (list), (byte), __LINE__)
+
+static void compared_lists(void) {
+    const uint64_t i[] = {S, C, R}, other_color[] = {S, 0x37000000F801003Eu, R}, unused[] = {S1 | 0xC0ull << 56, S2, S3, C | 0x00FFFFFF00000000u, R};
+    const uint64_t more[] = {S, C, R, PIPE, TEXTURED, 0}, modes[] = {0x2FFFFFFFFFFFFFFFu}, no_modes[] = {0x2F00000000000000u};
+    const uint64_t named[] = {0x2F40000F00008000u}, rectangle[] = {TEXTURED, 0, N}, moved[] = {N, TEXTURED, 1};
+    const uint32_t color[] = {3, 3, 0, 1}, all_modes[] = {0, 0, 0xFF, 0xFBFDFFFDu}, numbers[] = {0, 0, 0, 0, 2, 1, 0, 0};
+    const uint64_t cut[] = {S, TEXTURED}, bad[] = {FULL, 0x3100000000000000u, R};
+    size_t length;
+
+    COMPARES(i, i, NULL, 0, 0, 40);
+    COMPARES(i, other_color, color, 4, 0, 40);
+    COMPARES(other_color, i, color, 4, 0, 40);
+    COMPARES(i, unused, NULL, 0, 0, 40); /* bits of no field */
+    COMPARES(i, more, NULL, 0, 1, 40);
+    COMPARES(more, other_color, color, 4, 0, 40);
+    COMPARES(modes, no_modes, all_modes, 4, 0, 8); /* every line but the three without a name */
+    COMPARES(named, no_modes, NULL, 0, 0, 8);
+    COMPARES(rectangle, moved, numbers, 8, 0, 24);
+    COMPARES(bad, bad, NULL, 0, 0, 24); /* 4 and 19 are not looked at */
+
+    /* the first list's grounds come first, then the second's, then 14 */
+    length = LIST(cut);
+    fresh_entries();
+    ANSWERS(lanyardrove_compare(a_list.bytes, length, a_list.bytes, 7, ENTRIES, LENT_NUMBERS), 3, 0, 3);
+    ANSWERS(lanyardrove_compare(a_list.bytes, 7, a_list.bytes, length, ENTRIES, LENT_NUMBERS), 2, 0, 0);
+    ANSWERS(lanyardrove_compare(a_list.bytes, 24, a_list.bytes, length, ENTRIES, LENT_NUMBERS), 3, 0, 3);
+    ANSWERS(lanyardrove_compare(a_list.bytes, 24, a_list.bytes, 15, NULL, 0), 2, 0, 1);
+    ANSWERS(lanyardrove_compare(a_list.bytes, 32776, a_list.bytes, length, NULL, 0), 1, 0, 4096);
+    ANSWERS(lanyardrove_compare(a_list.bytes, 24, a_list.bytes, 32769, NULL, 0), 1, 0, 4096);
+    ANSWERS(lanyardrove_compare(NULL, 0, a_list.bytes, 24, NULL, 0), 0, 0, 0);
+    ANSWERS(lanyardrove_compare(NULL, 0, NULL, 0, NULL, 0), 0, 0, 0);
+    CHECK(entries_untouched_from(0));
+    ANSWERS(lanyardrove_rest(a_list.bytes, length, a_list.bytes, 7, 0), 3, 0, 32);
+    ANSWERS(lanyardrove_rest(a_list.bytes, 24, a_list.bytes, length, 0), 3, 0, 24);
+    ANSWERS(lanyardrove_rest(NULL, 0, a_list.bytes, 24, 0), 0, 1, 0);
+    ANSWERS(lanyardrove_rest(a_list.bytes, 24, NULL, 0, 0), 0, 0, 0);
+    ANSWERS(lanyardrove_rest(NULL, 0, NULL, 0, 0), 0, 0, 0);
+}
+
+/* What differs of two commands of one number, by their fields as they are decoded. */
+static uint64_t differing(unsigned number, const uint8_t *one, const uint8_t *two, size_t words) {
+    uint64_t fields[2][LANYARDROVE_MOST_FIELDS], mask = 0;
+    size_t i, count = lanyardrove_place(lanyardrove_decode(one, 8 * words, fields[0], LANYARDROVE_MOST_FIELDS));
+    lanyardrove_decode(two, 8 * words, fields[1], LANYARDROVE_MOST_FIELDS);
+    for (i = 0; i < count; i++)
+        if (fields[0][i] != fields[1][i]) mask |= (uint64_t)1 << lanyardrove_field_bit(number, (uint32_t)i);
+    if (number >= 8 && number <= 15 && memcmp(one + 32, two + 32, 8 * words - 32) != 0) mask |= (uint64_t)1 << LANYARDROVE_SUFFIX_BIT;
+    return mask;
+}
+
+/* One bit turned over in every word of every command: the field that has it, or nothing. */
+static void compared_bits(void) {
+    unsigned number, bit;
+    for (number = 0; number < 64; number++) {
+        size_t words = (size_t)lanyardrove_words((uint64_t)number << 56), i;
+        uint8_t two[8 * LANYARDROVE_MOST_WORDS];
+        fresh(&a_list);
+        for (i = 0; i < words; i++) put(a_list.bytes + 8 * i, random_word());
+        a_list.bytes[0] = (uint8_t)((a_list.bytes[0] & 0xC0) | number);
+        for (bit = 0; bit < 64 * words; bit++) {
+            uint64_t mask;
+            if (bit >= 2 && bit < 8) continue; /* the command's number */
+            memcpy(two, a_list.bytes, 8 * words);
+            two[bit / 8] = (uint8_t)(two[bit / 8] ^ 0x80 >> bit % 8);
+            mask = differing(number, a_list.bytes, two, words);
+            CHECK((mask & (mask - 1)) == 0); /* one field has it */
+            fresh_entries();
+            ANSWERS(lanyardrove_compare(a_list.bytes, 8 * words, two, 8 * words, ENTRIES, LENT_NUMBERS), 0, 0, mask ? 4 : 0);
+            CHECK(entries_untouched_from(mask ? 4 : 0));
+            CHECK(!mask || (ENTRIES[0] == 0 && ENTRIES[1] == 0 && ENTRIES[2] == (uint32_t)(mask >> 32) && ENTRIES[3] == (uint32_t)mask));
+        }
     }
 }
 
@@ -1748,6 +1961,10 @@ int main(void) {
     check_most_words();
     repair_lists();
     random_repairs();
+    repair_lists_afresh();
+    random_repairs_afresh();
+    compared_lists();
+    compared_bits();
     draw_lists();
     load_and_copy();
     later_bytes_stay();

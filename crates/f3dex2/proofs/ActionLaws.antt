@@ -8,34 +8,34 @@ use lib.ListN.{length}
 use Rattle.rdp_words.specs.Words.{wordAt}
 use Rattle.rdp_words.specs.Kinds.{between}
 use Rattle.rdp_words.proofs.Tests.{by-test}
-use Rattle.f3dex2.specs.Commands.{numberOf, Kind, straight, rectangle, modes, list, end, unnamed, kindOf, inside, settingAfter, parameter, far, calls, invalid}
-use Rattle.f3dex2.specs.Walk.{Walked, readable, named, wordRefusal, runsKind, runs, judged, walk}
-use Rattle.f3dex2.specs.Steps.{kindAction, actionBy, actionOf, perform}
+use Rattle.f3dex2.specs.Commands.{numberOf, Role, straight, rectangle, modes, list, end, unnamed, roleOf, inside, settingAfter, parameter, far, calls, invalid}
+use Rattle.f3dex2.specs.Walk.{Walked, readable, named, wordRefusal, runsRole, runs, judged, walk}
+use Rattle.f3dex2.specs.Steps.{roleAction, actionBy, actionOf, perform}
 use Rattle.f3dex2.specs.declared.Due.{Due}
 use Rattle.f3dex2.specs.declared.Due.the-variants.{Command, FirstHalf, SecondHalf}
 use Rattle.f3dex2.specs.declared.Setting.{Setting}
 
 -- one command, with the setting after it and the walk from there on
 module _ (go : List ℕ → ℕ → Setting → Walked) (returns : List ℕ) (at : ℕ) (s : Setting) where
-  -- the refusals of a kind, and what it does
-  abbrev kindStep : Kind → ℕ → ℕ → Walked
-  kindStep k n w = judged (cond (not (named k)) 22 (cond (invalid k (length returns) n w) 23 0)) at w (runsKind go returns at s w k)
+  -- the refusals of a role, and what it does
+  abbrev roleStep : Role → ℕ → ℕ → Walked
+  roleStep k n w = judged (cond (not (named k)) 22 (cond (invalid k (length returns) n w) 23 0)) at w (runsRole go returns at s w k)
 
-  kind-is : (k : Kind) (n w : ℕ) → kindStep k n w ≡ perform go returns at w s (kindAction k s n w)
-  kind-is straight n w = by-test (between 0xFD 0xFF n && far w) (λ t. rw t) (λ f. rw f)
-  kind-is rectangle n w = refl
-  kind-is modes n w = by-test (inside w) (λ t. rw t) (λ f. rw f)
-  kind-is list n w =
+  role-is : (k : Role) (n w : ℕ) → roleStep k n w ≡ perform go returns at w s (roleAction k s n w)
+  role-is straight n w = by-test (between 0xFD 0xFF n && far w) (λ t. rw t) (λ f. rw f)
+  role-is rectangle n w = refl
+  role-is modes n w = by-test (inside w) (λ t. rw t) (λ f. rw f)
+  role-is list n w =
       by-test (far w) (λ t. rw t)
       (λ f.
       by-test (calls w) (λ t. rw (f, t) (by-test (leb 8 (length returns)) (λ d. rw d) (λ d. rw d)))
       (λ g. by-test (eqb (parameter w) 1) (λ t. rw (f, g, t)) (λ h. rw (f, g, h))))
-  kind-is end n w = refl
-  kind-is unnamed n w = refl
+  role-is end n w = refl
+  role-is unnamed n w = refl
 
   step-is : (due : Due) (w : ℕ) →
       judged (wordRefusal due (length returns) (numberOf w) w) at w (runs go returns at s w due) ≡ perform go returns at w s (actionBy due s (numberOf w) w)
-  step-is Command w = kind-is (kindOf (numberOf w)) (numberOf w) w
+  step-is Command w = role-is (roleOf (numberOf w)) (numberOf w) w
   step-is FirstHalf w = by-test (eqb (numberOf w) 0xE1) (λ t. rw t) (λ f. rw f)
   step-is (SecondHalf first) w = by-test (eqb (numberOf w) 0xF1) (λ t. rw t) (λ f. rw f)
 

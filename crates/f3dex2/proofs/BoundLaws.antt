@@ -11,8 +11,8 @@ use lib.Dec.{eqb, leb}
 use lib.ListN.{length}
 use Rattle.rdp_words.specs.Words.{wordAt}
 use Rattle.rdp_words.proofs.Tests.{neither}
-use Rattle.f3dex2.specs.Commands.{numberOf, lowHalf, Kind, straight, rectangle, modes, list, end, unnamed, kindOf, settingAfter, settingFirst, parameter, topByte, far, calls, invalid}
-use Rattle.f3dex2.specs.Walk.{Walked, stopped, written, resumed, refusalAt, runsKind, runs, judged, walk}
+use Rattle.f3dex2.specs.Commands.{numberOf, lowHalf, Role, straight, rectangle, modes, list, end, unnamed, roleOf, settingAfter, settingFirst, parameter, topByte, far, calls, invalid}
+use Rattle.f3dex2.specs.Walk.{Walked, stopped, written, resumed, refusalAt, runsRole, runs, judged, walk}
 use Rattle.f3dex2.specs.Translate.{walked, answerOf, translateAnswer}
 use Rattle.f3dex2.specs.declared.Due.{Due}
 use Rattle.f3dex2.specs.declared.Due.the-variants.{Command, FirstHalf, SecondHalf}
@@ -55,17 +55,17 @@ module _ (m left : ℕ) (wide : 2 ^ 24 ≤ m) (go : List ℕ → ℕ → Setting
     listed true h = loose (ih ((at + 8) ∷ returns) (lowHalf w) s (fits, all) (omega arith))
     listed false h = loose (ih returns (lowHalf w) s all (omega arith))
 
-    kind-bounded : (k : Kind) (depth n : ℕ) → invalid k depth n w ≡ false → Bounded m left 1 (runsKind go returns at s w k)
-    kind-bounded straight depth n f = more _ (ih returns (at + 8) s all fits)
-    kind-bounded rectangle depth n f = more _ (ih returns (at + 8) s all fits)
-    kind-bounded modes depth n f = more _ (ih returns (at + 8) s all fits)
-    kind-bounded list depth n f =
+    role-bounded : (k : Role) (depth n : ℕ) → invalid k depth n w ≡ false → Bounded m left 1 (runsRole go returns at s w k)
+    role-bounded straight depth n f = more _ (ih returns (at + 8) s all fits)
+    role-bounded rectangle depth n f = more _ (ih returns (at + 8) s all fits)
+    role-bounded modes depth n f = more _ (ih returns (at + 8) s all fits)
+    role-bounded list depth n f =
         listed (calls w) (near w (neither (far w) (cond (calls w) (leb 8 depth) (not (eqb (parameter w) 1))) f .0))
-    kind-bounded end depth n f = loose (resumes returns s all)
-    kind-bounded unnamed depth n f = record { number = omega arith; place = omega arith; read = omega arith; words = omega arith }
+    role-bounded end depth n f = loose (resumes returns s all)
+    role-bounded unnamed depth n f = record { number = omega arith; place = omega arith; read = omega arith; words = omega arith }
 
     runs-bounded : (due : Due) (depth : ℕ) → Sane due depth (numberOf w) w → Bounded m left 1 (runs go returns at s w due)
-    runs-bounded Command depth h = kind-bounded (kindOf (numberOf w)) depth (numberOf w) (h .valid)
+    runs-bounded Command depth h = role-bounded (roleOf (numberOf w)) depth (numberOf w) (h .valid)
     runs-bounded FirstHalf depth h = loose (ih returns (at + 8) s all fits)
     runs-bounded (SecondHalf first) depth h = more _ (ih returns (at + 8) s all fits)
 

@@ -1,10 +1,10 @@
 -- The worked examples hold of the definition, which antt computes. Assumes nothing.
 use mathlib.Core.Path.{_≡_, refl}
 use Rattle.rdp_words.specs.Words.{halfOf, wordAt}
-use Rattle.f3dex2.specs.Commands.{kindOf, modified, settingAfter}
+use Rattle.f3dex2.specs.Commands.{roleOf, modified, settingAfter}
 use Rattle.f3dex2.specs.Walk.{walk}
 use Rattle.f3dex2.specs.Examples.{examples, results, expected}
 
 pub examples-hold : results examples ≡ expected examples
-unfolding examples halfOf wordAt kindOf modified settingAfter walk
+unfolding examples halfOf wordAt roleOf modified settingAfter walk
 examples-hold = refl

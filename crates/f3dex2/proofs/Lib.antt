@@ -5,7 +5,7 @@ pub mod MaskLaws
 pub mod TranslateLaws
 pub mod RefusalLaws
 pub mod BoundLaws
-pub mod KindLaws
+pub mod RoleLaws
 pub mod WrittenLaws
 pub mod DecodeLaws
 pub mod ExampleLaws

@@ -7,7 +7,7 @@ use native.Mathlib.Omega.{arith}
 use lib.ListN.{length, length-append}
 use borrow.Author.Tests.{le-leb, lt-leb, ne-eqb}
 use Rattle.rdp_words.specs.Words.{bytesOf, overwrite}
-use Rattle.rdp_words.proofs.OverwriteLaws.{length-overwrite, pasted-after}
+use Rattle.rdp_words.proofs.OverwriteLaws.{overwrite-is, length-overwrite, pasted-after}
 use Rattle.f3dex2.specs.Walk.{Walked}
 use Rattle.f3dex2.specs.Steps.{start, putWord, putWords, Settled, Sound, Refuses, Ends, ListIs}
 use Rattle.f3dex2.specs.Translate.{walked, joined, answerOf, outOf}
@@ -36,8 +36,7 @@ put-after (w ∷ ws) k bs out e h =
     ap (λ (l : List ℕ). overwrite l out) (append-assoc bs (bytesOf w) (joined ws))
 
 put-all : (ws out : List ℕ) → 8 * length ws ≤ length out → putWords 0 ws out ≡ overwrite (joined ws) out
-unfolding overwrite
-put-all ws out h = put-after ws 0 [] out refl (omega arith)
+put-all ws out h = ap (putWords 0 ws) (sym (overwrite-is [] out 0 refl)) ∙ put-after ws 0 [] out refl (omega arith)
 
 module _ (memory : List ℕ) (at : ℕ) where
   abbrev whole : Walked

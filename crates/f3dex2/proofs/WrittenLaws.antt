@@ -12,15 +12,15 @@ use lib.ListN.{length}
 use Rattle.rdp_words.specs.Words.{wordAt, numberIn}
 use Rattle.rdp_words.specs.Kinds.{between, wordsOf}
 use Rattle.rdp_words.proofs.Tests.{both, true-of, false-of}
-use Rattle.f3dex2.specs.Commands.{numberOf, lowHalf, Kind, straight, rectangle, modes, list, end, unnamed, kindOf, commandWord, secondWord, modesWord, countIn, shiftCode, inside, masked, modified, settingBy, settingAfter, settingFirst, calls}
-use Rattle.f3dex2.specs.Walk.{Walked, counted, resumed, named, refusalAt, runsKind, runs, judged, walk}
+use Rattle.f3dex2.specs.Commands.{numberOf, lowHalf, Role, straight, rectangle, modes, list, end, unnamed, roleOf, commandWord, secondWord, modesWord, countIn, shiftCode, inside, masked, modified, settingBy, settingAfter, settingFirst, calls}
+use Rattle.f3dex2.specs.Walk.{Walked, counted, resumed, named, refusalAt, runsRole, runs, judged, walk}
 use Rattle.f3dex2.specs.Translate.{walked}
 use Rattle.f3dex2.specs.Written.{becomes, numbersFor, AreCommands, none, one, two}
 use Rattle.f3dex2.specs.declared.Due.{Due}
 use Rattle.f3dex2.specs.declared.Due.the-variants.{Command, FirstHalf, SecondHalf}
 use Rattle.f3dex2.specs.declared.Setting.{Setting}
 use Rattle.f3dex2.proofs.RefusalLaws.{Sane, sane-there, none-left}
-use Rattle.f3dex2.proofs.KindLaws.{kindTest, kind-known, first-none, second-none, number-kept, modes-one, modes-number, modes-small}
+use Rattle.f3dex2.proofs.RoleLaws.{roleTest, role-known, first-none, second-none, number-kept, modes-one, modes-number, modes-small}
 
 -- ---- the low word of the other modes has 32 bits
 
@@ -90,29 +90,29 @@ module _ (go : List ℕ → ℕ → Setting → Walked)
       either true to on t z = plain to on t z
       either false to on t z = plain returns on t z
 
-      kind-written :
-          (k : Kind) → T (kindTest k (numberOf w)) → named k ≡ true → runsKind go returns at s w k .number ≡ 0 →
-          AreCommands (runsKind go returns at s w k .words) (becomes k (numberOf w) ++ numbersFor (runsKind go returns at s w k .commands))
-      kind-written straight t m z =
+      role-written :
+          (k : Role) → T (roleTest k (numberOf w)) → named k ≡ true → runsRole go returns at s w k .number ≡ 0 →
+          AreCommands (runsRole go returns at s w k .words) (becomes k (numberOf w) ++ numbersFor (runsRole go returns at s w k .commands))
+      role-written straight t m z =
           let b = both (not (between 0xE4 0xE5 (numberOf w))) (eqb (wordsOf (numberOf w % 64)) 1) t in
           own (one (commandWord w) (mod-lt w (lit< tt)) (words-by (b .1)) (plain returns (at + 8) (b .0) z))
-      kind-written rectangle t m z =
+      role-written rectangle t m z =
           let b = both (between 0xE4 0xE5 (numberOf w)) (eqb (wordsOf (numberOf w % 64)) 2) t in
           let h = halved (b .0) z in
           own
           (subst (λ (ws : List ℕ). AreCommands (commandWord w ∷ ws) (numberIn (commandWord w) ∷ numbersFor (go returns (at + 8) s .commands))) (sym (h .split))
           (two (commandWord w) (h .second) (mod-lt w (lit< tt)) (words-by (b .1)) (h .commands)))
-      kind-written modes t m z =
+      role-written modes t m z =
           let ns = numbersFor (go returns (at + 8) s .commands) in
           let e = modes-number s small in
           subst (λ (k : ℕ). AreCommands (modesWord s ∷ go returns (at + 8) s .words) (k ∷ ns)) e
           (one (modesWord s) (modes-small s small) (ap wordsOf e ∙ modes-one) (plain returns (at + 8) t z))
-      kind-written list t m z = either (calls w) ((at + 8) ∷ returns) (lowHalf w) t z
-      kind-written end t m z = resumes returns s small (due-by false (false-of _ t)) z
-      kind-written unnamed t m z = absurd (false≢true m)
+      role-written list t m z = either (calls w) ((at + 8) ∷ returns) (lowHalf w) t z
+      role-written end t m z = resumes returns s small (due-by false (false-of _ t)) z
+      role-written unnamed t m z = absurd (false≢true m)
 
     -- one more command is read, which becomes none
-    passed-over : {r : Walked} → becomes (kindOf (numberOf w)) (numberOf w) ≡ [] → Halved r → Halved (counted w r)
+    passed-over : {r : Walked} → becomes (roleOf (numberOf w)) (numberOf w) ≡ [] → Halved r → Halved (counted w r)
     passed-over {r} e h =
         record {
           second = h .second;
@@ -126,7 +126,7 @@ module _ (go : List ℕ → ℕ → Setting → Walked)
       runs go returns at (settingBy due s (numberOf w) w) w due .number ≡ 0 → Good due (counted w (runs go returns at (settingBy due s (numberOf w) w) w due))
   runs-written returns at w depth Command s h sane z =
       let n = numberOf w in
-      kind-written returns at w (settingBy Command s n w) (low-by Command s n w h) refl (kindOf n) (kind-known n) (sane .in-place) z
+      role-written returns at w (settingBy Command s n w) (low-by Command s n w h) refl (roleOf n) (role-known n) (sane .in-place) z
   runs-written returns at w depth FirstHalf s h sane z =
       let after = settingBy FirstHalf s (numberOf w) w in
       passed-over returns at w after h (first-none (numberOf w) (sane .in-place)) (ih returns (at + 8) after h z)

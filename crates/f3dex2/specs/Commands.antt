@@ -18,18 +18,18 @@ lowHalf w = w % 2 ^ 32
 
 -- ---- the numbers that 02 names
 
-pub data Kind : Type 0 where
-  straight : Kind
-  rectangle : Kind
-  modes : Kind
-  list : Kind
-  end : Kind
-  unnamed : Kind
+pub data Role : Type 0 where
+  straight : Role
+  rectangle : Role
+  modes : Role
+  list : Role
+  end : Role
+  unnamed : Role
 
 -- where no half-word is due. "0xE6-0xF0 and 0xF2-0xFF"; "0xE4 and 0xE5"; "0xE2 and 0xE3"; "0xDE"; "0xDF"; any other is "a number not named above", or one
 -- of "0xE1 and 0xF1 .. out of place"
-unfoldable pub kindOf : ℕ → Kind
-kindOf n =
+unfoldable pub roleOf : ℕ → Role
+roleOf n =
     cond (between 0xE6 0xF0 n || between 0xF2 0xFF n) straight
     (cond (between 0xE4 0xE5 n) rectangle
     (cond (between 0xE2 0xE3 n) modes
@@ -111,7 +111,7 @@ calls w = eqb (parameter w) 0
 
 -- "a ninth call deep", with `depth` calls open; "an address in 0xDE or 0xFD to 0xFF whose top byte is not 0"; "a 0xDE parameter other than 00 and 01"; "a
 -- shift and count outside 32 bits"
-abbrev pub invalid : Kind → ℕ → ℕ → ℕ → Bool
+abbrev pub invalid : Role → ℕ → ℕ → ℕ → Bool
 invalid straight depth n w = between 0xFD 0xFF n && far w
 invalid rectangle depth n w = false
 invalid modes depth n w = not (inside w)

@@ -8,7 +8,7 @@ use lib.Dec.{eqb, leb}
 use lib.ListN.{length}
 use Rattle.rdp_words.specs.Words.{bytesOf, pasted}
 use Rattle.rdp_words.specs.Kinds.{between}
-use Rattle.f3dex2.specs.Commands.{numberOf, lowHalf, Kind, straight, rectangle, modes, list, end, unnamed, kindOf, commandWord, secondWord, modesWord, inside, settingAfter, settingFirst, parameter, far, calls}
+use Rattle.f3dex2.specs.Commands.{numberOf, lowHalf, Role, straight, rectangle, modes, list, end, unnamed, roleOf, commandWord, secondWord, modesWord, inside, settingAfter, settingFirst, parameter, far, calls}
 use Rattle.f3dex2.specs.Walk.{Walked, stopped, counted, written, readable, resumed, walk}
 use Rattle.f3dex2.specs.declared.Due.{Due}
 use Rattle.f3dex2.specs.declared.Due.the-variants.{Command, FirstHalf, SecondHalf}
@@ -39,17 +39,17 @@ listAction w =
 abbrev pub modesAction : Setting → ℕ → Action
 modesAction s w = cond (inside w) (Write (modesWord s)) Invalid
 
-abbrev pub kindAction : Kind → Setting → ℕ → ℕ → Action
-kindAction straight s n w = cond (between 0xFD 0xFF n && far w) Invalid (Write (commandWord w))
-kindAction rectangle s n w = Write (commandWord w)
-kindAction modes s n w = modesAction s w
-kindAction list s n w = listAction w
-kindAction end s n w = End
-kindAction unnamed s n w = Unknown
+abbrev pub roleAction : Role → Setting → ℕ → ℕ → Action
+roleAction straight s n w = cond (between 0xFD 0xFF n && far w) Invalid (Write (commandWord w))
+roleAction rectangle s n w = Write (commandWord w)
+roleAction modes s n w = modesAction s w
+roleAction list s n w = listAction w
+roleAction end s n w = End
+roleAction unnamed s n w = Unknown
 
 -- by what is due, with the setting after the command
 abbrev pub actionBy : Due → Setting → ℕ → ℕ → Action
-actionBy Command s n w = kindAction (kindOf n) s n w
+actionBy Command s n w = roleAction (roleOf n) s n w
 actionBy FirstHalf s n w = cond (eqb n 0xE1) Pass Unknown
 actionBy (SecondHalf first) s n w = cond (eqb n 0xF1) (Write (secondWord first w)) Unknown
 

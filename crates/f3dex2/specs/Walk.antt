@@ -6,7 +6,7 @@ use mathlib.Core.List.{List, [], _∷_}
 use lib.Dec.{eqb, leb}
 use lib.ListN.{length}
 use Rattle.rdp_words.specs.Words.{wordAt}
-use Rattle.f3dex2.specs.Commands.{numberOf, lowHalf, Kind, straight, rectangle, modes, list, end, unnamed, kindOf, commandWord, secondWord, modesWord, settingAfter, calls, invalid}
+use Rattle.f3dex2.specs.Commands.{numberOf, lowHalf, Role, straight, rectangle, modes, list, end, unnamed, roleOf, commandWord, secondWord, modesWord, settingAfter, calls, invalid}
 use Rattle.f3dex2.specs.declared.Due.{Due}
 use Rattle.f3dex2.specs.declared.Due.the-variants.{Command, FirstHalf, SecondHalf}
 use Rattle.f3dex2.specs.declared.Setting.{Setting}
@@ -42,7 +42,7 @@ spent zero = true
 spent (suc left) = false
 
 -- not 22, "a number not named above"
-abbrev pub named : Kind → Bool
+abbrev pub named : Role → Bool
 named straight = true
 named rectangle = true
 named modes = true
@@ -52,13 +52,13 @@ named unnamed = false
 
 -- nor "0xE1 and 0xF1 missing or out of place"
 abbrev pub inPlace : Due → ℕ → Bool
-inPlace Command n = named (kindOf n)
+inPlace Command n = named (roleOf n)
 inPlace FirstHalf n = eqb n 0xE1
 inPlace (SecondHalf first) n = eqb n 0xF1
 
 -- 23: a half-word has nothing that it could refuse
 abbrev pub isInvalid : Due → ℕ → ℕ → ℕ → Bool
-isInvalid Command depth n w = invalid (kindOf n) depth n w
+isInvalid Command depth n w = invalid (roleOf n) depth n w
 isInvalid FirstHalf depth n w = false
 isInvalid (SecondHalf first) depth n w = false
 
@@ -85,19 +85,19 @@ resumed go [] s = stopped 0 0
 resumed go (at ∷ returns) s = go returns at s
 
 -- with the setting after it; `go` is the walk from an offset on
-abbrev pub runsKind : (List ℕ → ℕ → Setting → Walked) → List ℕ → ℕ → Setting → ℕ → Kind → Walked
-runsKind go returns at s w straight = written (commandWord w) (go returns (at + 8) s)
-runsKind go returns at s w rectangle = written (commandWord w) (go returns (at + 8) s)
-runsKind go returns at s w modes = written (modesWord s) (go returns (at + 8) s)
+abbrev pub runsRole : (List ℕ → ℕ → Setting → Walked) → List ℕ → ℕ → Setting → ℕ → Role → Walked
+runsRole go returns at s w straight = written (commandWord w) (go returns (at + 8) s)
+runsRole go returns at s w rectangle = written (commandWord w) (go returns (at + 8) s)
+runsRole go returns at s w modes = written (modesWord s) (go returns (at + 8) s)
 -- "0xDE with 00 calls the list at an offset, with 01 goes there for good"
-runsKind go returns at s w list = cond (calls w) (go ((at + 8) ∷ returns) (lowHalf w) s) (go returns (lowHalf w) s)
-runsKind go returns at s w end = resumed go returns s
+runsRole go returns at s w list = cond (calls w) (go ((at + 8) ∷ returns) (lowHalf w) s) (go returns (lowHalf w) s)
+runsRole go returns at s w end = resumed go returns s
 -- refused by 22
-runsKind go returns at s w unnamed = stopped 22 at
+runsRole go returns at s w unnamed = stopped 22 at
 
 -- by what is due: a rectangle's second word is written where its second half-word is read
 abbrev pub runs : (List ℕ → ℕ → Setting → Walked) → List ℕ → ℕ → Setting → ℕ → Due → Walked
-runs go returns at s w Command = runsKind go returns at s w (kindOf (numberOf w))
+runs go returns at s w Command = runsRole go returns at s w (roleOf (numberOf w))
 runs go returns at s w FirstHalf = go returns (at + 8) s
 runs go returns at s w (SecondHalf first) = written (secondWord first w) (go returns (at + 8) s)
 

@@ -2,8 +2,8 @@
 use crate::*;
 ghost use mathlib.Core.Path.{_≡_};
 ghost use Prim.Native.Nat.{_+_, _≤_};
-ghost use Rattle.f3dex2.specs.Commands.{numberOf, kindOf, masked, modified, settingBy, settingAfter, modesWord};
-ghost use Rattle.f3dex2.specs.Steps.{modesOnly, listAction, modesAction, kindAction, actionBy};
+ghost use Rattle.f3dex2.specs.Commands.{numberOf, roleOf, masked, modified, settingBy, settingAfter, modesWord};
+ghost use Rattle.f3dex2.specs.Steps.{modesOnly, listAction, modesAction, roleAction, actionBy};
 
 // x & ~(((1 << count) - 1) << shift) | bits
 fn mask_in(x: u32, shift: u64, count: u64, bits: u32) -> u32
@@ -117,7 +117,7 @@ fn modes_action(after: Setting, w: u64) -> Action
 
 // What a command does, where no half-word is due; `after` is the setting after it.
 fn command_action(after: Setting, w: u64) -> Action
-    ensures { λ r. ⌜ r ≡ kindAction (kindOf (numberOf w)) after (numberOf w) w ⌝ }
+    ensures { λ r. ⌜ r ≡ roleAction (roleOf (numberOf w)) after (numberOf w) w ⌝ }
 {
     let number = w >> 56;
     let kept = w % 0x4000_0000_0000_0000;

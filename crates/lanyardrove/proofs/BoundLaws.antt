@@ -10,12 +10,13 @@ use lib.ListN.{length, length-take}
 use Rattle.rdp_words.specs.Words.{wordAt}
 use Rattle.rdp_words.specs.Lengths.{firstNumber}
 use Rattle.rdp_command.specs.Decode.{decodeOf}
-use Rattle.rdp_command.specs.Numbers.{fieldsAnswer, fromNumbers}
+use Rattle.rdp_encode.specs.Numbers.{fieldsAnswer, fromNumbers}
 use Rattle.rdp_command.specs.declared.Answer.{Answer}
 use Rattle.rdp_command.specs.declared.Decoded.{Decoded}
 use Rattle.rdp_command.specs.declared.Decoded.the-variants.{Whole, Refused}
 use Rattle.rdp_words.proofs.PlaceLaws.{number-small}
-use Rattle.rdp_command.proofs.BoundLaws.{decode-refused, fields-decoded, lines-most, fields-most, fields-place, from-refused, encode-most, encode-words}
+use Rattle.rdp_command.proofs.BoundLaws.{decode-refused, lines-most}
+use Rattle.rdp_encode.proofs.BoundLaws.{fields-decoded, fields-most, fields-place, from-refused, encode-most, encode-words}
 use Rattle.rdp_hazards.specs.Hazards.{requiredOf}
 use Rattle.rdp_hazards.proofs.HazardLaws.{next-small, required-most}
 use Rattle.rdp_check.specs.Check.{checkRefusals, checkOf}

@@ -7,8 +7,8 @@ use lib.Dec.{eqb}
 use lib.ListN.{length, take}
 use Rattle.rdp_words.specs.Lengths.{firstNumber}
 use Rattle.rdp_command.specs.Decode.{decodeOf}
-use Rattle.rdp_command.specs.Encode.{encodeAnswer, encodeOut}
-use Rattle.rdp_command.specs.Numbers.{fieldsAnswer, fieldsOut, fromNumbers}
+use Rattle.rdp_encode.specs.Encode.{encodeAnswer, encodeOut}
+use Rattle.rdp_encode.specs.Numbers.{fieldsAnswer, fieldsOut, fromNumbers}
 use Rattle.rdp_command.specs.declared.Answer.{Answer}
 use Rattle.rdp_command.specs.declared.Decoded.{Decoded}
 use Rattle.rdp_command.specs.declared.Decoded.the-variants.{Whole, Refused}

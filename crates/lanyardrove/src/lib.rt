@@ -131,7 +131,7 @@ pub extern "C" fn lanyardrove_decode(list: &[u8], fields: &mut [u64]) -> u64
     let decoded = rdp_command::decode(list);
     match decoded {
         Decoded::Whole(command) => {
-            let written = rdp_command::fields(command, fields);
+            let written = rdp_encode::fields(command, fields);
             if written.number != 0 {
                 return pack(written.number, 0, written.place);
             }
@@ -154,10 +154,10 @@ pub extern "C" fn lanyardrove_encode(
     ensures reply { λ r. ⌜ r ≡ packed (encodeReply number (now (fields .entry)) (now (suffix .entry)) (now (out .entry))) ⌝ }
     ensures output { λ _. ⌜ now (out .exit) ≡ encodeBytes number (now (fields .entry)) (now (suffix .entry)) (now (out .entry)) ⌝ }
 {
-    let made = rdp_command::from_fields(number, fields);
+    let made = rdp_encode::from_fields(number, fields);
     match made {
         Decoded::Whole(command) => {
-            let encoded = rdp_command::encode(command, suffix, out);
+            let encoded = rdp_encode::encode(command, suffix, out);
             return pack(encoded.number, 0, encoded.place);
         }
         Decoded::Refused(unmade) => return pack(unmade.number, 0, unmade.place),

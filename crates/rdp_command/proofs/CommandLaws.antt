@@ -1,9 +1,12 @@
 -- A command by its number. Assumes nothing.
 use Prim.Native.Nat.{ℕ, _/_, _<_}
+use mathlib.Core.Bool.{Bool, true, not, _||_}
 use mathlib.Core.List.{List}
 use mathlib.Core.Path.{_≡_, refl, ap, sym, _∙_}
 use native.Mathlib.Omega.{arith}
-use borrow.Author.Tests.{eq-eqb, ne-eqb}
+use borrow.Author.Tests.{eq-eqb, ne-eqb, eqb-true}
+use lib.Dec.{eqb, eqb→eq}
+use lib.ListN.{length}
 use Rattle.rdp_command.specs.Layout.{Line, layout, triangleBaseLines, keyGbLines, keyRLines, convertLines, scissorLines, primitiveDepthLines, otherModesLines, tileAreaLines, blockLines, tileDescriptorLines, rectangleLines, fillColorLines, colorLines, primitiveColorLines, combineModeLines, imageLines, depthImageLines, colorImageLines}
 use Rattle.rdp_command.specs.Fields.{Value, fieldsOf}
 use Rattle.rdp_command.specs.Groups.{natAt, triangleBaseOf, keyGbOf, keyROf, convertOf, scissorOf, primitiveDepthOf, otherModesOf, tileAreaOf, blockOf, tileDescriptorOf, rectangleOf, colorOf, primitiveColorOf, imageOf}
@@ -11,6 +14,9 @@ use Rattle.rdp_command.specs.Commands.{commandOf}
 use Rattle.rdp_command.specs.Decode.{commandIn}
 use Rattle.rdp_command.specs.declared.Command.{Command}
 use Rattle.rdp_command.specs.declared.Command.the-variants.{Unassigned, FillTriangle, SetKeyGb, SetKeyR, SetConvert, SetScissor, SetPrimitiveDepth, SetOtherModes, LoadTlut, SetTileSize, LoadBlock, LoadTile, SetTile, FillRectangle, SetFillColor, SetFogColor, SetBlendColor, SetPrimitiveColor, SetEnvironmentColor, SetCombineMode, SetTextureImage, SetDepthImage, SetColorImage, Unassigned}
+use Rattle.rdp_words.specs.Kinds.{isNoOperation, isUnassigned}
+use Rattle.rdp_words.proofs.Tests.{below}
+use Rattle.rdp_words.proofs.KindLaws.{unassigned-small}
 use Rattle.rdp_command.proofs.Triangles.{layout-at}
 
 -- what is shown at a numeral holds at a number that equals it
@@ -60,6 +66,20 @@ low-command n vs h t z =
       ne-eqb n 0x3F (λ e. omega arith),
       ne-eqb n 0x00 z,
     )
+
+-- a no operation and an unassigned command have no bit line
+pub no-operation-lines : (n : ℕ) → isNoOperation n ≡ true → length (layout n) ≡ 0
+unfolding layout
+no-operation-lines n e = ap (λ (k : ℕ). length (layout k)) (eqb-true n 0x00 e)
+
+abbrev emptyTest : ℕ → Bool
+emptyTest n = not (isUnassigned n) || eqb (length (layout n)) 0
+
+pub unassigned-lines : (n : ℕ) → isUnassigned n ≡ true → length (layout n) ≡ 0
+unfolding layout
+unassigned-lines n e =
+    let t = below 64 emptyTest tt n (unassigned-small n e) in
+    eqb→eq (length (layout n)) 0 (rw e at t)
 
 -- the commands of one word that have fields, by their numbers, out of their words
 pub record OneWord (ws : List ℕ) : Type 0 where

@@ -6,12 +6,11 @@ use native.Mathlib.Omega.{arith}
 use borrow.Author.Tests.{le-ltb}
 use lib.IntN.{ℤ, pos, negsuc, _+ℤ_, _-ℤ_}
 use lib.Signed.{mag}
-use mir.Syntax.{w16, w32, w64}
+use mir.Syntax.{w16, w32}
 use mir.Val.{SFits, toZ, ofZ, boolByte}
 use mathlib.Core.Bool.{Bool, true, false}
-use lib.Dec.{lit≤, ltb}
+use lib.Dec.{lit≤}
 use mir.Facts.{toZ-ofZ, sfits-widen}
-use Rattle.rdp_command.specs.Fields.{fitsSigned}
 
 -- a signed number of 16 bits with 2 ^ 16 added to it
 unfoldable pub excessOf : ℤ → ℕ
@@ -50,29 +49,6 @@ module _ (z : ℤ) (f : SFits w16 z) where
 
   pub machine-excess : toZ w32 (ofZ w32 (toZ w32 (ofZ w32 (toZ w16 (ofZ w16 z))) +ℤ pos 65536)) ≡ pos (excessOf z)
   machine-excess = ap (λ (y : ℤ). toZ w32 (ofZ w32 y)) machine-plus ∙ toZ-ofZ excess-fits
-
--- two's complement of 64 bits out of it
-pub low-back : (z : ℤ) → mag z < 2 ^ 15 → excessOf z < 2 ^ 16 → excessOf z + 0xFFFF_FFFF_FFFF_0000 ≡ ofZ w64 z
-unfolding excessOf
-low-back (pos n) h l = absurd (omega arith)
-low-back (negsuc n) h l = omega arith
-
-pub high-back : (z : ℤ) → mag z < 2 ^ 15 → 2 ^ 16 ≤ excessOf z → excessOf z - 2 ^ 16 ≡ ofZ w64 z
-unfolding excessOf
-high-back (pos n) h l = omega arith
-high-back (negsuc n) h l = absurd (omega arith)
-
--- what a call of `twos` on a signed field gives
-pub given :
-    (z : ℤ) {r : ℕ} → mag z < 2 ^ 15 →
-    (r ≡ ofZ w64 (toZ w16 (ofZ w16 z))) × (toZ w64 (ofZ w64 (toZ w16 (ofZ w16 z))) ≡ toZ w16 (ofZ w16 z)) →
-    (r ≡ ofZ w64 z) × (toZ w64 (ofZ w64 z) ≡ z)
-given z f e = let k : toZ w16 (ofZ w16 z) ≡ z = read-back f refl in rw k at e
-
--- a signed number fits by how far it is from 0, or from -1 where it is negative
-pub signed-fits : (half : ℕ) (z : ℤ) → fitsSigned half z ≡ ltb (mag z) half
-signed-fits half (pos n) = refl
-signed-fits half (negsuc n) = refl
 
 pub bool-le : (b : Bool) → boolByte b ≤ 1
 bool-le true = lit≤ tt

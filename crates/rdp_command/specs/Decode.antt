@@ -8,6 +8,7 @@ use Rattle.rdp_words.specs.Lengths.{firstNumber, wholeWords}
 use Rattle.rdp_command.specs.Layout.{layout}
 use Rattle.rdp_command.specs.Fields.{fieldsOf}
 use Rattle.rdp_command.specs.Commands.{commandOf}
+use Rattle.rdp_command.specs.declared.Base.{Base}
 use Rattle.rdp_command.specs.declared.Command.{Command}
 use Rattle.rdp_command.specs.declared.Decoded.{Decoded}
 use Rattle.rdp_command.specs.declared.Decoded.the-variants.{Whole, Refused}
@@ -29,3 +30,8 @@ unfoldable pub decodeOf : List ℕ → Decoded
 decodeOf bs =
     cond (eqb (wholeWords bs) 0) (Refused (record { number = 3; place = 0 }))
     (Whole (commandIn (firstNumber bs) (ownWords bs (wholeWords bs))))
+
+-- the command of a base, or a refusal at 0
+unfoldable pub decodedFrom : ℕ → Base → Decoded
+decodedFrom refusal b =
+    cond (b .ok) (Whole (commandIn (b .number) (b .w0 ∷ b .w1 ∷ b .w2 ∷ b .w3 ∷ []))) (Refused (record { number = refusal; place = 0 }))

@@ -1,11 +1,6 @@
 pub mod Layout
-pub mod Table
 pub mod Fields
 pub mod Groups
 pub mod Commands
 pub mod Decode
 pub mod Reads
-pub mod Encode
-pub mod Numbers
-pub mod Steps
-pub mod Kept

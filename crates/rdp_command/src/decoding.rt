@@ -1,21 +1,10 @@
 // The command of a number out of its words.
 ghost use mathlib.Core.Path.{_≡_};
 ghost use mathlib.Core.List.{[], _∷_};
-ghost use Rattle.rdp_command.specs.Decode.{commandIn, decodeOf};
-ghost use Rattle.rdp_command.specs.Steps.{decodedFrom};
+ghost use Rattle.rdp_command.specs.Decode.{commandIn, decodeOf, decodedFrom};
 use crate::read;
 use crate::words;
 use crate::*;
-
-// The number of a command and its words before the suffix; those that it does not have are 0. Without ok there is no command.
-pub struct Base {
-    pub ok: bool,
-    pub number: u8,
-    pub w0: u64,
-    pub w1: u64,
-    pub w2: u64,
-    pub w3: u64,
-}
 
 // The base of the first command of a list, where its words are all there.
 pub fn first_command(list: &[u8]) -> Base
@@ -34,7 +23,7 @@ pub fn first_command(list: &[u8]) -> Base
 }
 
 // The command of a base.
-fn command_in(base: Base) -> Command
+pub fn command_in(base: Base) -> Command
     ensures { λ r. ⌜ r ≡ commandIn (base .number) (base .w0 ∷ base .w1 ∷ base .w2 ∷ base .w3 ∷ []) ⌝ }
 {
     let number = base.number;
@@ -72,17 +61,4 @@ fn command_in(base: Base) -> Command
         0x00 => return Command::NoOperation(number),
         _ => return Command::Unassigned(number),
     }
-}
-
-// The command of a base, or the refusal at 0.
-pub fn decoded(base: Base, refusal: u32) -> Decoded
-    ensures { λ r. ⌜ r ≡ decodedFrom refusal base ⌝ }
-{
-    if base.ok {
-        return Decoded::Whole(command_in(base));
-    }
-    Decoded::Refused(Answer {
-        number: refusal,
-        place: 0,
-    })
 }

@@ -1,18 +1,12 @@
-// Decoding and encoding of the display processor's commands.
+// Decoding of the display processor's commands, and the fields that other layers read of their words.
 ghost use mathlib.Core.Path.{_≡_};
 ghost use Rattle.rdp_words.specs.Words.{wordAt};
-ghost use Rattle.rdp_command.specs.Decode.{decodeOf};
+ghost use Rattle.rdp_command.specs.Decode.{decodeOf, decodedFrom};
 ghost use Rattle.rdp_command.specs.Reads.{headOf, fillFields, loadFields, copyFields, registerFields, tileFields};
-ghost use Rattle.rdp_command.specs.Encode.{encodeAnswer, encodeOut};
-ghost use Rattle.rdp_command.specs.Numbers.{fieldsAnswer, fieldsOut, fromNumbers};
 
 mod decoding;
-mod encoding;
-mod packing;
 mod read;
 mod registers;
-mod table;
-mod values;
 mod words;
 
 // The commands, with their fields in the order of the wiki's bit lines.
@@ -446,6 +440,16 @@ pub enum Decoded {
     Refused(Answer),
 }
 
+// The number of a command and its words before the suffix; those that it does not have are 0. Without ok there is no command.
+pub struct Base {
+    pub ok: bool,
+    pub number: u8,
+    pub w0: u64,
+    pub w1: u64,
+    pub w2: u64,
+    pub w3: u64,
+}
+
 // What the check reads of the word at a place.
 pub fn head_at(list: &[u8], place: usize) -> Head
     ensures { λ r. ⌜ r ≡ headOf (wordAt (now (list .entry)) place) ⌝ }
@@ -526,34 +530,22 @@ pub fn tile_fields(descriptor: u64, size: u64) -> TileFields
     }
 }
 
+// The command of a base, or the refusal at 0.
+pub fn command_or(base: Base, refusal: u32) -> Decoded
+    ensures { λ r. ⌜ r ≡ decodedFrom refusal base ⌝ }
+{
+    if base.ok {
+        return Decoded::Whole(decoding::command_in(base));
+    }
+    Decoded::Refused(Answer {
+        number: refusal,
+        place: 0,
+    })
+}
+
 // The first command of a list, or 3 at 0 where its words are not all there. Bytes beyond its words are not read.
 pub fn decode(list: &[u8]) -> Decoded
     ensures { λ r. ⌜ r ≡ decodeOf (now (list .entry)) ⌝ }
 {
-    decoding::decoded(decoding::first_command(list), 3)
-}
-
-// Writes a command at the front of out, with the bytes given for what follows a triangle's base. Answers 0 and the words written; 15 at 0 where the
-// command can't be encoded so; 14 at the words needed where out is too short.
-pub fn encode(command: Command, suffix: &[u8], out: &mut [u8]) -> Answer
-    ensures answer { λ r. ⌜ r ≡ encodeAnswer command (now (suffix .entry)) (now (out .entry)) ⌝ }
-    ensures output { λ _. ⌜ now (out .exit) ≡ encodeOut command (now (suffix .entry)) (now (out .entry)) ⌝ }
-{
-    encoding::write_numbers(values::spread(command), suffix, out)
-}
-
-// Writes the fields of a command as numbers to the front of out, in the order of the layout. Answers 0 and their count, or 14 at the count where out
-// is too short.
-pub fn fields(command: Command, out: &mut [u64]) -> Answer
-    ensures answer { λ r. ⌜ r ≡ fieldsAnswer command (now (out .entry)) ⌝ }
-    ensures output { λ _. ⌜ now (out .exit) ≡ fieldsOut command (now (out .entry)) ⌝ }
-{
-    values::write_values(values::spread(command), out)
-}
-
-// The command of a number and its fields as numbers, or 15 at 0.
-pub fn from_fields(number: u32, numbers: &[u64]) -> Decoded
-    ensures { λ r. ⌜ r ≡ fromNumbers number (now (numbers .entry)) ⌝ }
-{
-    decoding::decoded(encoding::packed_command(number, numbers), 15)
+    command_or(decoding::first_command(list), 3)
 }

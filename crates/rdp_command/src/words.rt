@@ -1,8 +1,5 @@
-// The words of a command, and a word written to a buffer.
+// The words of a command.
 ghost use mathlib.Core.Path.{_≡_};
-ghost use Prim.Native.Nat.{_+_, _≤_};
-ghost use lib.ListN.{length};
-ghost use Rattle.rdp_words.specs.Words.{bytesOf, pasted};
 ghost use Rattle.rdp_command.specs.Decode.{ownWord};
 
 // Word k of a command of n words, which is not read where the command has no such word.
@@ -14,23 +11,4 @@ pub fn own_word(list: &[u8], n: usize, k: usize) -> u64
     } else {
         0
     }
-}
-
-// Writes a word at an index, most significant byte first.
-pub fn put_word(out: &mut [u8], at: usize, w: u64)
-    requires { ⌜ at + 8 ≤ length (now out) ⌝ }
-    ensures { λ _. ⌜ now (out .exit) ≡ pasted at (bytesOf w) (now (out .entry)) ⌝ }
-{
-    let bytes = [
-        ((w >> 56) % 0x100) as u8,
-        ((w >> 48) % 0x100) as u8,
-        ((w >> 40) % 0x100) as u8,
-        ((w >> 32) % 0x100) as u8,
-        ((w >> 24) % 0x100) as u8,
-        ((w >> 16) % 0x100) as u8,
-        ((w >> 8) % 0x100) as u8,
-        (w % 0x100) as u8,
-    ];
-    let end = at + 8;
-    rdp_words::copy(&mut out[at..end], &bytes);
 }

@@ -21,7 +21,7 @@ use Rattle.rdp_texels.specs.Load.{loadMoves}
 use Rattle.rdp_texels.specs.Copy.{copyMoves}
 use Rattle.rdp_texels.specs.Written.{standsAt, goesTo, LastMove}
 use Rattle.rdp_texels.proofs.ExactLaws.{none-split, length-loaded, length-copied, loaded-free, loaded-last, copied-free, copied-last, texture-inside}
-use Rattle.rdp_draw.specs.Fill.{colorByte, covers}
+use Rattle.rdp_fill.specs.Fill.{colorByte, covers}
 use Rattle.rdp_draw.specs.Draw.{Act, nothing, otherDraw, otherLoad, filling, copying, loading, Placed, actsOf, isOutside, isBeyond, actRefusals, drawAnswer, Memories, acted, actedAll, drawn}
 use Rattle.rdp_draw.specs.Seen.{actRefusal, firstRefusal}
 use Rattle.rdp_draw.specs.Written.{actWrites, actLoads, someAct, LastAct}

@@ -1,5 +1,5 @@
 -- The answer and the memories of drawing, as its two loops over the acts meet them. Assumes nothing.
-use mathlib.Core.Bool.{Bool, true, false, cond, not, _||_}
+use mathlib.Core.Bool.{Bool, true, false, cond, not, _||_, Bool·not-not}
 use mathlib.Core.List.{List, [], _∷_}
 use mathlib.Core.Path.{_≡_, refl, sym, _∙_, ap, subst}
 use Prim.Native.Nat.{ℕ, _+_, _/_, _%_, _≤_, _<_}
@@ -19,13 +19,10 @@ use Rattle.rdp_check.specs.Order.{Ground, firstOf, answer, Among}
 use Rattle.rdp_check.specs.Refusals.{pastEnd, tooLong, ofCommands}
 use Rattle.rdp_check.proofs.OrderLaws.{first-none, among-gives, refusedAt, refused-some, refused-none, placed-first, then-refused, then-accepted}
 use Rattle.rdp_check.proofs.FirstLaws.{no-bytes, check-first}
-use Rattle.rdp_texels.specs.Refusals.{loadRefusal, copyRefusal, loadTexture, copyMemory}
-use Rattle.rdp_texels.proofs.ActLaws.{never, load-leaves, copy-leaves}
+use Rattle.rdp_texels.specs.Refusals.{copyRefusals, loadRefusal, copyRefusal, loadTexture, copyMemory}
+use Rattle.rdp_texels.proofs.ActLaws.{never, load-first, copy-first, load-leaves, copy-leaves}
 use Rattle.rdp_draw.specs.declared.walk.Reached.{Reached}
-use Rattle.rdp_draw.specs.declared.Area.{Area}
-use Rattle.rdp_draw.specs.Fill.{outside, painted}
-use Rattle.rdp_draw.specs.Runs.{areaOf, areaInside}
-use Rattle.rdp_draw.proofs.AreaLaws.{outside-runs}
+use Rattle.rdp_fill.specs.Fill.{outside, painted, fillMemory}
 use Rattle.rdp_draw.specs.Draw.{Act, otherDraw, filling, copying, loading, fillAct, copyAct, Placed, actsOf, misaligned, actRefusals, actGrounds, textureGround, drawAnswer, Memories, memories, acted, actedAll, drawn}
 use Rattle.rdp_draw.specs.Seen.{fillAt, copyAt, loadAt, actBy, actWith, placedWith, actRefusal, Next, ReachedIs, Reaches, firstRefusal}
 use Rattle.rdp_draw.proofs.SeenLaws.{start-due}
@@ -111,10 +108,10 @@ module _ (start len : ℕ) where
       unfolding actRefusals
       fill-11 h = rw (eq-eqb _ _ mode, ne-eqb _ _ h)
 
-      -- the area of the fill, and whether it is inside memory
-      module _ (aligned : f .image .address % 64 ≡ 0) (r : Area) (is-r : r ≡ areaOf f) (b : Bool) (is-b : b ≡ areaInside r start len) where
+      -- whether it is inside memory
+      module _ (aligned : f .image .address % 64 ≡ 0) (b : Bool) (is-b : b ≡ not (outside f start len)) where
         outside-is : outside f start len ≡ not b
-        outside-is = outside-runs f start len ∙ ap (λ (x : Area). not (areaInside x start len)) (sym is-r) ∙ ap not (sym is-b)
+        outside-is = sym (Bool·not-not (outside f start len)) ∙ ap not (sym is-b)
 
         pub fill-12 : b ≡ false → 12 ≡ actRefusal start len (fillAct f)
         unfolding actRefusals
@@ -136,8 +133,8 @@ module _ (start len : ℕ) where
       copy-11 h = rw (eq-eqb _ _ mode, ne-eqb _ _ h)
 
       pub copy-others : c .image .address % 64 ≡ 0 → (r : ℕ) → r ≡ copyRefusal c start len → r ≡ actRefusal start len (copyAct c)
-      unfolding actRefusals copyRefusal
-      copy-others h r e = e ∙ rw (eq-eqb _ _ mode, eq-eqb _ _ h)
+      unfolding actRefusals
+      copy-others h r e = e ∙ copy-first c start len ∙ rw (eq-eqb _ _ mode, eq-eqb _ _ h)
 
   -- ---- by the number of the act
   module _ (file list : List ℕ) (at n : ℕ) where
@@ -153,8 +150,8 @@ module _ (start len : ℕ) where
     refusal-copy e r c is h = h ∙ ap (λ (x : CopyFields). actRefusal start len (copyAct x)) is ∙ rw e
 
     pub refusal-load : n ≡ 0x34 → (r : ℕ) (l : LoadFields) → l ≡ loadAt file list at → r ≡ loadRefusal l start len → r ≡ refusal
-    unfolding actBy actRefusals loadRefusal
-    refusal-load e r l is h = h ∙ ap (λ (x : LoadFields). actRefusal start len (loading x)) is ∙ rw e
+    unfolding actBy actRefusals
+    refusal-load e r l is h = h ∙ load-first l start len ∙ ap (λ (x : LoadFields). actRefusal start len (loading x)) is ∙ rw e
 
     module _ (not-fill : n ≡ 0x36 → ⊥) (not-copy : n ≡ 0x24 → ⊥) (not-load : n ≡ 0x34 → ⊥) where
       pub refusal-17 : eqb n 0x30 || eqb n 0x33 ≡ true → 17 ≡ refusal
@@ -182,7 +179,7 @@ module _ (start len : ℕ) where
       by false h = never 10 (omega arith) h
 
   copy-clear : (c : CopyFields) → actRefusal start len (copyAct c) ≡ 0 → (eqb (c .«cycle_type») 2 ≡ true) × (copyRefusal c start len ≡ 0)
-  unfolding actRefusals copyRefusal
+  unfolding actRefusals
   copy-clear c e = by (eqb (c .«cycle_type») 2) e
     where
       aligned : (b : Bool) (x : ℕ) → cond b 11 x ≡ 0 → x ≡ 0
@@ -190,7 +187,7 @@ module _ (start len : ℕ) where
       aligned false x h = h
 
       by : (b : Bool) → actRefusal start len (cond b (copying c) (otherDraw (c .image))) ≡ 0 → (b ≡ true) × (copyRefusal c start len ≡ 0)
-      by true h = (refl, aligned (misaligned (c .image)) (copyRefusal c start len) h)
+      by true h = (refl, copy-first c start len ∙ aligned (misaligned (c .image)) (firstOf (copyRefusals c start len) 0) h)
       by false h = never 10 (omega arith) h
 
 -- what an act that is not refused leaves, by its number
@@ -203,14 +200,12 @@ module _ (start : ℕ) (memory texture file list : List ℕ) (at n : ℕ) (clear
     unfolding actBy
     fill-parts = fill-clear start (length memory) f (ap (λ (x : FillFields). actRefusal start (length memory) (fillAct x)) is ∙ rw e at clear)
 
-    pub fill-inside : outside f start (length memory) ≡ false
-    fill-inside = fill-parts .1
-
-    pub fill-left : (m : List ℕ) → m ≡ painted f start memory → memories m texture ≡ left
+    pub fill-left : (m : List ℕ) → m ≡ fillMemory f start memory → memories m texture ≡ left
     unfolding actBy
     fill-left m h =
         let mode : eqb (fillAt file list at .«cycle_type») 3 ≡ true = rw is at (fill-parts .0) in
-        ap (λ (x : List ℕ). memories x texture) (h ∙ ap (λ (x : FillFields). painted x start memory) is) ∙ rw (e, mode)
+        let whole : m ≡ painted f start memory = h ∙ ap (λ (b : Bool). cond b memory (painted f start memory)) (fill-parts .1) in
+        ap (λ (x : List ℕ). memories x texture) (whole ∙ ap (λ (x : FillFields). painted x start memory) is) ∙ rw (e, mode)
 
   module _ (size : length texture ≡ 4096) where
     module _ (e : n ≡ 0x24) (c : CopyFields) (is : c ≡ copyAt file list at) where
@@ -235,11 +230,11 @@ module _ (start : ℕ) (memory texture file list : List ℕ) (at n : ℕ) (clear
           other f false t = never 10 (omega arith) (rw (ne-eqb _ _ not-fill, ne-eqb _ _ not-copy, f, t) at clear)
 
       pub load-left : (t : List ℕ) → t ≡ loadTexture l start memory texture → memories memory t ≡ left
-      unfolding actBy actRefusals loadRefusal
+      unfolding actBy actRefusals
       load-left t h =
           ap (memories memory)
           (h ∙ ap (λ (x : LoadFields). loadTexture x start memory texture) is ∙
-          load-leaves start memory texture size (loadAt file list at) (rw is-load at clear)) ∙
+          load-leaves start memory texture size (loadAt file list at) (load-first (loadAt file list at) start (length memory) ∙ rw is-load at clear)) ∙
           rw is-load
 
 -- the acts after the first

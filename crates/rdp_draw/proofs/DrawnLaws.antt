@@ -16,7 +16,7 @@ use Rattle.rdp_check.specs.Refusals as check
 use Rattle.rdp_check.proofs.OrderLaws.{found, among-left, among-right, among-parts, among-placed, placed-among, answered}
 use Rattle.rdp_check.proofs.FirstLaws.{check-numbered, to-order, from-order, no-zero}
 use Rattle.rdp_texels.proofs.ActLaws.{never}
-use Rattle.rdp_draw.specs.Draw.{Placed, actsOf, actRefusals, actGrounds, textureGround, groundsOf, drawAnswer}
+use Rattle.rdp_draw.specs.Draw.{Placed, actsOf, actRefusals, actGrounds, textureGround, drawGrounds, drawAnswer}
 use Rattle.rdp_draw.specs.Refusals.{Holds, atCheck, atTexture, atAct, FirstRefusal}
 use Rattle.rdp_draw.proofs.DrawLaws.{act-numbered}
 
@@ -71,7 +71,7 @@ module _ (list : List ℕ) (start len size : ℕ) where
   abbrev ofOthers : List (Ground Answer)
   ofOthers = textureGround size ∷ ofActs
 
-  to-all : (n p : ℕ) → Holds list start len size n p → Among (answer n p) (groundsOf list start len size)
+  to-all : (n p : ℕ) → Holds list start len size n p → Among (answer n p) (drawGrounds list start len size)
   to-all n p (atCheck m q h) = among-left (answer m q) ofCheck ofOthers (to-order checkRefusals list 4096 m q h)
   to-all n p (atTexture h) = among-right (answer 16 0) ofCheck ofOthers (inl (rw (ne-eqb _ _ h) tt, refl))
   to-all n p (atAct before d after m split r) =
@@ -89,7 +89,7 @@ module _ (list : List ℕ) (start len size : ℕ) where
       let r = from-acts start len (actsOf list) n p b in
       subst (Holds list start len size n) (r .place) (atAct (r .before) (r .d) (r .after) n (r .split) (r .refuses))
 
-  from-all : (n p : ℕ) → Among (answer n p) (groundsOf list start len size) → Holds list start len size n p
+  from-all : (n p : ℕ) → Among (answer n p) (drawGrounds list start len size) → Holds list start len size n p
   from-all n p m = ⊎-elim (from-check n p) (λ b. ⊎-elim (from-texture n p) (from-others n p) b) (among-parts (answer n p) ofCheck ofOthers m)
 
   not-zero : (n p : ℕ) → Holds list start len size n p → n ≡ 0 → ⊥
@@ -101,5 +101,5 @@ module _ (list : List ℕ) (start len size : ℕ) where
   pub draw-first : FirstRefusal list start len size (drawAnswer list start len size)
   unfolding drawAnswer
   draw-first =
-      answered (Holds list start len size) (groundsOf list start len size) (length list / 8) to-all from-all (λ p h. not-zero 0 p h refl) _
-      (found (groundsOf list start len size) _)
+      answered (Holds list start len size) (drawGrounds list start len size) (length list / 8) to-all from-all (λ p h. not-zero 0 p h refl) _
+      (found (drawGrounds list start len size) _)

@@ -2,12 +2,5 @@ pub mod SeenLaws
 pub mod DrawLaws
 pub mod DrawnLaws
 pub mod CopyLaws
-pub mod PixelLaws
-pub mod InsideLaws
-pub mod AreaLaws
 pub mod ByteLaws
-pub mod ColorLaws
-pub mod PatternLaws
-pub mod RunLaws
-pub mod WidthLaws
 pub mod BoundLaws

@@ -28,7 +28,7 @@ use Rattle.rdp_check.specs.declared.Registers.{Registers}
 use Rattle.rdp_texels.specs.Texels.{some, outsideMemory, outsideTexture, loaded, copied}
 use Rattle.rdp_texels.specs.Load.{loadNeeds, loadMoves}
 use Rattle.rdp_texels.specs.Copy.{copyNeeds, copyMoves}
-use Rattle.rdp_draw.specs.Fill.{outside, painted}
+use Rattle.rdp_fill.specs.Fill.{outside, painted}
 
 -- ---- the acts of a list
 
@@ -219,12 +219,12 @@ textureGround size = ground (answer 16 0) (not (eqb size 4096))
 
 -- the refusals of drawing in their order: "drawing runs the whole check, then walks again". Memory has `len` bytes from address `start` on, texture memory
 -- `size`
-abbrev pub groundsOf : List ℕ → ℕ → ℕ → ℕ → List (Ground Answer)
-groundsOf list start len size = check.groundsOf 4096 checkRefusals list ++ textureGround size ∷ actGrounds start len (actsOf list)
+abbrev pub drawGrounds : List ℕ → ℕ → ℕ → ℕ → List (Ground Answer)
+drawGrounds list start len size = check.groundsOf 4096 checkRefusals list ++ textureGround size ∷ actGrounds start len (actsOf list)
 
 -- what drawing answers: the first that holds; 0 at the number of words where none does
 unfoldable pub drawAnswer : List ℕ → ℕ → ℕ → ℕ → Answer
-drawAnswer list start len size = firstOf (groundsOf list start len size) (answer 0 (length list / 8))
+drawAnswer list start len size = firstOf (drawGrounds list start len size) (answer 0 (length list / 8))
 
 -- ---- what it leaves in memory and texture memory
 

@@ -7,7 +7,7 @@ use Rattle.rdp_command.specs.declared.Answer.{Answer}
 use Rattle.rdp_check.specs.Order.{Among, IsFirst}
 use Rattle.rdp_check.specs.Check.{checkRefusals}
 use Rattle.rdp_check.specs.Refusals as check
-use Rattle.rdp_draw.specs.Draw.{Placed, actsOf, actRefusals, groundsOf}
+use Rattle.rdp_draw.specs.Draw.{Placed, actsOf, actRefusals, drawGrounds}
 
 -- a refusal of a list, and its place
 pub data Holds (list : List ℕ) (start len size : ℕ) : ℕ → ℕ → Type 0 where
@@ -22,4 +22,4 @@ pub data Holds (list : List ℕ) (start len size : ℕ) : ℕ → ℕ → Type 0
 
 -- an answer that accepts exactly where no refusal holds, and is else the first that holds, at its place
 abbrev pub FirstRefusal : List ℕ → ℕ → ℕ → ℕ → Answer → Type 0
-FirstRefusal list start len size r = IsFirst (Holds list start len size) (groundsOf list start len size) (length list / 8) (r .number) (r .place)
+FirstRefusal list start len size r = IsFirst (Holds list start len size) (drawGrounds list start len size) (length list / 8) (r .number) (r .place)

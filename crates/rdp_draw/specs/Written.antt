@@ -8,7 +8,7 @@ use Rattle.rdp_texels.specs.Texels.{some}
 use Rattle.rdp_texels.specs.Load.{loadMoves}
 use Rattle.rdp_texels.specs.Copy.{copyMoves}
 use Rattle.rdp_texels.specs.Written.{goesTo, standsAt}
-use Rattle.rdp_draw.specs.Fill.{covers}
+use Rattle.rdp_fill.specs.Fill.{covers}
 use Rattle.rdp_draw.specs.Draw.{Act, nothing, otherDraw, otherLoad, filling, copying, loading, Placed, actsOf}
 
 -- an act writes the byte of memory at an address: a kept pixel has it

@@ -6,7 +6,6 @@ ghost use lib.ListN.{length};
 ghost use Rattle.rdp_check.specs.Commands.{restOf};
 ghost use Rattle.rdp_draw.specs.Draw.{actsOf, memories, acted, actedAll};
 ghost use Rattle.rdp_draw.specs.Seen.{actWith, actRefusal, firstRefusal};
-use crate::painting;
 use crate::walk;
 use walk::Reached;
 
@@ -24,7 +23,7 @@ fn act(
     ensures { λ _. ⌜ memories (now (memory .exit)) (now (texture .exit)) ≡ acted start (actWith (now (file .entry)) (now (list .entry)) (at .place) (at .number)) (memories (now (memory .entry)) (now (texture .entry))) ⌝ }
 {
     if at.number == 0x36 {
-        painting::paint_fill(memory, start, walk::fill_at(list, at.place, file));
+        rdp_fill::paint(memory, start, walk::fill_at(list, at.place, file));
         return;
     }
     if at.number == 0x24 {

@@ -4,21 +4,10 @@ ghost use lib.ListN.{length};
 ghost use Rattle.rdp_draw.specs.Draw.{drawAnswer, drawn, memories};
 
 mod acting;
-mod areas;
-mod painting;
 mod refusals;
-mod run;
 mod walk;
 
 use rdp_command::Answer;
-
-// The bytes of the kept pixels of a fill: `rows` runs of `size` bytes each, the first at the address `first`, each next one `stride` bytes on.
-pub struct Area {
-    pub first: u64,
-    pub size: u64,
-    pub stride: u64,
-    pub rows: u64,
-}
 
 // Draws a list into memory that starts at address `start`, with texture memory: the refusals 1 to 9 of the check, then 16, then 10, 11, 17, 12 and 18 of its
 // acts, and only then the acts. Answers 0 at the number of words where none holds. A refusal leaves every byte of memory and texture memory as it was.

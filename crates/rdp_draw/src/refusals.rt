@@ -6,7 +6,6 @@ ghost use lib.ListN.{length};
 ghost use Rattle.rdp_check.specs.Commands.{restOf};
 ghost use Rattle.rdp_draw.specs.Draw.{actsOf, fillAct, copyAct};
 ghost use Rattle.rdp_draw.specs.Seen.{actWith, actRefusal, firstRefusal};
-use crate::areas;
 use crate::walk;
 use rdp_command::Answer;
 use rdp_command::CopyFields;
@@ -23,8 +22,7 @@ fn fill_refusal(fill: FillFields, start: u64, len: usize) -> u32
     if fill.image.address % 64 != 0 {
         return 11;
     }
-    let area = areas::area_of(fill);
-    if areas::is_inside(area, start, len) {
+    if rdp_fill::is_inside(fill, start, len) {
         return 0;
     }
     12

@@ -18,7 +18,8 @@ use Rattle.rdp_repair.specs.Repair.{repairOf, outAfter, workAfter}
 use Rattle.rdp_repair.specs.Afresh.{others, without}
 use Rattle.rdp_pixels.specs.Overlay.{overlay}
 use Rattle.rdp_texels.specs.Load.{loadNeeds}
-use Rattle.rdp_draw.specs.Fill.{colorByte, bytesPerPixel, pixelAddress, oneOf, someByte}
+use Rattle.rdp_pixels.specs.Range.{oneOf}
+use Rattle.rdp_fill.specs.Fill.{colorByte, bytesPerPixel, pixelAddress, someByte}
 use Rattle.rdp_pixels.specs.Kept.{lineKept, kept}
 use Rattle.rdp_draw.specs.Draw.{actOf, actsFrom, actRefusals, actGrounds, drawAnswer, actedAll, drawn}
 use Rattle.rdp_examples.specs.Examples.{examples, allRight}

@@ -39,6 +39,10 @@ module _ (s : Scissor) (y : ℕ) where
   unfolding keptFrom
   from-near = by-test (rowKept s y) (λ e. rw e (omega arith, omega arith)) (λ e. rw e (omega arith, omega arith))
 
+  pub from-itself : rowKept s y ≡ true → keptFrom (s .«field») (s .odd) y ≡ y
+  unfolding keptFrom
+  from-itself e = rw e
+
   pub from-kept : rowKept s (keptFrom (s .«field») (s .odd) y) ≡ true
   unfolding keptFrom
   from-kept = by-test (rowKept s y) (λ e. rw e e) (λ e. rw e (row-kept-next s y e))

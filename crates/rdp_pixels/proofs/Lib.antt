@@ -1,3 +1,4 @@
 pub mod BoolLaws
 pub mod OverlayLaws
+pub mod RangeLaws
 pub mod KeptLaws

@@ -3,7 +3,7 @@ use mathlib.Core.Path.{_≡_, refl, sym, ap, _∙_}
 use mathlib.Core.Bool.{Bool, true, false, cond, _||_, or-false, false≢true}
 use mathlib.Core.List.{List, [], _∷_}
 use Prim.Native.Nat.{ℕ, zero, suc, _+_, _≤_, _<_}
-use native.Mathlib.Nat.{zero-add, add-zero, add-suc, suc-add, le-of-suc-le-suc, not-suc-le-zero, lt-of-not-le}
+use native.Mathlib.Nat.{le-refl, zero-add, add-zero, add-suc, suc-add, le-of-suc-le-suc, not-suc-le-zero, lt-of-not-le}
 use native.Mathlib.Decide.{decLe}
 use native.Mathlib.Omega.{arith}
 use borrow.Author.Tests.{le-leb, lt-ltb, leb-true, ltb-true}
@@ -40,16 +40,21 @@ within-same first end first′ end′ a there back =
     (λ h. let in′ = there (within-is first end a h .0) (within-is first end a h .1) in within-true first′ end′ a (in′ .0) (in′ .1))
     (λ h. let in′ = back (within-is first′ end′ a h .0) (within-is first′ end′ a h .1) in within-true first end a (in′ .0) (in′ .1))
 
--- two ranges, the second where the first ends, are one
-pub within-joined : (first mid end a : ℕ) → first ≤ mid → mid ≤ end → (within first mid a || within mid end a) ≡ within first end a
-within-joined first mid end a l h =
+-- two ranges, the second of which begins in the first or where it ends, are one
+pub within-meeting : (first low mid end a : ℕ) → first ≤ low → low ≤ mid → mid ≤ end → (within first mid a || within low end a) ≡ within first end a
+within-meeting first low mid end a l h k =
     split mid a
     (λ x.
     rw (within-false first mid a (λ y z. omega arith))
-    (within-same mid end first end a (λ y z. (omega arith, z)) (λ y z. (x, z))))
+    (within-same low end first end a (λ y z. (omega arith, z)) (λ y z. (omega arith, z))))
     (λ x.
-    rw (within-false mid end a (λ y z. omega arith), or-false)
-    (within-same first mid first end a (λ y z. (y, omega arith)) (λ y z. (y, x))))
+    split first a
+    (λ y. rw (within-true first mid a y x, within-true first end a y (omega arith)))
+    (λ y. rw (within-false first mid a (λ z w. omega arith), within-false low end a (λ z w. omega arith), within-false first end a (λ z w. omega arith))))
+
+-- the second where the first ends
+pub within-joined : (first mid end a : ℕ) → first ≤ mid → mid ≤ end → (within first mid a || within mid end a) ≡ within first end a
+within-joined first mid end a l h = within-meeting first mid mid end a l (le-refl mid) h
 
 -- ---- overlay
 
@@ -122,12 +127,12 @@ overlay-overlay p q v a m =
     twice false true x y = refl
     twice false false x y = refl
 
--- two ranges, the second where the first ends, are one
-pub overlay-adjacent : (first mid end : ℕ) (v : ℕ → ℕ) (a : ℕ) (m : List ℕ) → first ≤ mid → mid ≤ end
-    → overlay (within mid end) v a (overlay (within first mid) v a m) ≡ overlay (within first end) v a m
-overlay-adjacent first mid end v a m l h =
-    overlay-overlay (within first mid) (within mid end) v a m
-    ∙ overlay-cong (λ k. within first mid k || within mid end k) (within first end) v a m (λ i _. within-joined first mid end (a + i) l h)
+-- two ranges that meet are one
+pub overlay-meeting : (first low mid end : ℕ) (v : ℕ → ℕ) (a : ℕ) (m : List ℕ) → first ≤ low → low ≤ mid → mid ≤ end
+    → overlay (within low end) v a (overlay (within first mid) v a m) ≡ overlay (within first end) v a m
+overlay-meeting first low mid end v a m l h k =
+    overlay-overlay (within first mid) (within low end) v a m
+    ∙ overlay-cong (λ i. within first mid i || within low end i) (within first end) v a m (λ i _. within-meeting first low mid end (a + i) l h k)
 
 -- ---- a range of memory that starts at 0, which grows at its end by one byte
 

@@ -1,2 +1,3 @@
 pub mod Overlay
+pub mod Range
 pub mod Kept

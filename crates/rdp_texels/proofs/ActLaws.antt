@@ -10,12 +10,13 @@ use lib.ListN.{length}
 use Rattle.rdp_pixels.specs.Kept.{rowKept}
 use Rattle.rdp_command.specs.declared.LoadFields.{LoadFields}
 use Rattle.rdp_command.specs.declared.CopyFields.{CopyFields}
+use Rattle.rdp_check.specs.Order.{firstOf}
 use Rattle.rdp_texels.specs.declared.Grid.{Grid}
 use Rattle.rdp_texels.specs.declared.Span.{Span}
 use Rattle.rdp_texels.specs.Texels.{Move, loaded, copied}
 use Rattle.rdp_texels.specs.Load.{loadNeeds, loadMoves}
 use Rattle.rdp_texels.specs.Copy.{copyNeeds, copyMoves}
-use Rattle.rdp_texels.specs.Refusals.{loadRefusal, copyRefusal, sized, loadTexture, copyMemory}
+use Rattle.rdp_texels.specs.Refusals.{loadRefusals, copyRefusals, loadRefusal, copyRefusal, sized, loadTexture, copyMemory}
 use Rattle.rdp_texels.specs.Rows.{keptMoves, loadGrid, loadSpan, copyGrid, copySpan, lies, spanSome, cornersRefusal, EvenGrid, SmallGrid, SmallSpan, Ready}
 use Rattle.rdp_texels.proofs.CornerLaws.{texelRefusal, Ends, corners-refusal, grid-none, span-some}
 use Rattle.rdp_texels.proofs.LinkLaws.{load-moves, load-ends, load-even, copy-moves, copy-ends, copy-even}
@@ -48,6 +49,15 @@ module _ (keeps : ℕ → Bool) (g : Grid) (q : Span) (ms : List Move) (link : m
 
   moves-none : {q′ : Span} → q′ ≡ q → spanSome q′ ≡ false → ms ≡ []
   moves-none h none = link ∙ grid-none keeps g q (rw h at none)
+
+-- the answers are the first that holds of the refusals in order
+pub load-first : (l : LoadFields) (start len : ℕ) → loadRefusal l start len ≡ firstOf (loadRefusals l start len) 0
+unfolding loadRefusal
+load-first l start len = refl
+
+pub copy-first : (c : CopyFields) (start len : ℕ) → copyRefusal c start len ≡ firstOf (copyRefusals c start len) 0
+unfolding copyRefusal
+copy-first c start len = refl
 
 -- 17, else the others
 when-needs : (b : Bool) (x : ℕ) → cond (not b) 17 x ≡ 0 → x ≡ 0

@@ -16,7 +16,7 @@ use Rattle.rdp_texels.specs.declared.Span.{Span}
 use Rattle.rdp_texels.specs.Texels.{Move, some, inRow, outsideMemory, outsideTexture}
 use Rattle.rdp_texels.specs.Rows.{gridAddress, gridAhead, gridOdd, gridMove, rowMoves, keptMoves, lies, spanSome, cornersRefusal, EvenGrid}
 use Rattle.rdp_texels.proofs.TurnLaws.{row-next, row-below, row-below-is}
-use Rattle.rdp_texels.proofs.SpanLaws.{each-none, some-each-is, some-each-true}
+use Rattle.rdp_texels.proofs.SpanLaws.{over-none, some-over-is, some-over-true}
 
 pub span-some : (q : Span) → spanSome q ≡ true → (q .left < q .right) × (q .top < q .bottom)
 span-some q e =
@@ -55,11 +55,11 @@ module _ (keeps : ℕ → Bool) (g : Grid) (q : Span) where
         → (y x : ℕ) × (q .top ≤ y) × (y < q .bottom) × (q .left ≤ x) × (x < q .right) × (test (gridMove g y x) ≡ true)
     unfolding rowMoves some
     grid-some-is e =
-        let row = some-each-is test rowOf (q .top) (q .bottom - q .top) e in
+        let row = some-over-is test rowOf (q .top) (q .bottom - q .top) e in
         let y : ℕ = row .0 in
         by-test (keeps y)
         (λ h.
-        let column = some-each-is test (λ x. gridMove g y x ∷ []) (q .left) (q .right - q .left) (rw h at (row .3)) in
+        let column = some-over-is test (λ x. gridMove g y x ∷ []) (q .left) (q .right - q .left) (rw h at (row .3)) in
         let x : ℕ = column .0 in
         (y, x, row .1, omega arith, column .1, omega arith, sym (or-false (test (gridMove g y x))) ∙ column .3))
         (λ h. absurd (false≢true (rw h at (row .3))))
@@ -68,9 +68,9 @@ module _ (keeps : ℕ → Bool) (g : Grid) (q : Span) where
         → some test (keptMoves keeps g q (q .top)) ≡ true
     unfolding rowMoves some
     grid-some-true y x t b k l r e =
-        some-each-true test rowOf (q .top) (q .bottom - q .top) y t (omega arith)
+        some-over-true test rowOf (q .top) (q .bottom - q .top) y t (omega arith)
         (rw k
-        (some-each-true test (λ x. gridMove g y x ∷ []) (q .left) (q .right - q .left) x l (omega arith)
+        (some-over-true test (λ x. gridMove g y x ∷ []) (q .left) (q .right - q .left) x l (omega arith)
         (or-false (test (gridMove g y x)) ∙ e)))
 
   -- no move where there is no row or no column
@@ -78,10 +78,10 @@ module _ (keeps : ℕ → Bool) (g : Grid) (q : Span) where
   unfolding rowMoves
   grid-none e =
       split (q .right) (q .left)
-      (λ h. each-none rowOf (q .top) (q .bottom - q .top)
-      (λ y l u. by-test (keeps y) (λ k. rw k (each-none (λ x. gridMove g y x ∷ []) (q .left) (q .right - q .left) (λ x l′ u′. absurd (omega arith))))
+      (λ h. over-none rowOf (q .top) (q .bottom - q .top)
+      (λ y l u. by-test (keeps y) (λ k. rw k (over-none (λ x. gridMove g y x ∷ []) (q .left) (q .right - q .left) (λ x l′ u′. absurd (omega arith))))
       (λ k. rw k)))
-      (λ h. split (q .bottom) (q .top) (λ k. each-none rowOf (q .top) (q .bottom - q .top) (λ y l u. absurd (omega arith)))
+      (λ h. split (q .bottom) (q .top) (λ k. over-none rowOf (q .top) (q .bottom - q .top) (λ y l u. absurd (omega arith)))
       (λ k. absurd (false≢true (sym e ∙ and-true-of (ltb (q .left) (q .right)) (ltb (q .top) (q .bottom)) (lt-ltb (q .left) (q .right) h)
       (lt-ltb (q .top) (q .bottom) k)))))
 

@@ -8,7 +8,7 @@ use lib.ListN.{replicate}
 use Rattle.rdp_command.specs.declared.TileDescriptor.{TileDescriptor}
 use Rattle.rdp_command.specs.declared.LoadFields.{LoadFields}
 use Rattle.rdp_command.specs.declared.CopyFields.{CopyFields}
-use Rattle.rdp_texels.specs.Texels.{turned, some, each, loaded, copied}
+use Rattle.rdp_texels.specs.Texels.{turned, some, movesOver, loaded, copied}
 use Rattle.rdp_texels.specs.Load.{loadNeeds, loadMoves}
 use Rattle.rdp_texels.specs.Copy.{stepNeeds, copyNeeds, copyMoves}
 use Rattle.rdp_texels.specs.Refusals.{loadRefusal, copyRefusal}
@@ -53,16 +53,16 @@ turnedBytes = 0 ∷ 1 ∷ 2 ∷ 3 ∷ 4 ∷ 5 ∷ 6 ∷ 7 ∷ 12 ∷ 13 ∷ 14 �
 
 -- row 1 has its halves exchanged in texture memory
 loads-turned : loaded 100 bytes (loadMoves load) (replicate 16 0) ≡ turnedBytes
-unfolding load bytes turnedBytes loaded loadMoves each turned
+unfolding load bytes turnedBytes loaded loadMoves movesOver turned
 loads-turned = refl
 
 -- all 16 bytes are needed
 loads-whole : loadRefusal load 100 16 ≡ 0
-unfolding load loadRefusal loadNeeds loadMoves each some turned
+unfolding load loadRefusal loadNeeds loadMoves movesOver some turned
 loads-whole = refl
 
 loads-short : loadRefusal load 100 15 ≡ 12
-unfolding load loadRefusal loadNeeds loadMoves each some turned
+unfolding load loadRefusal loadNeeds loadMoves movesOver some turned
 loads-short = refl
 
 -- a rectangle of four by two pixels on an image of width 4 at address 0, with texture coordinate t
@@ -89,17 +89,17 @@ copy t tmem =
 
 -- what was loaded comes back
 copies-back : copied 0 turnedBytes (copyMoves (copy (pos 0) 0)) (replicate 16 0) ≡ bytes
-unfolding copy bytes turnedBytes copied copyMoves each turned kept lineKept
+unfolding copy bytes turnedBytes copied copyMoves movesOver turned kept lineKept
 copies-back = refl
 
 -- rows -1 and 0 of a tile that begins at byte 8: row -1 is odd, and stands at byte 0; with the tile at byte 0 it is below 0
 copies-above : copied 0 turnedBytes (copyMoves (copy (negsuc 31) 1)) (replicate 16 0)
     ≡ 4 ∷ 5 ∷ 6 ∷ 7 ∷ 0 ∷ 1 ∷ 2 ∷ 3 ∷ 12 ∷ 13 ∷ 14 ∷ 15 ∷ 8 ∷ 9 ∷ 10 ∷ 11 ∷ []
-unfolding copy turnedBytes copied copyMoves each turned kept lineKept
+unfolding copy turnedBytes copied copyMoves movesOver turned kept lineKept
 copies-above = refl
 
 copies-below-0 : copyRefusal (copy (negsuc 31) 0) 0 16 ≡ 18
-unfolding copy copyRefusal copyNeeds stepNeeds copyMoves each some turned kept lineKept
+unfolding copy copyRefusal copyNeeds stepNeeds copyMoves movesOver some turned kept lineKept
 copies-below-0 = refl
 
 -- half a texel is no whole one

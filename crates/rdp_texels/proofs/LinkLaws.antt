@@ -1,6 +1,6 @@
 -- The moves of a load and of a copy rectangle are those of a grid. Assumes nothing.
 use mathlib.Core.Path.{_≡_, refl, sym, ap, _∙_}
-use mathlib.Core.Bool.{Bool, true, cond, false≢true}
+use mathlib.Core.Bool.{Bool, true, cond, _&&_, false≢true}
 use mathlib.Core.List.{List, [], _∷_}
 use Prim.Native.Nat.{ℕ, suc, _+_, _-_, _*_, _/_, _%_, _≤_, _<_}
 use native.Mathlib.Nat.{mul-comm, mul-assoc, mul-add, mul-zero, add-mul}
@@ -9,16 +9,18 @@ use native.Mathlib.Omega.{arith}
 use lib.Dec.{eqb}
 use Rattle.rdp_command.specs.declared.Scissor.{Scissor}
 use Rattle.rdp_words.proofs.Tests.{by-test}
+use Rattle.rdp_pixels.specs.Range.{oneThrough}
 use Rattle.rdp_pixels.specs.Kept.{kept, lineKept, rowKept}
 use Rattle.rdp_pixels.specs.Kept.{firstKept, endKept}
+use Rattle.rdp_pixels.proofs.RangeLaws.{one-cong}
 use Rattle.rdp_pixels.proofs.KeptLaws.{row-kept-next, from-near, from-kept, from-least, kept-is, kept-true}
 use Rattle.rdp_command.specs.declared.LoadFields.{LoadFields}
 use Rattle.rdp_command.specs.declared.CopyFields.{CopyFields}
-use Rattle.rdp_texels.specs.Texels.{Move, aheadOf, each, texelAddress}
+use Rattle.rdp_texels.specs.Texels.{Move, aheadOf, some, movesOver, texelAddress}
 use Rattle.rdp_texels.specs.Load.{loadMove, loadMoves}
 use Rattle.rdp_texels.specs.Copy.{copyMove, copyMoves}
 use Rattle.rdp_texels.specs.Rows.{gridMove, rowMoves, keptMoves, loadGrid, loadSpan, copyGrid, copySpan, bottomFrom, rowsUp, EvenGrid}
-use Rattle.rdp_texels.proofs.SpanLaws.{each-none, each-cong, each-trim}
+use Rattle.rdp_texels.proofs.SpanLaws.{over-none, over-cong, over-trim, some-nothing, some-single, some-over}
 use Rattle.rdp_texels.proofs.CornerLaws.{Ends}
 
 -- ---- numbers
@@ -53,8 +55,8 @@ module _ (l : LoadFields) where
   load-moves =
       let q = loadSpan l in
       rw (add-one (l .area .«lower_right» .t / 4), add-one (l .area .«lower_right» .s / 4))
-      (each-cong _ _ (q .top) (suc (l .area .«lower_right» .t / 4) - q .top)
-      (λ y _ _. each-cong (λ x. loadMove l y x ∷ []) (λ x. gridMove (loadGrid l) y x ∷ []) (q .left) (suc (l .area .«lower_right» .s / 4) - q .left)
+      (over-cong _ _ (q .top) (suc (l .area .«lower_right» .t / 4) - q .top)
+      (λ y _ _. over-cong (λ x. loadMove l y x ∷ []) (λ x. gridMove (loadGrid l) y x ∷ []) (q .left) (suc (l .area .«lower_right» .s / 4) - q .left)
       (λ x _ _. ap (λ (m : Move). m ∷ []) (load-move y x))))
 
   pub load-ends : Ends (λ _. true) (loadSpan l)
@@ -121,7 +123,7 @@ module _ (c : CopyFields) where
   pixel y x = cond (kept (c .scissor) x y) (copyMove c y x ∷ []) []
 
   abbrev row : ℕ → List Move
-  row y = each left (suc right - left) (pixel y)
+  row y = movesOver left (suc right - left) (pixel y)
 
   abbrev firstRow : ℕ
   firstRow = firstKept (c .rectangle .«upper_left» .y) (c .scissor .«upper_left» .y)
@@ -132,7 +134,7 @@ module _ (c : CopyFields) where
   -- a row of which no pixel is kept
   row-none : (y : ℕ) → top ≤ y → y ≤ bottom → (firstRow ≤ y → y < endRow → rowKept (c .scissor) y ≡ true → ⊥) → row y ≡ []
   row-none y t b out =
-      each-none (pixel y) left (suc right - left)
+      over-none (pixel y) left (suc right - left)
       (λ x _ _. by-test (kept (c .scissor) x y)
       (λ e. let k = kept-is (c .scissor) x y e in absurd (out (omega (arith, k .down)) (omega (arith, k .down)) (k .row)))
       (λ e. rw e))
@@ -142,12 +144,12 @@ module _ (c : CopyFields) where
   unfolding rowMoves copySpan
   row-full y t b e =
       let q = copySpan c in
-      each-trim (pixel y) left (suc right - left) (q .left) (q .right)
+      over-trim (pixel y) left (suc right - left) (q .left) (q .right)
       (λ x l r out. by-test (kept (c .scissor) x y)
       (λ h. let k = kept-is (c .scissor) x y h in absurd (out (omega (arith, k .across)) (omega (arith, k .across))))
       (λ h. rw h))
       (λ h. (omega arith, omega arith))
-      ∙ each-cong (pixel y) (λ x. gridMove (copyGrid c) y x ∷ []) (q .left) (q .right - q .left)
+      ∙ over-cong (pixel y) (λ x. gridMove (copyGrid c) y x ∷ []) (q .left) (q .right - q .left)
       (λ x l r.
       rw (kept-true (c .scissor) x y (record { across = (omega arith, omega arith); down = (omega arith, omega arith); row = e }))
       (ap (λ (m : Move). m ∷ []) (copy-move y x)))
@@ -168,11 +170,11 @@ module _ (c : CopyFields) where
       let q = copySpan c in
       let near = from-near (c .scissor) firstRow in
       let near′ = bottom-near (c .scissor) endRow in
-      each-trim row top (suc bottom - top) (q .top) (q .bottom)
+      over-trim row top (suc bottom - top) (q .top) (q .bottom)
       (λ y t b out. row-none y t (omega arith)
       (λ h h′ k. out (from-least (c .scissor) firstRow y h k) (bottom-greatest (c .scissor) endRow y h′ k)))
       (λ h. (omega arith, omega arith))
-      ∙ each-cong row (λ y. cond (rowKept (c .scissor) y) (rowMoves (copyGrid c) q y) []) (q .top) (q .bottom - q .top)
+      ∙ over-cong row (λ y. cond (rowKept (c .scissor) y) (rowMoves (copyGrid c) q y) []) (q .top) (q .bottom - q .top)
       (λ y t b. row-is y t (omega arith))
 
   pub copy-ends : Ends (rowKept (c .scissor)) (copySpan c)
@@ -182,3 +184,16 @@ module _ (c : CopyFields) where
   pub copy-even : EvenGrid (copyGrid c)
   unfolding copyGrid
   copy-even = record { ahead = omega arith; line = omega arith; behind = omega arith }
+
+  -- a test of the kept pixels' moves
+  pub some-copied :
+      (test : Move → Bool) →
+      some test (copyMoves c) ≡ oneThrough top bottom (λ y. oneThrough left right (λ x. kept (c .scissor) x y && test (copyMove c y x)))
+  unfolding copyMoves
+  some-copied test =
+      some-over test row top (suc bottom - top) ∙
+      one-cong _ _ top (suc bottom - top)
+      (λ y. some-over test (pixel y) left (suc right - left) ∙ one-cong _ _ left (suc right - left) (some-pixel y))
+    where
+      some-pixel : (y x : ℕ) → some test (pixel y x) ≡ (kept (c .scissor) x y && test (copyMove c y x))
+      some-pixel y x = by-test (kept (c .scissor) x y) (λ e. rw e (some-single test (copyMove c y x))) (λ e. rw e (some-nothing test))

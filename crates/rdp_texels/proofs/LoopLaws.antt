@@ -8,7 +8,7 @@ use native.Mathlib.Omega.{arith}
 use lib.ListN.{length}
 use Rattle.rdp_texels.specs.declared.Grid.{Grid}
 use Rattle.rdp_texels.specs.declared.Span.{Span}
-use Rattle.rdp_texels.specs.Texels.{Move, each, loaded, copied}
+use Rattle.rdp_texels.specs.Texels.{Move, movesOver, loaded, copied}
 use Rattle.rdp_texels.specs.Rows.{part, gridAddress, gridAhead, gridOdd, rowMoves, keptMoves, Ready}
 use Rattle.rdp_texels.proofs.RowLaws.{loaded-append, copied-append, copied-row, loaded-row}
 use Rattle.rdp_texels.proofs.GridLaws.{row-fits}
@@ -39,13 +39,13 @@ module _ {g : Grid} {q : Span} {start : ℕ} (texture memory : List ℕ) (r : Re
 
 module _ (keeps : ℕ → Bool) (g : Grid) (q : Span) where
   kept-step : (y : ℕ) → y < q .bottom → keptMoves keeps g q y ≡ cond (keeps y) (rowMoves g q y) [] ++ keptMoves keeps g q (y + 1)
-  unfolding each
+  unfolding movesOver
   kept-step y h =
       let count : q .bottom - y ≡ suc (q .bottom - (y + 1)) = omega arith in
       rw (count, add-one y)
 
   kept-end : (y : ℕ) → q .bottom ≤ y → keptMoves keeps g q y ≡ []
-  unfolding each
+  unfolding movesOver
   kept-end y h = let count : q .bottom - y ≡ 0 = omega arith in rw count
 
 pub record CopyDue (keeps : ℕ → Bool) (g : Grid) (q : Span) (start : ℕ) (texture before after : List ℕ) (y : ℕ) : Type 0 where

@@ -7,7 +7,7 @@ use native.Mathlib.Nat.{add-zero}
 use native.Mathlib.Omega.{arith}
 use lib.ListN.{length, getD, set}
 use Rattle.rdp_texels.specs.declared.Grid.{Grid}
-use Rattle.rdp_texels.specs.Texels.{Move, inRow, each, loadOne, loaded, copyOne, copied}
+use Rattle.rdp_texels.specs.Texels.{Move, inRow, movesOver, loadOne, loaded, copyOne, copied}
 use Rattle.rdp_texels.specs.Rows.{part, gridAddress, gridAhead, gridOdd, gridMove}
 use Rattle.rdp_texels.proofs.TurnLaws.{row-next, row-below}
 use Rattle.rdp_texels.proofs.PartLaws.{part-none, part-more}
@@ -69,22 +69,22 @@ module _ (start : ℕ) (g : Grid) (y x : ℕ) where
           (two-more false (gridOdd g y) inTexture inMemory texture memory j (omega arith) (texture-next j) (omega arith))
 
       copied-from : (m j : ℕ) → inMemory + 2 * (j + m) ≤ length memory
-          → copied start texture (each (x + j) m (λ x. gridMove g y x ∷ [])) (part false (gridOdd g y) inTexture inMemory 0 (2 * j) texture memory)
+          → copied start texture (movesOver (x + j) m (λ x. gridMove g y x ∷ [])) (part false (gridOdd g y) inTexture inMemory 0 (2 * j) texture memory)
           ≡ part false (gridOdd g y) inTexture inMemory 0 (2 * (j + m)) texture memory
-      unfolding copied each
+      unfolding copied movesOver
       copied-from zero j fits = rw add-zero
       copied-from (suc m) j fits =
           let count : suc j + m ≡ j + suc m = omega arith in
           let on : x + suc j ≡ suc (x + j) = omega arith in
-          ap (copied start texture (each (suc (x + j)) m (λ x. gridMove g y x ∷ []))) (copy-step j (omega arith))
+          ap (copied start texture (movesOver (suc (x + j)) m (λ x. gridMove g y x ∷ []))) (copy-step j (omega arith))
           ∙ rw (count, on) at (copied-from m (suc j) (omega arith))
 
       pub copied-row : (m : ℕ) → inMemory + 2 * m ≤ length memory
-          → copied start texture (each x m (λ x. gridMove g y x ∷ [])) memory
+          → copied start texture (movesOver x m (λ x. gridMove g y x ∷ [])) memory
           ≡ part false (gridOdd g y) inTexture inMemory 0 (2 * m) texture memory
       copied-row m fits =
           let e : 0 + m ≡ m = omega arith in
-          ap (copied start texture (each x m (λ x. gridMove g y x ∷ [])))
+          ap (copied start texture (movesOver x m (λ x. gridMove g y x ∷ [])))
           (part-none false (gridOdd g y) inTexture inMemory texture memory 0 0 (omega arith))
           ∙ rw (add-zero, e) at (copied-from m 0 (omega arith))
 
@@ -99,21 +99,21 @@ module _ (start : ℕ) (g : Grid) (y x : ℕ) where
             (two-more (gridOdd g y) false inMemory inTexture memory texture j next (omega arith) (omega arith))
 
         loaded-from : (m j : ℕ) → inTexture + 2 * (j + m) ≤ 4096
-            → loaded start memory (each (x + j) m (λ x. gridMove g y x ∷ [])) (part (gridOdd g y) false inMemory inTexture 0 (2 * j) memory texture)
+            → loaded start memory (movesOver (x + j) m (λ x. gridMove g y x ∷ [])) (part (gridOdd g y) false inMemory inTexture 0 (2 * j) memory texture)
             ≡ part (gridOdd g y) false inMemory inTexture 0 (2 * (j + m)) memory texture
-        unfolding loaded each
+        unfolding loaded movesOver
         loaded-from zero j fits = rw add-zero
         loaded-from (suc m) j fits =
             let count : suc j + m ≡ j + suc m = omega arith in
             let on : x + suc j ≡ suc (x + j) = omega arith in
-            ap (loaded start memory (each (suc (x + j)) m (λ x. gridMove g y x ∷ []))) (load-step j (omega arith))
+            ap (loaded start memory (movesOver (suc (x + j)) m (λ x. gridMove g y x ∷ []))) (load-step j (omega arith))
             ∙ rw (count, on) at (loaded-from m (suc j) (omega arith))
 
         pub loaded-row : (m : ℕ) → inTexture + 2 * m ≤ 4096
-            → loaded start memory (each x m (λ x. gridMove g y x ∷ [])) texture
+            → loaded start memory (movesOver x m (λ x. gridMove g y x ∷ [])) texture
             ≡ part (gridOdd g y) false inMemory inTexture 0 (2 * m) memory texture
         loaded-row m fits =
             let e : 0 + m ≡ m = omega arith in
-            ap (loaded start memory (each x m (λ x. gridMove g y x ∷ [])))
+            ap (loaded start memory (movesOver x m (λ x. gridMove g y x ∷ [])))
             (part-none (gridOdd g y) false inMemory inTexture memory texture 0 0 (omega arith))
             ∙ rw (add-zero, e) at (loaded-from m 0 (omega arith))

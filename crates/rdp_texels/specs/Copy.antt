@@ -9,7 +9,7 @@ use Rattle.rdp_command.specs.declared.TexelCorner.{TexelCorner}
 use Rattle.rdp_command.specs.declared.TileDescriptor.{TileDescriptor}
 use Rattle.rdp_command.specs.declared.CopyFields.{CopyFields}
 use Rattle.rdp_pixels.specs.Kept.{kept}
-use Rattle.rdp_texels.specs.Texels.{Move, aheadOf, behindOf, texel, texelAddress, eachThrough}
+use Rattle.rdp_texels.specs.Texels.{Move, aheadOf, behindOf, texel, texelAddress, movesThrough}
 use Rattle.rdp_texels.specs.Load.{rgba16}
 
 -- ---- "the rectangle needs"
@@ -56,5 +56,5 @@ copyMove c y x =
 unfoldable pub copyMoves : CopyFields → List Move
 copyMoves c =
     let r = c .rectangle in
-    eachThrough (r .«upper_left» .y / 4) (r .«lower_right» .y / 4)
-    (λ y. eachThrough (r .«upper_left» .x / 4) (r .«lower_right» .x / 4) (λ x. cond (kept (c .scissor) x y) (copyMove c y x ∷ []) []))
+    movesThrough (r .«upper_left» .y / 4) (r .«lower_right» .y / 4)
+    (λ y. movesThrough (r .«upper_left» .x / 4) (r .«lower_right» .x / 4) (λ x. cond (kept (c .scissor) x y) (copyMove c y x ∷ []) []))

@@ -4,7 +4,7 @@ use mathlib.Core.Bool.{Bool, _&&_}
 use mathlib.Core.List.{List, [], _∷_}
 use lib.Dec.{eqb}
 use Rattle.rdp_command.specs.declared.LoadFields.{LoadFields}
-use Rattle.rdp_texels.specs.Texels.{Move, texel, texelAddress, eachThrough}
+use Rattle.rdp_texels.specs.Texels.{Move, texel, texelAddress, movesThrough}
 
 -- the texel in column x and row y of the texture image. "A texel's source is texture image address + (row·width + column)·2"; "the texel in row r and column
 -- c of that block": in the block it stands in row y - top and column x - left
@@ -16,8 +16,8 @@ loadMove l y x =
 -- "the columns and rows from floor of upper left to floor of lower right, both included, none if an end is below its start"; "texels are taken row by row"
 unfoldable pub loadMoves : LoadFields → List Move
 loadMoves l =
-    eachThrough (l .area .«upper_left» .t / 4) (l .area .«lower_right» .t / 4)
-    (λ y. eachThrough (l .area .«upper_left» .s / 4) (l .area .«lower_right» .s / 4) (λ x. loadMove l y x ∷ []))
+    movesThrough (l .area .«upper_left» .t / 4) (l .area .«lower_right» .t / 4)
+    (λ y. movesThrough (l .area .«upper_left» .s / 4) (l .area .«lower_right» .s / 4) (λ x. loadMove l y x ∷ []))
 
 -- 16-bit RGBA: format 0, size 2
 abbrev pub rgba16 : ℕ → ℕ → Bool

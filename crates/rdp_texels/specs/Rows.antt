@@ -13,7 +13,7 @@ use Rattle.rdp_texels.specs.declared.Grid.{Grid}
 use Rattle.rdp_texels.specs.declared.Span.{Span}
 use Rattle.rdp_texels.specs.declared.Step.{Step}
 use Rattle.rdp_command.specs.declared.TextureStep.{TextureStep}
-use Rattle.rdp_texels.specs.Texels.{Move, aheadOf, behindOf, inRow, each}
+use Rattle.rdp_texels.specs.Texels.{Move, aheadOf, behindOf, inRow, movesOver}
 
 -- ---- a part of a row
 
@@ -37,11 +37,11 @@ abbrev pub gridMove : Grid → ℕ → ℕ → Move
 gridMove g y x = record { address = gridAddress g y x; ahead = gridAhead g y x; behind = g .behind; odd = gridOdd g y }
 
 unfoldable pub rowMoves : Grid → Span → ℕ → List Move
-rowMoves g q y = each (q .left) (q .right - q .left) (λ x. gridMove g y x ∷ [])
+rowMoves g q y = movesOver (q .left) (q .right - q .left) (λ x. gridMove g y x ∷ [])
 
 -- the rows of a span that a test keeps, from row y on
 abbrev pub keptMoves : (ℕ → Bool) → Grid → Span → ℕ → List Move
-keptMoves keeps g q y = each y (q .bottom - y) (λ y. cond (keeps y) (rowMoves g q y) [])
+keptMoves keeps g q y = movesOver y (q .bottom - y) (λ y. cond (keeps y) (rowMoves g q y) [])
 
 -- the grid of an image at an address, with a tile's texels from row `down` less `up` and column `right` less `left` on
 abbrev pub gridOf : ℕ → ℕ → ℕ → ℕ → ℕ → ℕ → ℕ → ℕ → Grid

@@ -86,10 +86,10 @@ copied start texture (m ∷ ms) memory = copied start texture ms (copyOne start 
 -- ---- moves row by row
 
 -- the moves of n numbers from k on, in order
-unfoldable pub each : ℕ → ℕ → (ℕ → List Move) → List Move
-each k zero f = []
-each k (suc n) f = f k ++ each (suc k) n f
+unfoldable pub movesOver : ℕ → ℕ → (ℕ → List Move) → List Move
+movesOver k zero f = []
+movesOver k (suc n) f = f k ++ movesOver (suc k) n f
 
 -- from the first to the last, both included; none where the last is below the first
-abbrev pub eachThrough : ℕ → ℕ → (ℕ → List Move) → List Move
-eachThrough first last f = each first (suc last - first) f
+abbrev pub movesThrough : ℕ → ℕ → (ℕ → List Move) → List Move
+movesThrough first last f = movesOver first (suc last - first) f

@@ -25,20 +25,20 @@ fn show_encoding(command: Command, suffix: usize, room: usize) {
     let zeros = [0u8; 192];
     let mut out = [255u8; 184];
     if room <= 184 {
-        text::answer(rdp_command::encode(command, front(&zeros, suffix), &mut out[0..room]));
+        text::answer(rdp_encode::encode(command, front(&zeros, suffix), &mut out[0..room]));
     }
 }
 
 fn show_fields(command: Command, room: usize) {
     let mut numbers = [0u64; 37];
     if room <= 37 {
-        text::answer(rdp_command::fields(command, &mut numbers[0..room]));
+        text::answer(rdp_encode::fields(command, &mut numbers[0..room]));
     }
 }
 
 // The refusal, or 0 and the count of fields.
 fn show_made(number: u32, numbers: &[u64]) {
-    match rdp_command::from_fields(number, numbers) {
+    match rdp_encode::from_fields(number, numbers) {
         Decoded::Whole(command) => {
             show_fields(command, 37);
         }

@@ -67,7 +67,7 @@ pub fn show_ones(number: u8) {
 // The fields of the first command of a list, and their count; or the refusal.
 pub fn fields_in(list: &[u8], numbers: &mut [u64]) -> Answer {
     match rdp_command::decode(list) {
-        Decoded::Whole(command) => rdp_command::fields(command, numbers),
+        Decoded::Whole(command) => rdp_encode::fields(command, numbers),
         Decoded::Refused(answer) => answer,
     }
 }
@@ -75,15 +75,15 @@ pub fn fields_in(list: &[u8], numbers: &mut [u64]) -> Answer {
 // Encodes the first command of a list.
 fn encode_again(list: &[u8], out: &mut [u8]) -> Answer {
     match rdp_command::decode(list) {
-        Decoded::Whole(command) => rdp_command::encode(command, rdp_words::suffix(list), out),
+        Decoded::Whole(command) => rdp_encode::encode(command, rdp_words::suffix(list), out),
         Decoded::Refused(answer) => answer,
     }
 }
 
 // Encodes the command of a number and its fields.
 fn encode_made(number: u8, numbers: &[u64], suffix: &[u8], out: &mut [u8]) -> Answer {
-    match rdp_command::from_fields(number as u32, numbers) {
-        Decoded::Whole(command) => rdp_command::encode(command, suffix, out),
+    match rdp_encode::from_fields(number as u32, numbers) {
+        Decoded::Whole(command) => rdp_encode::encode(command, suffix, out),
         Decoded::Refused(answer) => answer,
     }
 }

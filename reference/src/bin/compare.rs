@@ -21,7 +21,10 @@ static ARCHIVE: Foreign = foreign!(
     lanyardrove_encode,
     lanyardrove_words,
     lanyardrove_step,
-    lanyardrove_translate
+    lanyardrove_translate,
+    lanyardrove_repair_afresh,
+    lanyardrove_compare,
+    lanyardrove_rest
 );
 
 /// The arguments: seed, number of cases, first case.

@@ -17,10 +17,13 @@ pub enum Function {
     Step,
     Stream,
     Translate,
+    Afresh,
+    Compare,
+    Rest,
 }
 
 impl Function {
-    pub const COUNT: usize = 9;
+    pub const COUNT: usize = 12;
     pub const ALL: [Function; Function::COUNT] = [
         Function::Check,
         Function::Repair,
@@ -31,6 +34,9 @@ impl Function {
         Function::Step,
         Function::Stream,
         Function::Translate,
+        Function::Afresh,
+        Function::Compare,
+        Function::Rest,
     ];
 
     pub fn name(self) -> &'static str {
@@ -44,6 +50,9 @@ impl Function {
             Function::Step => "step",
             Function::Stream => "stream",
             Function::Translate => "translate",
+            Function::Afresh => "afresh",
+            Function::Compare => "compare",
+            Function::Rest => "rest",
         }
     }
 }
@@ -62,6 +71,11 @@ pub struct Call {
     /// The address of lent memory, or the offset of a display list in it.
     pub start: u64,
     pub list: Lent<u8>,
+    /// The list that a first one is compared with.
+    pub second: Lent<u8>,
+    /// The numbers that were lent for entries.
+    pub count: usize,
+    pub entries: Lent<u32>,
     pub suffix: Lent<u8>,
     pub fields: Lent<u64>,
     pub work: Lent<u8>,
@@ -82,6 +96,9 @@ impl Call {
             hazards: 0,
             start: 0,
             list: Lent::default(),
+            second: Lent::default(),
+            count: 0,
+            entries: Lent::default(),
             suffix: Lent::default(),
             fields: Lent::default(),
             work: Lent::default(),
@@ -116,6 +133,11 @@ impl Call {
                 let start = self.start as u32;
                 side.translate(self.memory.slice(), start, self.out.slice_mut())
             }
+            Function::Afresh => {
+                side.repair_afresh(list, self.work.slice_mut(), self.out.slice_mut())
+            }
+            Function::Compare => side.compare(list, self.second.slice(), self.entries.slice_mut()),
+            Function::Rest => side.rest(list, self.second.slice(), self.count),
         }
     }
 
@@ -123,6 +145,7 @@ impl Call {
     pub fn first_difference(&self, other: &Call) -> Option<(&'static str, i64)> {
         let bytes = [
             ("list", &self.list, &other.list),
+            ("second", &self.second, &other.second),
             ("suffix", &self.suffix, &other.suffix),
             ("work", &self.work, &other.work),
             ("out", &self.out, &other.out),
@@ -134,11 +157,14 @@ impl Call {
         };
         let fields = self.fields.first_difference(&other.fields);
         let in_fields = fields.map(|place| ("fields", place));
+        let entries = self.entries.first_difference(&other.entries);
+        let in_entries = entries.map(|place| ("entries", place));
         let in_portions = self.portions.first_difference(&other.portions);
         bytes
             .into_iter()
             .find_map(differs)
             .or(in_fields)
+            .or(in_entries)
             .or(in_portions)
     }
 }
@@ -154,7 +180,7 @@ impl fmt::Display for Call {
         )?;
         match self.function {
             Function::Check => Ok(()),
-            Function::Repair => {
+            Function::Repair | Function::Afresh => {
                 writeln!(
                     f,
                     "work {} bytes, out {} bytes",
@@ -179,6 +205,7 @@ impl fmt::Display for Call {
             }
             Function::Stream => write!(f, "{}", self.portions),
             Function::Translate => self.describe_translation(f),
+            Function::Compare | Function::Rest => self.describe_pair(f),
         }
     }
 }
@@ -189,6 +216,18 @@ impl Call {
         writeln!(f, "fields {:x?}", self.fields.slice())?;
         writeln!(f, "suffix {}", hexadecimal(self.suffix.slice()))?;
         writeln!(f, "out {} bytes", self.out.len())
+    }
+
+    fn describe_pair(&self, f: &mut fmt::Formatter) -> fmt::Result {
+        let second = self.second.slice();
+        writeln!(
+            f,
+            "second ({} bytes): {}",
+            second.len(),
+            hexadecimal(second)
+        )?;
+        let count = self.count.max(self.entries.len());
+        writeln!(f, "entries {count} numbers")
     }
 
     fn describe_translation(&self, f: &mut fmt::Formatter) -> fmt::Result {

@@ -6,13 +6,15 @@ use crate::comparison::calls::{Call, Function};
 use crate::comparison::displays::display;
 use crate::comparison::encodings::encode_call;
 use crate::comparison::lent::Lent;
+use crate::comparison::pairs::pair;
 use crate::comparison::portions::Portions;
 use crate::comparison::rng::Rng;
 use crate::decode::decode;
+use crate::differences::{compare, ENTRY};
 use crate::display::walk as walk_display;
 use crate::draw::{works, Work};
 use crate::kinds::{commands, Command};
-use crate::repair::{least_plan, with_plan, REPAIR_LIMIT, WORK_BYTES};
+use crate::repair::{least_plan, with_plan, without_syncs, REPAIR_LIMIT, WORK_BYTES};
 use crate::texture::TEXTURE_BYTES;
 use crate::words::WORD_BYTES;
 
@@ -20,17 +22,21 @@ use crate::words::WORD_BYTES;
 pub fn calls(rng: &mut Rng, case: u64, list: &[u8]) -> Vec<Call> {
     let place = rng.below(list.len() as u64 / 8 + 1) as usize;
     let tail = &list[place * WORD_BYTES..];
+    let [compare_call, rest_call] = pair_calls(rng, case, list);
     vec![
         check_call(rng, list),
         decode_call(rng, list),
         decode_call(rng, tail),
         encode_call(rng, case),
-        repair_call(rng, list),
+        repair_call(rng, Function::Repair, list, <[u8]>::to_vec),
         draw_call(rng, list),
         words_call(rng, case),
         step_call(rng, case),
         stream_call(rng, list),
         translate_call(rng, case),
+        afresh_call(rng, list),
+        compare_call,
+        rest_call,
     ]
 }
 
@@ -95,8 +101,9 @@ pub fn room(rng: &mut Rng, needed: usize, step: usize) -> Lent<u8> {
     Lent::random(rng, length)
 }
 
-fn repair_call(rng: &mut Rng, list: &[u8]) -> Call {
-    let (work, out) = repair_needs(list).unwrap_or_else(|| {
+/// A repair of a list, of which the commands that remain are given syncs.
+fn repair_call(rng: &mut Rng, function: Function, list: &[u8], remaining: Remaining) -> Call {
+    let (work, out) = repair_needs(list, remaining).unwrap_or_else(|| {
         let most = 2 * list.len() as u64 + 16;
         (rng.below(most) as usize, rng.below(most) as usize)
     });
@@ -104,18 +111,46 @@ fn repair_call(rng: &mut Rng, list: &[u8]) -> Call {
         list: Lent::of(rng, list),
         work: room(rng, work, WORK_BYTES),
         out: room(rng, out, WORD_BYTES),
-        ..Call::of(Function::Repair)
+        ..Call::of(function)
     }
 }
 
 /// The bytes of work buffer and output that a repair needs, unless it is refused
 /// on grounds 1 to 6.
-fn repair_needs(list: &[u8]) -> Option<(usize, usize)> {
+fn repair_needs(list: &[u8], remaining: Remaining) -> Option<(usize, usize)> {
     let walked = walk(list, REPAIR_LIMIT, Syncs::PassedOver);
     walked.outcome.ok()?;
-    let given: Vec<Command> = commands(list).collect();
-    let written = with_plan(list, &given, &least_plan(&given).adds);
-    Some((given.len() * WORK_BYTES, written.len()))
+    let remaining = remaining(list);
+    let given: Vec<Command> = commands(&remaining).collect();
+    let written = with_plan(&remaining, &given, &least_plan(&given).adds);
+    Some((commands(list).count() * WORK_BYTES, written.len()))
+}
+
+type Remaining = fn(&[u8]) -> Vec<u8>;
+
+/// A second repair, half of them of a list with more syncs.
+fn afresh_call(rng: &mut Rng, list: &[u8]) -> Call {
+    let fuller = full_of_syncs(rng, list);
+    let list = rng.pick(&[list, &fuller]);
+    repair_call(rng, Function::Afresh, list, without_syncs)
+}
+
+/// "Old lists are full of Sync Pipe", and here of others too, with any other bits.
+fn full_of_syncs(rng: &mut Rng, list: &[u8]) -> Vec<u8> {
+    let mut fuller = Vec::new();
+    let mut copied = 0;
+    for command in commands(list) {
+        let at = command.place * WORD_BYTES;
+        fuller.extend_from_slice(&list[copied..at]);
+        copied = at;
+        if rng.one_in(3) {
+            let number = rng.pick(&[0x26, 0x27, 0x27, 0x27, 0x28]);
+            let sync = rng.number() & !(0x3F << 56) | number << 56;
+            fuller.extend(sync.to_be_bytes());
+        }
+    }
+    fuller.extend_from_slice(&list[copied..]);
+    fuller
 }
 
 /// The longest memory that a case lends.
@@ -201,5 +236,39 @@ fn translate_call(rng: &mut Rng, case: u64) -> Call {
         memory: Lent::of(rng, &display.memory),
         out: room(rng, written * WORD_BYTES, WORD_BYTES),
         ..Call::of(Function::Translate)
+    }
+}
+
+/// Two lists compared, and the rest of the longer one.
+fn pair_calls(rng: &mut Rng, case: u64, list: &[u8]) -> [Call; 2] {
+    let (first, second) = pair(rng, case, list);
+    let needed = compare(&first, &second, &mut []).map_or_else(|refusal| refusal.place, |_| 0);
+    let count = numbers(rng, needed, ENTRY);
+    let call = |rng: &mut Rng, function| Call {
+        list: Lent::of(rng, &first),
+        second: Lent::of(rng, &second),
+        ..Call::of(function)
+    };
+    let compare = Call {
+        entries: Lent::random_numbers(rng, count),
+        ..call(rng, Function::Compare)
+    };
+    let count = if rng.one_in(20) { usize::MAX } else { count };
+    let rest = Call {
+        count,
+        ..call(rng, Function::Rest)
+    };
+    [compare, rest]
+}
+
+/// A count of numbers: exactly enough, one or an entry too few, more, or none.
+fn numbers(rng: &mut Rng, needed: usize, entry: usize) -> usize {
+    let more = rng.between(1, 9) as usize;
+    match rng.below(12) {
+        0 => needed.saturating_sub(1),
+        1 => needed.saturating_sub(entry),
+        2..=4 => needed + more,
+        5 => 0,
+        _ => needed,
     }
 }

@@ -42,12 +42,13 @@ impl Counts {
 pub fn possible(function: Function) -> &'static [u8] {
     match function {
         Function::Check => &[0, 1, 2, 3, 4, 5, 6, 7, 8, 9, 19],
-        Function::Repair => &[0, 1, 2, 3, 4, 5, 6, 13, 14, 19],
+        Function::Repair | Function::Afresh => &[0, 1, 2, 3, 4, 5, 6, 13, 14, 19],
         Function::Draw => &[0, 1, 2, 3, 4, 5, 6, 7, 8, 9, 10, 11, 12, 16, 17, 18, 19],
         Function::Decode => &[0, 3, 14],
         Function::Encode => &[0, 14, 15],
         Function::Words | Function::Step => &[0],
         Function::Stream => &[0, 1, 2, 3, 4, 5, 6, 7, 8, 9, 19, 28],
+        Function::Compare | Function::Rest => &[0, 1, 2, 3, 14],
         Function::Translate => &[0, 14, 20, 21, 22, 23],
     }
 }

@@ -15,6 +15,8 @@ pub type Step = unsafe extern "C" fn(u32, u32) -> u64;
 pub type Feed = unsafe extern "C" fn(*mut Record, *const u8, usize) -> u64;
 pub type Close = unsafe extern "C" fn(*mut Record) -> u64;
 pub type Translate = unsafe extern "C" fn(*const u8, usize, u32, *mut u8, usize) -> u64;
+pub type Compare = unsafe extern "C" fn(*const u8, usize, *const u8, usize, *mut u32, usize) -> u64;
+pub type Rest = unsafe extern "C" fn(*const u8, usize, *const u8, usize, usize) -> u64;
 
 /// Functions that ask of their pointers only that each lends as much as the
 /// length after it says.
@@ -30,6 +32,9 @@ pub struct Foreign {
     pub words: Option<Words>,
     pub step: Option<Step>,
     pub translate: Option<Translate>,
+    pub repair_afresh: Option<Repair>,
+    pub compare: Option<Compare>,
+    pub rest: Option<Rest>,
 }
 
 /// Declares functions of C by their names, and gives them as a `Foreign`: check,
@@ -39,7 +44,10 @@ pub struct Foreign {
 macro_rules! foreign {
     (
         $check:ident, $repair:ident, $draw:ident, $feed:ident, $close:ident
-        $(, $decode:ident, $encode:ident, $words:ident, $step:ident, $translate:ident)?
+        $(
+            , $decode:ident, $encode:ident, $words:ident, $step:ident, $translate:ident,
+            $repair_afresh:ident, $compare:ident, $rest:ident
+        )?
     ) => {{
         extern "C" {
             fn $check(list: *const u8, list_length: usize) -> u64;
@@ -91,6 +99,29 @@ macro_rules! foreign {
                     out: *mut u8,
                     out_length: usize,
                 ) -> u64;
+                fn $repair_afresh(
+                    list: *const u8,
+                    list_length: usize,
+                    work: *mut u8,
+                    work_length: usize,
+                    out: *mut u8,
+                    out_length: usize,
+                ) -> u64;
+                fn $compare(
+                    first: *const u8,
+                    first_length: usize,
+                    second: *const u8,
+                    second_length: usize,
+                    entries: *mut u32,
+                    count: usize,
+                ) -> u64;
+                fn $rest(
+                    first: *const u8,
+                    first_length: usize,
+                    second: *const u8,
+                    second_length: usize,
+                    count: usize,
+                ) -> u64;
             )?
         }
         $crate::comparison::foreign::Foreign {
@@ -104,10 +135,20 @@ macro_rules! foreign {
             words: $crate::foreign!($($words)?),
             step: $crate::foreign!($($step)?),
             translate: $crate::foreign!($($translate)?),
+            repair_afresh: $crate::foreign!($($repair_afresh)?),
+            compare: $crate::foreign!($($compare)?),
+            rest: $crate::foreign!($($rest)?),
         }
     }};
     () => { None };
     ($function:ident) => { Some($function) };
+}
+
+fn call_repair(repair: Repair, list: &[u8], work: &mut [u8], out: &mut [u8]) -> u64 {
+    let (list, list_length) = (list.as_ptr(), list.len());
+    let (work, work_length) = (work.as_mut_ptr(), work.len());
+    let (out, out_length) = (out.as_mut_ptr(), out.len());
+    unsafe { repair(list, list_length, work, work_length, out, out_length) }
 }
 
 impl Side for Foreign {
@@ -116,10 +157,7 @@ impl Side for Foreign {
     }
 
     fn repair(&self, list: &[u8], work: &mut [u8], out: &mut [u8]) -> u64 {
-        let (list, list_length) = (list.as_ptr(), list.len());
-        let (work, work_length) = (work.as_mut_ptr(), work.len());
-        let (out, out_length) = (out.as_mut_ptr(), out.len());
-        unsafe { (self.repair)(list, list_length, work, work_length, out, out_length) }
+        call_repair(self.repair, list, work, out)
     }
 
     fn draw(&self, list: &[u8], memory: &mut [u8], start: u64, texture: &mut [u8]) -> u64 {
@@ -195,5 +233,31 @@ impl Side for Foreign {
         let (memory, memory_length) = (memory.as_ptr(), memory.len());
         let (out, out_length) = (out.as_mut_ptr(), out.len());
         unsafe { translate(memory, memory_length, start, out, out_length) }
+    }
+
+    fn repair_afresh(&self, list: &[u8], work: &mut [u8], out: &mut [u8]) -> u64 {
+        match self.repair_afresh {
+            Some(repair_afresh) => call_repair(repair_afresh, list, work, out),
+            None => packed::repair_afresh(list, work, out),
+        }
+    }
+
+    fn compare(&self, first: &[u8], second: &[u8], entries: &mut [u32]) -> u64 {
+        let Some(compare) = self.compare else {
+            return packed::compare(first, second, entries);
+        };
+        let (first, first_length) = (first.as_ptr(), first.len());
+        let (second, second_length) = (second.as_ptr(), second.len());
+        let (entries, count) = (entries.as_mut_ptr(), entries.len());
+        unsafe { compare(first, first_length, second, second_length, entries, count) }
+    }
+
+    fn rest(&self, first: &[u8], second: &[u8], count: usize) -> u64 {
+        let Some(rest) = self.rest else {
+            return packed::rest(first, second, count);
+        };
+        let (first, first_length) = (first.as_ptr(), first.len());
+        let (second, second_length) = (second.as_ptr(), second.len());
+        unsafe { rest(first, first_length, second, second_length, count) }
     }
 }

@@ -59,19 +59,37 @@ impl Lent<u8> {
     }
 }
 
-impl Lent<u64> {
+/// Numbers as they are lent in buffers of their own.
+pub trait Number: Copy + PartialEq {
+    fn of(random: u64) -> Self;
+}
+
+impl Number for u64 {
+    fn of(random: u64) -> u64 {
+        random
+    }
+}
+
+impl Number for u32 {
+    fn of(random: u64) -> u32 {
+        (random >> 32) as u32
+    }
+}
+
+impl<T: Number> Lent<T> {
     /// Random numbers.
-    pub fn random_numbers(rng: &mut Rng, length: usize) -> Lent<u64> {
+    pub fn random_numbers(rng: &mut Rng, length: usize) -> Lent<T> {
         let front = 2;
+        let all = (0..front + length + BACK).map(|_| T::of(rng.number()));
         Lent {
-            all: (0..front + length + BACK).map(|_| rng.number()).collect(),
+            all: all.collect(),
             front,
             length,
         }
     }
 
     /// These numbers, between random guards.
-    pub fn of_numbers(rng: &mut Rng, numbers: &[u64]) -> Lent<u64> {
+    pub fn of_numbers(rng: &mut Rng, numbers: &[T]) -> Lent<T> {
         let mut lent = Lent::random_numbers(rng, numbers.len());
         lent.slice_mut().copy_from_slice(numbers);
         lent

@@ -206,7 +206,7 @@ fn short_list(rng: &mut Rng, steps: u64) -> Vec<u8> {
 }
 
 /// A list with a few of its bytes or words changed, removed, doubled or cut.
-fn damaged(rng: &mut Rng, whole: impl Fn(&mut Rng) -> Vec<u8>) -> Vec<u8> {
+pub fn damaged(rng: &mut Rng, whole: impl Fn(&mut Rng) -> Vec<u8>) -> Vec<u8> {
     let mut list = whole(rng);
     for _ in 0..rng.between(1, 3) {
         damage(rng, &mut list);

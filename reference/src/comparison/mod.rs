@@ -12,6 +12,7 @@ pub mod laws;
 pub mod lent;
 pub mod lists;
 pub mod mixed;
+pub mod pairs;
 pub mod portions;
 pub mod rng;
 pub mod run;

@@ -12,6 +12,7 @@ use crate::comparison::portions::test_record;
 use crate::comparison::rng::Rng;
 use crate::comparison::side::{Reference, Side};
 use crate::packed::Answer;
+use crate::repair::without_syncs;
 use crate::words::WORD_BYTES;
 
 /// What went wrong first.
@@ -106,7 +107,8 @@ impl Compared {
         let call = &self.reference_after;
         let list = call.list.slice();
         match (call.function, self.reference.number) {
-            (Function::Repair, 0) => self.repair_laws(rng, counts),
+            (Function::Repair, 0) => self.repair_laws(rng, counts, list),
+            (Function::Afresh, 0) => self.repair_laws(rng, counts, &without_syncs(list)),
             (Function::Check, 0) => laws::test_steps(other, list, self.reference),
             (Function::Check, 7..=9) => laws::test_steps(other, list, self.reference)
                 .and_then(|()| laws::test_cause(list, self.reference)),
@@ -116,11 +118,17 @@ impl Compared {
         }
     }
 
-    fn repair_laws(&self, rng: &mut Rng, counts: &mut Counts) -> Result<(), String> {
+    /// The laws of a repair that adds syncs to these commands.
+    fn repair_laws(
+        &self,
+        rng: &mut Rng,
+        counts: &mut Counts,
+        remaining: &[u8],
+    ) -> Result<(), String> {
         let answer = self.reference;
         let call = &self.reference_after;
         let written = &call.out.slice()[..answer.place as usize * WORD_BYTES];
-        let searched = laws::test_repair(rng, call.list.slice(), written, answer.third)?;
+        let searched = laws::test_repair(rng, remaining, written, answer.third)?;
         counts.searched += u64::from(searched);
         Ok(())
     }

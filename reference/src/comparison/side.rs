@@ -16,6 +16,9 @@ pub trait Side {
     fn feed(&self, record: &mut Record, portion: &[u8]) -> u64;
     fn close(&self, record: &mut Record) -> u64;
     fn translate(&self, memory: &[u8], start: u32, out: &mut [u8]) -> u64;
+    fn repair_afresh(&self, list: &[u8], work: &mut [u8], out: &mut [u8]) -> u64;
+    fn compare(&self, first: &[u8], second: &[u8], entries: &mut [u32]) -> u64;
+    fn rest(&self, first: &[u8], second: &[u8], count: usize) -> u64;
 }
 
 /// This crate.
@@ -60,5 +63,17 @@ impl Side for Reference {
 
     fn translate(&self, memory: &[u8], start: u32, out: &mut [u8]) -> u64 {
         packed::translate(memory, start, out)
+    }
+
+    fn repair_afresh(&self, list: &[u8], work: &mut [u8], out: &mut [u8]) -> u64 {
+        packed::repair_afresh(list, work, out)
+    }
+
+    fn compare(&self, first: &[u8], second: &[u8], entries: &mut [u32]) -> u64 {
+        packed::compare(first, second, entries)
+    }
+
+    fn rest(&self, first: &[u8], second: &[u8], count: usize) -> u64 {
+        packed::rest(first, second, count)
     }
 }

@@ -5,7 +5,7 @@ use reference::answer::{Ground, Refusal};
 use reference::check::check;
 use reference::draw::draw;
 use reference::kinds::words;
-use reference::repair::{repair, Repaired};
+use reference::repair::{repair, repair_afresh, Repaired};
 use reference::texture::TEXTURE_BYTES;
 use reference::words::bytes_of;
 
@@ -66,6 +66,17 @@ pub fn answer(outcome: Result<usize, Refusal>) -> (u8, usize) {
 
 /// The repaired list and its cycles.
 pub fn repaired(words: &[u64]) -> (Vec<u8>, u32) {
+    repaired_by(repair, words)
+}
+
+/// What the second repair writes, and its cycles.
+pub fn repaired_afresh(words: &[u64]) -> (Vec<u8>, u32) {
+    repaired_by(repair_afresh, words)
+}
+
+type Repair = fn(&[u8], &mut [u8], &mut [u8]) -> Result<Repaired, Refusal>;
+
+fn repaired_by(repair: Repair, words: &[u64]) -> (Vec<u8>, u32) {
     let list = bytes_of(words);
     let mut work = vec![0xAA; 2 * list.len()];
     let mut out = vec![0xAA; 2 * list.len()];

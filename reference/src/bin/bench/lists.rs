@@ -251,6 +251,93 @@ pub fn needy(length: usize) -> Vec<u8> {
     bytes_of(&list)
 }
 
+/// An old list: the same with a Sync Pipe before each command.
+pub fn full_of_syncs(length: usize) -> Vec<u8> {
+    let mut rng = Rng::new(10);
+    let mut list = setup(ONE_CYCLE, Pixels::Bits16);
+    while list.len() + 2 < length {
+        let number = rng.pick(NEEDY);
+        list.push(word(SYNC_PIPE, 0));
+        list.extend(random(&mut rng, number));
+    }
+    list.resize(length, word(NO_OPERATION, 0));
+    bytes_of(&list)
+}
+
+/// Bits 63:62 of a display list's commands.
+const DISPLAY: u64 = 3 << 62;
+
+const CALL: u64 = 0xDE << 56;
+const END: u64 = 0xDF << 56;
+const FIRST_HALF: u64 = 0xE1 << 56;
+const MODES_LOW: u64 = 0xE2 << 56;
+const MODES_HIGH: u64 = 0xE3 << 56;
+const SECOND_HALF: u64 = 0xF1 << 56;
+
+/// A command with random bits, its address below 16 MiB.
+fn random_display(rng: &mut Rng, number: u8) -> u64 {
+    DISPLAY | word(number, rng.number() & 0x00FF_FFFF_00FF_FFFF)
+}
+
+/// Shapes as a game has them in a list of their own: rectangles with their half-words,
+/// colours and fill rectangles.
+fn shapes(rng: &mut Rng) -> Vec<u64> {
+    let mut list = Vec::new();
+    for _ in 0..rng.between(2, 4) {
+        list.push(random_display(rng, SET_PRIM_COLOR));
+        list.push(random_display(rng, TEXTURE_RECTANGLE));
+        list.push(FIRST_HALF | rng.number() >> 32);
+        list.push(SECOND_HALF | rng.number() >> 32);
+    }
+    list.push(random_display(rng, SET_FILL_COLOR));
+    list.push(random_display(rng, FILL_RECTANGLE));
+    list.push(END);
+    list
+}
+
+/// A change of material as above, its other modes by their parts: cycle type, filter
+/// and blender.
+fn display_material(rng: &mut Rng) -> Vec<u64> {
+    let mut list = vec![
+        random_display(rng, SYNC_PIPE),
+        MODES_HIGH | 0x0A_01 << 32 | rng.below(4) << 20,
+        MODES_HIGH | 0x12_01 << 32 | rng.below(4) << 12,
+        MODES_LOW | 0x00_1C << 32 | (rng.number() >> 32) & !7,
+    ];
+    let others = MATERIAL.iter().skip(2);
+    list.extend(others.map(|number| random_display(rng, *number)));
+    list
+}
+
+/// A memory with eight lists of shapes and the outermost list behind them, and where that
+/// starts: materials, each followed by a call of shapes. So many commands are read.
+pub fn display(commands: usize) -> (Vec<u8>, u32) {
+    let mut rng = Rng::new(9);
+    let mut memory = Vec::new();
+    let mut called = Vec::new();
+    for _ in 0..8 {
+        let shapes = shapes(&mut rng);
+        called.push((8 * memory.len() as u64, shapes.len()));
+        memory.extend(shapes);
+    }
+    let start = 8 * memory.len() as u32;
+    let mut read = 0;
+    loop {
+        let material = display_material(&mut rng);
+        let (address, length) = rng.pick(&called);
+        let more = material.len() + 1 + length;
+        if read + more >= commands {
+            break;
+        }
+        memory.extend(material);
+        memory.push(CALL | address);
+        read += more;
+    }
+    memory.extend((read + 1..commands).map(|_| random_display(&mut rng, SYNC_PIPE)));
+    memory.push(END);
+    (bytes_of(&memory), start)
+}
+
 /// One rectangle.
 pub fn fill(pixels: Pixels, rectangle: Rectangle) -> Vec<u8> {
     fills(pixels, &[rectangle])

@@ -1,5 +1,6 @@
 //! The benchmark: the proved library beside this crate and the plain C version,
-//! on the same lists in one run. Greater ratios are a faster library.
+//! on the same lists in one run. Greater ratios are a faster library. With an argument
+//! only the rows are measured whose names hold it.
 
 mod agreement;
 mod lists;
@@ -16,7 +17,9 @@ use timing::{Measured, Turn};
 use versions::VERSIONS;
 
 fn main() -> ExitCode {
-    let rows = rows::rows();
+    let wanted = std::env::args().nth(1).unwrap_or_default();
+    let mut rows = rows::rows();
+    rows.retain(|row| row.name.contains(&wanted));
     for row in &rows {
         if let Err(difference) = agreement::test(row) {
             eprintln!("{difference}");

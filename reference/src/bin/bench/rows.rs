@@ -14,6 +14,9 @@ pub enum Job {
     /// A list in portions of at most so many bytes.
     Stream(usize),
     Repair,
+    RepairAfresh,
+    /// The display list at an offset: the row's list is the memory that it lies in.
+    Translate(u32),
     /// Drawing, with the runs of bytes that the list paints.
     Draw(Vec<Range<usize>>),
     /// Drawing that copies textures, with the runs of memory and, for each, those of
@@ -44,6 +47,10 @@ impl Row {
             Job::Registers => (version.registers)(&self.list),
             Job::Stream(portion) => stream(side, &self.list, portion),
             Job::Repair => side.repair(&self.list, &mut buffers.work, &mut buffers.out),
+            Job::RepairAfresh => {
+                side.repair_afresh(&self.list, &mut buffers.work, &mut buffers.out)
+            }
+            Job::Translate(start) => side.translate(&self.list, start, &mut buffers.out),
             Job::Draw(_) | Job::Copy(_) | Job::Load(_) => {
                 let (memory, texture) = buffers.drawn();
                 side.draw(&self.list, memory, 0, texture)
@@ -81,7 +88,8 @@ const MEMORY: usize = (WIDTH * HEIGHT * 4) as usize;
 impl Buffers {
     /// Memory and texture memory are zero, but what textures are moved from has no
     /// zero byte. There are sixteen bytes of work for each word of the list, and room
-    /// for twice its words.
+    /// for twice its words; for those of a display list too, though parts of it are
+    /// called again and again.
     pub fn new(row: &Row) -> Buffers {
         let mut buffers = Buffers {
             work: vec![0xA5; 2 * row.list.len()],
@@ -129,6 +137,9 @@ pub fn rows() -> Vec<Row> {
     rows.extend(LENGTHS.map(|length| cut_stream("setters", lists::setters(length))));
     rows.push(cut_stream("a game's mix", lists::mixed(4_096)));
     rows.push(repair(lists::needy(2_048)));
+    rows.push(repair_afresh("small commands", lists::needy(2_048)));
+    rows.push(repair_afresh("full of syncs", lists::full_of_syncs(2_048)));
+    rows.push(translate(1_000));
     rows.extend(large_draws());
     rows.extend(small_draws());
     rows.push(copies(32, 32));
@@ -178,6 +189,24 @@ fn repair(list: Vec<u8>) -> Row {
         name: format!("repair, small commands, {} words", list.len() / 8),
         list,
         job: Job::Repair,
+    }
+}
+
+fn repair_afresh(what: &str, list: Vec<u8>) -> Row {
+    Row {
+        name: format!("repair afresh, {what}, {} words", list.len() / 8),
+        list,
+        job: Job::RepairAfresh,
+    }
+}
+
+/// A display list of so many commands.
+fn translate(commands: usize) -> Row {
+    let (memory, start) = lists::display(commands);
+    Row {
+        name: format!("translate, {commands} display list commands"),
+        list: memory,
+        job: Job::Translate(start),
     }
 }
 

@@ -14,24 +14,62 @@ pub struct Version {
 }
 
 /// The proved library.
-static LIBRARY: Foreign = foreign!(
-    lanyardrove_check,
-    lanyardrove_repair,
-    lanyardrove_draw,
-    lanyardrove_stream_feed,
-    lanyardrove_stream_close
-);
+static LIBRARY: Foreign = Foreign {
+    translate: Some(lanyardrove_translate),
+    repair_afresh: Some(lanyardrove_repair_afresh),
+    ..foreign!(
+        lanyardrove_check,
+        lanyardrove_repair,
+        lanyardrove_draw,
+        lanyardrove_stream_feed,
+        lanyardrove_stream_close
+    )
+};
 
 /// The plain C version.
-static PLAIN: Foreign = foreign!(
-    plain_check,
-    plain_repair,
-    plain_draw,
-    plain_stream_feed,
-    plain_stream_close
-);
+static PLAIN: Foreign = Foreign {
+    translate: Some(plain_translate),
+    repair_afresh: Some(plain_repair_afresh),
+    ..foreign!(
+        plain_check,
+        plain_repair,
+        plain_draw,
+        plain_stream_feed,
+        plain_stream_close
+    )
+};
 
 extern "C" {
+    fn lanyardrove_repair_afresh(
+        list: *const u8,
+        list_length: usize,
+        work: *mut u8,
+        work_length: usize,
+        out: *mut u8,
+        out_length: usize,
+    ) -> u64;
+    fn plain_repair_afresh(
+        list: *const u8,
+        list_length: usize,
+        work: *mut u8,
+        work_length: usize,
+        out: *mut u8,
+        out_length: usize,
+    ) -> u64;
+    fn lanyardrove_translate(
+        memory: *const u8,
+        memory_length: usize,
+        start: u32,
+        out: *mut u8,
+        out_length: usize,
+    ) -> u64;
+    fn plain_translate(
+        memory: *const u8,
+        memory_length: usize,
+        start: u32,
+        out: *mut u8,
+        out_length: usize,
+    ) -> u64;
     fn lanyardrove_bench_registers(list: *const u8, list_length: usize) -> u64;
     fn plain_registers(list: *const u8, list_length: usize) -> u64;
 }

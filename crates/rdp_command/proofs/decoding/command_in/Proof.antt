@@ -5,7 +5,7 @@ use borrow.Author.Tests.{ne-eqb}
 use Rattle.rdp_command.specs.Layout.{layout}
 use Rattle.rdp_command.specs.Commands.{commandOf}
 use Rattle.rdp_command.specs.declared.Command.the-variants.{FillTriangle, TextureRectangle, TextureRectangleFlip, SetKeyGb, SetKeyR, SetConvert, SetScissor, SetPrimitiveDepth, SetOtherModes, LoadTlut, SetTileSize, LoadBlock, LoadTile, SetTile, FillRectangle, SetFillColor, SetFogColor, SetBlendColor, SetPrimitiveColor, SetEnvironmentColor, SetCombineMode, SetTextureImage, SetDepthImage, SetColorImage, NoOperation}
-use Rattle.rdp_command.specs.declared.decoding.Base.{Base}
+use Rattle.rdp_command.specs.declared.Base.{Base}
 use Rattle.rdp_command.proofs.CommandLaws.{at-number, at-triangle}
 use borrow.Author.Needs.{needs}
 use Rattle.rdp_command.proofs.decoding.command_in.Statement.{statement}

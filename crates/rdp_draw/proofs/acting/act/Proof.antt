@@ -1,20 +1,15 @@
 -- `rdp_draw::acting::act` meets its contract. Assumes nothing.
 use borrow.Author.Needs.{needs}
 use denote.Ref.{now}
-use Rattle.rdp_draw.proofs.DrawLaws.{fill-inside, fill-left, copy-left, load-left}
+use Rattle.rdp_draw.proofs.DrawLaws.{fill-left, copy-left, load-left}
 use Rattle.rdp_draw.proofs.acting.act.Statement.{statement}
 use Rattle.rdp_draw.proofs.acting.act.Tie as tie
 
 fill-at-requires : tie.Need-fill-at-requires
 fill-at-requires c κs = search needs
 
-paint-fill-requires : tie.Need-paint-fill-requires
-paint-fill-requires c κs =
-    let b = c .before .before .before .before .before .before .before in
-    let a = b .args in
-    fill-inside (a .start) (now (a .memory)) (now (a .texture)) (a .file .now) (a .list .now) (a .at .place) (a .at .number) (b .pre .1)
-    (c .before .before .if1 .taken) _
-    (c .fill-at .ensures)
+paint-requires : tie.Need-paint-requires
+paint-requires c κs = search needs
 
 same-length : tie.Need-same-length
 same-length c = search needs
@@ -26,7 +21,7 @@ returns c =
     let e = d .before .before .before .before .before in
     let a = e .args in
     fill-left (a .start) (now (a .memory)) (now (a .texture)) (a .file .now) (a .list .now) (a .at .place) (a .at .number) (e .pre .1) (d .if1 .taken) _
-    (b .fill-at .ensures) _ (c .before .before .paint-fill .ensures)
+    (b .fill-at .ensures) _ (c .before .before .paint .ensures)
 
 copy-at-requires : tie.Need-copy-at-requires
 copy-at-requires c κs = c .before .before .before .before .before .before .before .before .before .pre .0 .0
@@ -78,7 +73,7 @@ act-spec =
     tie.close
     (tie.spec
     fill-at-requires
-    paint-fill-requires
+    paint-requires
     same-length
     returns
     copy-at-requires

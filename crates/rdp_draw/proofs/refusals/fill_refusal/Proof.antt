@@ -10,30 +10,25 @@ returns c = let a = c .before .before .args in fill-10 (a .start) (a .len) (a .f
 returns-2 : tie.Need-returns-2
 returns-2 c = let a = c .before .before .before .before .args in fill-11 (a .start) (a .len) (a .fill) (c .before .before .if1 .left) (c .if2 .taken)
 
-area-of-requires : tie.Need-area-of-requires
-area-of-requires c κs = search needs
-
 is-inside-requires : tie.Need-is-inside-requires
-is-inside-requires c κs = c .area-of .ensures .1
+is-inside-requires c κs = search needs
 
 returns-3 : tie.Need-returns-3
 returns-3 c =
-    let b = c .before .before .before in
+    let b = c .before .before in
     let d = b .before .before in
     let e = d .before .before in
     let a = e .args in
-    fill-0 (a .start) (a .len) (a .fill) (d .if1 .left) (b .if2 .left) _ (c .before .before .area-of .ensures .0) _ (c .before .is-inside .ensures)
-    (c .if3 .taken)
+    fill-0 (a .start) (a .len) (a .fill) (d .if1 .left) (b .if2 .left) _ (c .before .is-inside .ensures) (c .if3 .taken)
 
 returns-4 : tie.Need-returns-4
 returns-4 c =
-    let b = c .before .before .before in
+    let b = c .before .before in
     let d = b .before .before in
     let e = d .before .before in
     let a = e .args in
-    fill-12 (a .start) (a .len) (a .fill) (d .if1 .left) (b .if2 .left) _ (c .before .before .area-of .ensures .0) _ (c .before .is-inside .ensures)
-    (c .if3 .left)
+    fill-12 (a .start) (a .len) (a .fill) (d .if1 .left) (b .if2 .left) _ (c .before .is-inside .ensures) (c .if3 .left)
 
 pub fill-refusal-spec : {M : Type 1} → statement M
 fill-refusal-spec =
-    tie.close (tie.spec returns returns-2 area-of-requires is-inside-requires returns-3 returns-4)
+    tie.close (tie.spec returns returns-2 is-inside-requires returns-3 returns-4)

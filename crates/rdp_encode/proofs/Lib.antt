@@ -1,0 +1,15 @@
+pub mod TwosLaws
+pub mod Bytes
+pub mod Spreading
+pub mod TableLaws
+pub mod PackLaws
+pub mod BitLaws
+pub mod ValueLaws
+pub mod LayoutLaws
+pub mod AnswerLaws
+pub mod BackLaws
+pub mod NumberLaws
+pub mod WholeLaws
+pub mod Laws
+pub mod FieldLaws
+pub mod BoundLaws
