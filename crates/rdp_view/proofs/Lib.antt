@@ -1,2 +1,3 @@
 pub mod PixelLaws
 pub mod ViewLaws
+pub mod PictureLaws

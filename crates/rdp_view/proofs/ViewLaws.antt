@@ -1,12 +1,12 @@
 -- The viewer's refusals, and its answers. Assumes nothing.
-use mathlib.Core.Path.{_≡_, refl, sym, ap, ap₂, _∙_}
-use mathlib.Core.Bool.{Bool, true, false, cond, _||_}
-use mathlib.Core.List.{List, [], _∷_}
+use mathlib.Core.Path.{_≡_, ap, _∙_}
+use mathlib.Core.Bool.{true, false, _||_}
+use mathlib.Core.List.{List}
 use Prim.Native.Nat.{ℕ, _+_, _*_, _-_, _<_, _≤_}
 use native.Mathlib.Nat.{mul-le-mul}
 use native.Mathlib.Omega.{arith}
-use borrow.Author.Tests.{lt-ltb, le-ltb, ltb-true, ltb-false, ne-eqb, eqb-false}
-use lib.Dec.{eqb, ltb}
+use borrow.Author.Tests.{lt-ltb, le-ltb, ltb-true, ltb-false, ne-eqb}
+use lib.Dec.{eqb, ltb, lit≤}
 use lib.ListN.{length, take, drop, length-drop}
 use lib.Seq.{take-all}
 use Rattle.rdp_words.specs.Words.{overwrite}
@@ -113,3 +113,21 @@ module _ (memory : List ℕ) (start : ℕ) (i : Image) (out : List ℕ) where
 
       pub pixels-there : Enough (i .size) (pixelCount i) (drop (i .address - start) memory)
       pixels-there = enough (i .size) (pixelCount i) (drop (i .address - start) memory) (omega (arith, inside-end start len (i .address) bytes inside, length-drop (i .address - start) memory))
+
+-- ---- how large the parts of an answer are
+
+pub record Bounds (r : Answer) : Type 0 where
+  pub number : r .number ≤ 27
+  pub place : r .place ≤ 0x400000
+
+pub view-bounds : (start len : ℕ) (i : Image) (out : ℕ) → Bounds (viewAnswer start len i out)
+unfolding viewGrounds
+view-bounds start len i out =
+    by-test (unviewable (i .width) (i .height) (i .size)) (λ t. rw t (record { number = lit≤ tt; place = lit≤ tt }))
+    (λ f.
+    let sides = sides-fit (i .width) (i .height) (i .size) f in
+    let most : 4 * pixelCount i ≤ 0x400000 = omega (arith, area-most (i .width) (i .height) (sides .0) (sides .1)) in
+    by-test (outsideMemory start len (i .address) (pixelCount i * pixelBytes (i .size))) (λ t. rw (f, t) (record { number = lit≤ tt; place = lit≤ tt }))
+    (λ g.
+    by-test (ltb out (4 * pixelCount i)) (λ t. rw (f, g, t) (record { number = lit≤ tt; place = most }))
+    (λ h. rw (f, g, h) (record { number = lit≤ tt; place = most }))))

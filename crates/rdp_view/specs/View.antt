@@ -58,6 +58,9 @@ pub record Image : Type 0 where
   pub height : ℕ
   pub size : ℕ
 
+abbrev pub imageAt : ℕ → ℕ → ℕ → ℕ → Image
+imageAt address width height size = record { address = address; width = width; height = height; size = size }
+
 abbrev pub pixelCount : Image → ℕ
 pixelCount i = i .width * i .height
 

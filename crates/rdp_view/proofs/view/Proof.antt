@@ -1,6 +1,6 @@
 -- `rdp_view::view` meets its contract: the refusals one after the other, then the pixels. Assumes nothing.
 use mathlib.Core.Path.{_≡_, sym, ap, _∙_, subst}
-use mathlib.Core.Bool.{Bool, false}
+use mathlib.Core.Bool.{false}
 use mathlib.Core.List.{List}
 use Prim.Native.Nat.{ℕ, _+_, _*_, _-_, _≤_}
 use native.Mathlib.Omega.{arith}
@@ -10,7 +10,7 @@ use Rattle.rdp_words.specs.Words.{overwrite}
 use Rattle.rdp_check.specs.Order.{answer}
 use Rattle.rdp_view.specs.View.{pixelBytes, pixels, unviewable, outsideMemory, Image, pixelCount}
 use Rattle.rdp_view.specs.Steps.{Enough}
-use Rattle.rdp_view.proofs.ViewLaws.{sides-fit, from-part, inside-start, inside-end, Replies, refused-27, refused-12, refused-14, viewed, pixels-there}
+use Rattle.rdp_view.proofs.ViewLaws.{sides-fit, from-part, inside-start, inside-end, refused-27, refused-12, refused-14, viewed, pixels-there}
 use Rattle.rdp_view.proofs.view.Statement.{statement}
 use Rattle.rdp_view.proofs.view.Tie as tie
 

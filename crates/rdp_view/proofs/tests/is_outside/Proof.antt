@@ -1,5 +1,4 @@
 -- `rdp_view::tests::is_outside` meets its contract: no sum of addresses is needed where the image begins inside and is no longer than memory. Assumes nothing.
-use native.Mathlib.Omega.{arith}
 use Rattle.rdp_view.proofs.ViewLaws.{before-start, too-long, by-distance}
 use Rattle.rdp_view.proofs.tests.is_outside.Statement.{statement}
 use Rattle.rdp_view.proofs.tests.is_outside.Tie as tie
