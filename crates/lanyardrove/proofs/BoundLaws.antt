@@ -25,10 +25,12 @@ use Rattle.rdp_draw.specs.Draw.{drawAnswer}
 use Rattle.rdp_check.proofs.BoundLaws.{checkNumbers, check-numbers, among-below, place-most}
 use Rattle.rdp_repair.proofs.BoundLaws.{repairNumbers, Bounds, repair-bounds, afresh-bounds}
 use Rattle.rdp_draw.proofs.BoundLaws.{drawNumbers, draw-numbers, draw-place}
+use Rattle.rdp_view.specs.View.{Image}
+use Rattle.rdp_view.proofs.ViewLaws.{view-bounds}
 use Rattle.rdp_stream.proofs.StreamLaws.{Near, fed-near, closed-near, fed-told, closed-told}
 use Rattle.rdp_stream.specs.declared.Fed.{Fed}
 use Rattle.rdp_stream.specs.Records.{fedOf, closedOf}
-use Rattle.lanyardrove.specs.Replies.{Reply, reply, packed, unpacked, plain, stepReply, checkReply, repairReply, drawReply, decodedReply, decodeReply, madeReply, encodeReply, toldReply, Occurs, ofStep, ofCheck, ofRepair, ofAfresh, ofDraw, ofDecode, ofEncode, ofFeed, ofClose, lentPart, translateReply, ofTranslate}
+use Rattle.lanyardrove.specs.Replies.{Reply, reply, packed, unpacked, plain, stepReply, checkReply, repairReply, drawReply, viewReply, decodedReply, decodeReply, madeReply, encodeReply, toldReply, Occurs, ofStep, ofCheck, ofRepair, ofAfresh, ofDraw, ofView, ofDecode, ofEncode, ofFeed, ofClose, lentPart, translateReply, ofTranslate}
 use Rattle.f3dex2.proofs.BoundLaws.{answer-bounds}
 use Rattle.lanyardrove.proofs.PackLaws.{Small, unpacked-packed, packed-fits}
 
@@ -93,6 +95,11 @@ encode-small number fields suffix out = made-small number fields suffix out (fro
 told-small : (x : Fed) → Near (x .answer) → toldReply x .third ≤ 409600 → Small (toldReply x)
 told-small x k most = record { number = omega (arith, k .number); third = omega (arith, most); place = k .place }
 
+view-small : (start len : ℕ) (i : Image) (room : ℕ) → Small (viewReply start len i room)
+view-small start len i room =
+    let b = view-bounds start len i room in
+    record { number = omega (arith, b .number); third = omega arith; place = omega (arith, b .place) }
+
 lent-short : (memory : List ℕ) → length (lentPart memory) ≤ 0xFFFFFFF8
 lent-short memory = omega (arith, length-take (min (length memory) 0xFFFFFFF8) memory)
 
@@ -108,6 +115,7 @@ small (ofCheck list) = check-small list
 small (ofRepair is) = repair-small _ (repair-bounds is)
 small (ofAfresh is) = repair-small _ (afresh-bounds is)
 small (ofDraw list start len size) = draw-small list start len size
+small (ofView start len i room) = view-small start len i room
 small (ofDecode list fields) = decode-small list fields
 small (ofEncode number fields suffix out) = encode-small number fields suffix out
 small (ofFeed r long near portion) = told-small (fedOf r portion) (fed-near r long near portion) (fed-told r long near portion)

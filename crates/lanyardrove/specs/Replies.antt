@@ -18,6 +18,7 @@ use Rattle.rdp_repair.specs.Repair.{RepairIs}
 use Rattle.rdp_repair.specs.Afresh.{AfreshIs}
 use Rattle.rdp_repair.specs.declared.Repaired.{Repaired}
 use Rattle.rdp_draw.specs.Draw.{drawAnswer}
+use Rattle.rdp_view.specs.View.{Image, viewAnswer}
 use Rattle.rdp_stream.specs.Records.{fedOf, closedOf}
 use Rattle.rdp_stream.specs.declared.Stream.{Stream}
 use Rattle.rdp_stream.specs.declared.Fed.{Fed}
@@ -76,6 +77,10 @@ AfreshReplies list work out w work′ out′ = (r : Repaired) × (w ≡ packed (
 -- drawing on memory of `len` bytes that starts at address `start`, with texture memory of `size` bytes
 abbrev pub drawReply : List ℕ → ℕ → ℕ → ℕ → Reply
 drawReply list start len size = plain (drawAnswer list start len size)
+
+-- an image of memory of `len` bytes that starts at address `start`, as RGBA rows in an output of `room` bytes (#113)
+abbrev pub viewReply : ℕ → ℕ → Image → ℕ → Reply
+viewReply start len i room = plain (viewAnswer start len i room)
 
 -- a decoded command of number n: the third number is n where its fields are written; the place is their count
 abbrev pub decodedReply : ℕ → List ℕ → Decoded → Reply
@@ -152,6 +157,7 @@ pub data Occurs : Reply → Type 0 where
   ofRepair : {list work out work′ out′ : List ℕ} {r : Repaired} → RepairIs list work out r work′ out′ → Occurs (repairReply r)
   ofAfresh : {list work out work′ out′ : List ℕ} {r : Repaired} → AfreshIs list work out r work′ out′ → Occurs (repairReply r)
   ofDraw : (list : List ℕ) (start len size : ℕ) → Occurs (drawReply list start len size)
+  ofView : (start len : ℕ) (i : Image) (room : ℕ) → Occurs (viewReply start len i room)
   ofDecode : (list fields : List ℕ) → Occurs (decodeReply list fields)
   ofEncode : (number : ℕ) (fields suffix out : List ℕ) → Occurs (encodeReply number fields suffix out)
   ofFeed : (r : Stream) → length (r .held) ≡ 176 → r .place < 2 ^ 32 → (portion : List ℕ) → Occurs (feedReply r portion)

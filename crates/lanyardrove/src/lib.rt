@@ -7,7 +7,8 @@ ghost use lib.ListN.{length};
 ghost use Rattle.lanyardrove.specs.Replies.{mostLent, translateReply, translateBytes};
 ghost use Rattle.rdp_words.specs.Lengths.{commandWords};
 ghost use Rattle.rdp_draw.specs.Draw.{drawn, memories};
-ghost use Rattle.lanyardrove.specs.Replies.{reply, mostThird, packed, stepReply, checkReply, RepairReplies, AfreshReplies, drawReply, decodeReply, decodeFields, encodeReply, encodeBytes, fedPacked, closedPacked};
+ghost use Rattle.rdp_view.specs.View.{imageAt, viewOut};
+ghost use Rattle.lanyardrove.specs.Replies.{reply, mostThird, packed, stepReply, checkReply, RepairReplies, AfreshReplies, drawReply, viewReply, decodeReply, decodeFields, encodeReply, encodeBytes, fedPacked, closedPacked};
 use rdp_command::Decoded;
 use rdp_stream::Stream;
 
@@ -119,6 +120,24 @@ pub extern "C" fn lanyardrove_draw(
 {
     let answer = rdp_draw::draw(list, memory, start, texture);
     pack(answer.number, 0, answer.place)
+}
+
+// An image in memory that starts at an address, as RGBA rows (#113): 27, 12 or 14, or 0 and the bytes written.
+#[no_mangle]
+pub extern "C" fn lanyardrove_view(
+    memory: &[u8],
+    start: u64,
+    address: u64,
+    width: u32,
+    height: u32,
+    size: u32,
+    out: &mut [u8],
+) -> u64
+    ensures reply { λ r. ⌜ r ≡ packed (viewReply start (length (now (memory .entry))) (imageAt address width height size) (length (now (out .entry)))) ⌝ }
+    ensures output { λ _. ⌜ now (out .exit) ≡ viewOut (now (memory .entry)) start (imageAt address width height size) (now (out .entry)) ⌝ }
+{
+    let viewed = rdp_view::view(memory, start, address, width, height, size, out);
+    pack(viewed.number, 0, viewed.place)
 }
 
 // The first command of a list: 0, its command number as the third number and the count of its fields, which are written in the order of the wiki's bit
