@@ -1,7 +1,7 @@
 -- Entries that are built from a list: a question at the place of a command answers 0 and the hazards before it, those of the full walk, and reads at
 -- most 64 commands. Assumes nothing.
 use mathlib.Core.Path.{_≡_, refl, sym, ap, _∙_, subst}
-use mathlib.Core.Bool.{cond, _&&_}
+use mathlib.Core.Bool.{cond}
 use mathlib.Core.List.{List, [], _∷_, _++_, append-assoc, nil≢cons, head-eq-of-cons-eq, tail-eq-of-cons-eq}
 use Prim.Native.Nat.{ℕ, zero, suc, _+_, _*_, _-_, _/_, _%_, _≤_, _<_}
 use native.Mathlib.Nat.{le-refl, suc-ne-zero, lt-of-not-le}
@@ -9,7 +9,6 @@ use native.Mathlib.Decide.{decLe}
 use native.Mathlib.Omega.{arith}
 use borrow.Author.Tests.{lt-ltb, le-ltb, le-leb, lt-leb, eq-eqb, ne-eqb, eqb-true, eqb-false}
 use lib.Dec.{eqb, leb, ltb}
-use Rattle.rdp_check.specs.Refusals.{isSome}
 use lib.ListN.{length, getD, take, drop, length-append, length-drop, take-append-drop}
 use lib.Seq.{drop-drop, getD-drop, length-take-le}
 use Rattle.rdp_words.specs.Kinds.{wordsOf}
@@ -201,7 +200,8 @@ module _ (list : List ℕ) (c : List ℕ) (cs : List (List ℕ)) where
       let k : ℕ = 64 - length us in
       let es : List ℕ = entriesFrom 64 at m (us ++ c ∷ cs) in
       let split : length us + k ≡ 64 = omega arith in
-      let past : es ≡ entriesFrom k place (hazardsThrough m us) (c ∷ cs) = ap (λ (j : ℕ). entriesFrom j at m (us ++ c ∷ cs)) (sym split) ∙ entries-past k at m us (c ∷ cs) in
+      let past : es ≡ entriesFrom k place (hazardsThrough m us) (c ∷ cs) =
+      ap (λ (j : ℕ). entriesFrom j at m (us ++ c ∷ cs)) (sym split) ∙ entries-past k at m us (c ∷ cs) in
       let none : lastBefore place es (length es / 2) ≡ 0 =
       last-beyond place es (length es / 2)
       (λ i h.
@@ -294,36 +294,6 @@ ask-built list before c after short words e =
     ap (λ (cs : List (List ℕ)). answered list (entriesFrom 0 0 0 cs) (wordsIn before)) e ∙
     subst (λ (p : ℕ). answered list (entriesFrom 0 0 0 (before ++ c ∷ after)) p ≡ askedAt p (hazardsThrough 0 before) (length before % 64 + 1)) z (r .answers)
 
--- ---- whatever the entries are, at most 64 commands are read
-
-read-most : (left place read at m : ℕ) (cs : List (List ℕ)) (rest : List ℕ) → readFrom left place read at m cs rest .read ≤ read + left
-unfolding readFrom
-read-most zero place read at m cs rest = omega arith
-read-most (suc left) place read at m [] rest =
-    by-test (isSome rest && leb at place) (λ t. rw t (omega arith)) (λ f. rw f (omega arith))
-read-most (suc left) place read at m (c ∷ cs) rest =
-    by-test (ltb place at) (λ t. rw t (omega arith))
-    (λ f.
-    by-test (eqb at place) (λ t. rw (f, t) (omega arith))
-    (λ g. rw (f, g) (omega (arith, read-most left place (read + 1) (at + wordsOf (firstNumber c)) (nextOf m (firstNumber c)) cs rest))))
-
-entry-most : (list es : List ℕ) (place i : ℕ) → askEntry list es place i .read ≤ 64
-unfolding askEntry
-entry-most list es place zero = omega arith
-entry-most list es place (suc i) =
-    let at : ℕ = getD es (2 * i) 0 in
-    let m : ℕ = getD es (2 * i + 1) 0 in
-    by-test (ltb m 16) (λ t. rw t (omega (arith, read-most 64 place 0 at m (commandsOf (drop (8 * at) list)) (restOf (drop (8 * at) list)))))
-    (λ f. rw f (omega arith))
-
-pub ask-most : (list es : List ℕ) (place : ℕ) → askOf list es place .read ≤ 64
-unfolding askOf
-ask-most list es place =
-    by-test (ltb 32768 (length list)) (λ t. rw t (omega arith))
-    (λ f.
-    by-test (eqb (length list % 8) 0) (λ t. rw (f, t) (entry-most list es place (lastBefore place es (length es / 2))))
-    (λ g. rw (f, g) (omega arith)))
-
 -- ---- what the entries are
 
 empty : (us : List (List ℕ)) → length us ≡ 0 → us ≡ []
@@ -382,7 +352,7 @@ entry-built list i before c after e long =
     }
 
 -- as many as there are 64th commands
-entries-count : (k at m : ℕ) (cs : List (List ℕ)) → k ≤ 63 → length (entriesFrom k at m cs) ≡ 2 * ((length cs + 63 - k) / 64)
+pub entries-count : (k at m : ℕ) (cs : List (List ℕ)) → k ≤ 63 → length (entriesFrom k at m cs) ≡ 2 * ((length cs + 63 - k) / 64)
 unfolding entriesFrom
 entries-count zero at m [] h = refl
 entries-count (suc k) at m [] h = omega arith

@@ -2,6 +2,7 @@
 use mathlib.Core.Path.{_≡_, sym, ap, _∙_, subst}
 use mathlib.Core.List.{List, _∷_, _++_}
 use Prim.Native.Nat.{ℕ, _+_, _*_, _/_, _%_, _≤_}
+use native.Mathlib.Omega.{arith}
 use lib.ListN.{length}
 use Rattle.rdp_words.specs.Kinds.{wordsOf}
 use Rattle.rdp_words.specs.Lengths.{firstNumber, wholeWords}
@@ -11,7 +12,8 @@ use Rattle.rdp_check.specs.Commands.{commandsOf, wordsIn}
 use Rattle.rdp_check.specs.Check.{start}
 use Rattle.rdp_check.specs.Refusals.{stateAfter}
 use Rattle.rdp_index.specs.Index.{entriesOf, entryCount, buildAnswer, BuildIs, lastBefore, askedAt, askOf, replaceAnswer, withCommand, renewed, ReplaceIs}
-use Rattle.rdp_index.proofs.BuiltLaws.{through-state, ask-built, ask-most, EntryAt, entry-built, count-built}
+use Rattle.rdp_index.proofs.BuiltLaws.{through-state, ask-built, EntryAt, entry-built, count-built}
+use Rattle.rdp_index.proofs.BoundLaws.{ask-bounds}
 use Rattle.rdp_index.proofs.ReplaceLaws.{Replaced, replaced, new-whole, answer-fits, room-enough, accepted}
 use Rattle.rdp_index.proofs.RenewLaws.{kept-own, renewed-built, rebuilt}
 
@@ -37,7 +39,7 @@ entry-count = count-built
 
 -- "reads at most 64 commands", whatever the entries are
 pub reads-few : (list es : List ℕ) (place : ℕ) → askOf list es place .read ≤ 64
-reads-few = ask-most
+reads-few list es place = ask-bounds (4096 + place) (omega arith) list es place (omega arith) .read
 
 -- a replacement exchanges one command of the list and keeps all others
 pub exchanges :

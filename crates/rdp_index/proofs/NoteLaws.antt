@@ -5,14 +5,15 @@ use mathlib.Core.List.{List, [], _∷_, _++_, append-nil}
 use Prim.Native.Nat.{ℕ, zero, suc, _+_, _*_, _-_, _/_, _%_, _≤_, _<_}
 use native.Mathlib.Nat.{suc-ne-zero}
 use native.Mathlib.Omega.{arith}
-use borrow.Author.Tests.{le-ltb, lt-ltb, eq-eqb, ne-eqb}
-use lib.Dec.{eqb}
+use borrow.Author.Tests.{le-ltb, lt-ltb, eq-eqb, ne-eqb, ltb-true, ltb-false, eqb-true, eqb-false}
+use lib.Dec.{eqb, ltb}
 use lib.ListN.{length, getD, take, drop, set, length-set}
 use lib.Seq.{drop-cons, take-suc-set, append-snoc, length-take-le}
 use Rattle.rdp_words.specs.Words.{wordAt, numberIn, overwrite, pasted}
 use Rattle.rdp_words.specs.Kinds.{wordsOf}
 use Rattle.rdp_words.specs.Lengths.{firstNumber}
 use Rattle.rdp_command.specs.declared.Answer.{Answer}
+use Rattle.rdp_words.proofs.Tests.{by-test}
 use Rattle.rdp_words.proofs.PlaceLaws.{some-words}
 use Rattle.rdp_hazards.specs.Hazards.{nextOf}
 use Rattle.rdp_check.specs.Order.{answer}
@@ -60,8 +61,31 @@ module _ (list : List ℕ) where
       pub index-cut : (b : ℕ) (bs : List ℕ) → restOf list ≡ b ∷ bs → answer 3 (wordsIn (commandsOf list)) ≡ indexAnswer list
       unfolding indexAnswer outcomeWithin
       index-cut b bs e =
-          let at : judge noRefusals start 0 (commandsOf list) (b ∷ bs) .place ≡ wordsIn (commandsOf list) = omega (arith, judged-at start 0 (commandsOf list) b bs) in
+          let at : judge noRefusals start 0 (commandsOf list) (b ∷ bs) .place ≡ wordsIn (commandsOf list) =
+          omega (arith, judged-at start 0 (commandsOf list) b bs) in
           rw (le-ltb 32768 (length list) short, eq-eqb _ _ words, e, judged-cut start 0 (commandsOf list) b bs, at)
+
+-- ---- what 0 says of a list
+
+pub record Whole (list : List ℕ) : Type 0 where
+  pub short : length list ≤ 32768
+  pub words : length list % 8 ≡ 0
+  pub none : restOf list ≡ []
+  pub counted : indexAnswer list .place ≡ entryCount list
+
+module _ (list : List ℕ) (z : indexAnswer list .number ≡ 0) where
+  whole-rest : length list ≤ 32768 → length list % 8 ≡ 0 → (rest : List ℕ) → restOf list ≡ rest → Whole list
+  whole-rest s w [] e = record { short = s; words = w; none = e; counted = ap (λ (a : Answer). a .place) (sym (index-whole list s w e)) }
+  whole-rest s w (b ∷ bs) e = absurd (suc-ne-zero 2 (ap (λ (a : Answer). a .number) (index-cut list s w b bs e) ∙ z))
+
+  pub index-facts : Whole list
+  index-facts =
+      by-test (ltb 32768 (length list))
+      (λ t. absurd (suc-ne-zero 0 (ap (λ (a : Answer). a .number) (index-long list (ltb-true _ _ t)) ∙ z)))
+      (λ f.
+      let s : length list ≤ 32768 = ltb-false _ _ f in
+      by-test (eqb (length list % 8) 0) (λ t. whole-rest s (eqb-true _ _ t) (restOf list) refl)
+      (λ g. absurd (suc-ne-zero 1 (ap (λ (a : Answer). a .number) (index-odd list s (eqb-false _ _ g)) ∙ z))))
 
 pub refused : (list : List ℕ) (number place : ℕ) (made : List ℕ) → answer (suc number) place ≡ indexAnswer list → IndexIs list (answer (suc number) place) made
 refused list number place made e =
@@ -129,11 +153,12 @@ module _ {list : List ℕ} {words : ℕ} {made : List ℕ} {at m left entries : 
   pub ended : words ≤ at → IndexIs list (answer 0 entries) made
   ended h =
       let short : length list ≤ 8 * at = omega (arith, t .whole) in
-      let none = none-left list at short in
-      let cs = none .commands in
-      let e : take (2 * entries) made ≡ entriesOf list = sym (append-nil (take (2 * entries) made)) ∙ ap (λ (l : List ℕ). take (2 * entries) made ++ l) (sym (ap (entriesFrom left at m) cs ∙ entries-end left at m)) ∙ t .noted in
-      let r : restOf list ≡ [] = sym (t .rest) ∙ none .rest in
-      let long : length (take (2 * entries) made) ≡ 2 * entries = length-take-le (2 * entries) made (omega (arith, few-entries, t .long)) in
+      let past = none-left list at short in
+      let done : List ℕ = take (2 * entries) made in
+      let none : entriesFrom left at m (commandsOf (drop (8 * at) list)) ≡ [] = ap (entriesFrom left at m) (past .commands) ∙ entries-end left at m in
+      let e : done ≡ entriesOf list = sym (append-nil done) ∙ ap (λ (l : List ℕ). done ++ l) (sym none) ∙ t .noted in
+      let r : restOf list ≡ [] = sym (t .rest) ∙ past .rest in
+      let long : length done ≡ 2 * entries = length-take-le (2 * entries) made (omega (arith, few-entries, t .long)) in
       let count : entries ≡ entryCount list = omega (arith, ap length e, long) in
       record {
         answers = ap (answer 0) count ∙ index-whole list in-bytes all-words r;

@@ -6,7 +6,7 @@ use Prim.Native.Nat.{ℕ, zero, suc, _+_, _*_, _-_, _/_, _≤_, _<_}
 use native.Mathlib.Nat.{lt-of-not-le}
 use native.Mathlib.Decide.{decLe}
 use native.Mathlib.Omega.{arith}
-use borrow.Author.Tests.{le-leb, lt-leb, le-ltb}
+use borrow.Author.Tests.{le-leb, lt-leb}
 use lib.ListN.{length, getD, take, drop, length-append}
 use lib.Seq.{take-at, drop-at, getD-append-add}
 use Rattle.rdp_words.specs.Words.{overwrite, pasted}
@@ -17,11 +17,11 @@ use Rattle.rdp_check.specs.Order.{answer}
 use Rattle.rdp_check.specs.Commands.{commandsOf, wordsIn}
 use Rattle.rdp_check.proofs.ListLaws.{head}
 use Rattle.rdp_check.proofs.JoinLaws.{command-some}
-use Rattle.rdp_index.specs.Index.{entriesFrom, entriesOf, entryCount, indexAnswer, roomAnswer, buildOut, BuildIs, lastBefore, withCommand, renewed}
+use Rattle.rdp_index.specs.Index.{entriesFrom, entriesOf, entryCount, indexAnswer, buildOut, BuildIs, lastBefore, withCommand, renewed}
 use Rattle.rdp_index.specs.Steps.{Fitting}
 use Rattle.rdp_index.proofs.BuiltLaws.{double, entries-beyond}
-use Rattle.rdp_index.proofs.ReplaceLaws.{replaced, same-entries, index-facts}
-use Rattle.rdp_index.proofs.NoteLaws.{index-whole}
+use Rattle.rdp_index.proofs.ReplaceLaws.{room-fits, replaced, same-entries}
+use Rattle.rdp_index.proofs.NoteLaws.{index-whole, index-facts}
 
 -- the entries of commands and of the one that follows them
 upTo : ℕ → ℕ → ℕ → List (List ℕ) → List ℕ
@@ -120,7 +120,8 @@ module _ (place : ℕ) (front : List ℕ) (k : ℕ) (es : List ℕ) (p : Parts p
       let j : ℕ = i - k in
       let at : length front + 2 * j ≡ 2 * i = omega arith in
       let inside : 2 * j < length (p .later) = omega (arith, length-append front (p .later)) in
-      subst (λ (n : ℕ). place < n) (sym (ap (λ (x : ℕ). getD (front ++ p .later) x 0) (sym at) ∙ getD-append-add front (p .later) (2 * j) 0)) (p .beyond j inside)))
+      let same = ap (λ (x : ℕ). getD (front ++ p .later) x 0) (sym at) ∙ getD-append-add front (p .later) (2 * j) 0 in
+      subst (λ (n : ℕ). place < n) (sym same) (p .beyond j inside)))
 
 -- ---- the entries of a list
 
@@ -158,12 +159,15 @@ renewed-built list more place new f =
     let p′ = own-parts list′ before (head new) (r .after) (r .commands′) in
     let long : length front ≡ 2 * k = own-long list before (r .command) (r .after) (r .commands) in
     let kept : lastBefore place (entriesOf list′) (length (entriesOf list′) / 2) ≡ k =
-    subst (λ (x : ℕ). lastBefore x (entriesOf list′) (length (entriesOf list′) / 2) ≡ k) (r .here) (kept-own list′ before (head new) (r .after) (r .commands′)) in
+    subst (λ (x : ℕ). lastBefore x (entriesOf list′) (length (entriesOf list′) / 2) ≡ k) (r .here)
+    (kept-own list′ before (head new) (r .after) (r .commands′)) in
     let old : entriesOf list ++ more ≡ front ++ (p .later ++ more) = ap (λ (l : List ℕ). l ++ more) (p .all) ∙ append-assoc front (p .later) more in
     let fresh : drop (2 * k) (entriesOf list′) ≡ p′ .later = ap (drop (2 * k)) (p′ .all) ∙ drop-at front (p′ .later) (2 * k) long in
     let equal : length (p .later) ≡ length (p′ .later) =
-    omega (arith, same-entries list (entriesOf list ++ more) place new f, ap length (p .all), ap length (p′ .all), length-append front (p .later), length-append front (p′ .later)) in
-    ap (λ (n : ℕ). take (2 * n) (entriesOf list ++ more) ++ (drop (2 * n) (entriesOf list′) ++ drop (length (drop (2 * n) (entriesOf list′))) (drop (2 * n) (entriesOf list ++ more)))) kept ∙
+    let old-long = ap length (p .all) ∙ length-append front (p .later) in
+    let new-long = ap length (p′ .all) ∙ length-append front (p′ .later) in
+    omega (arith, same-entries list (entriesOf list ++ more) place new f, old-long, new-long) in
+    ap (λ (n : ℕ). pasted (2 * n) (drop (2 * n) (entriesOf list′)) (entriesOf list ++ more)) kept ∙
     (λ i. take (2 * k) (old i) ++ (fresh i ++ drop (length (fresh i)) (drop (2 * k) (old i)))) ∙
     (λ i. take-at front (p .later ++ more) (2 * k) long i ++ (p′ .later ++ drop (length (p′ .later)) (drop-at front (p .later ++ more) (2 * k) long i))) ∙
     ap (λ (l : List ℕ). front ++ (p′ .later ++ l)) (drop-at (p .later) more (length (p′ .later)) equal) ∙
@@ -172,14 +176,13 @@ renewed-built list more place new f =
 -- building again into the entries and what follows them answers 0 and changes nothing
 pub rebuilt :
     (list more : List ℕ) → indexAnswer list .number ≡ 0 → BuildIs list (entriesOf list ++ more) (answer 0 (entryCount list)) (entriesOf list ++ more)
-unfolding roomAnswer buildOut overwrite
+unfolding buildOut overwrite
 rebuilt list more z =
     let w = index-facts list z in
     let es : List ℕ = entriesOf list in
     let index = index-whole list (w .short) (w .words) (w .none) in
-    let room : entryCount list ≤ length (es ++ more) / 2 = omega (arith, length-append es more) in
-    let fits = le-ltb (length (es ++ more) / 2) (entryCount list) room in
+    let fits = room-fits list (length (es ++ more) / 2) (omega (arith, length-append es more)) in
     record {
-      answers = rw (← index, fits);
+      answers = rw (← index) (sym fits);
       writes = rw (← index, fits) (ap (λ (l : List ℕ). es ++ l) (sym (drop-at es more (length es) refl)));
     }

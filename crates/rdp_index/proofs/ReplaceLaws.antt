@@ -1,11 +1,11 @@
--- Replacing a command: its place, the refusals, the new list and the later entries. Assumes nothing.
+-- Replacing a command: the refusals, the new list and the later entries. Assumes nothing.
 use mathlib.Core.Path.{_≡_, refl, sym, ap, _∙_, subst}
-use mathlib.Core.Bool.{Bool, true, false, not, _||_, true≢false}
+use mathlib.Core.Bool.{Bool, true, false, not}
 use mathlib.Core.List.{List, [], _∷_, _++_, nil≢cons, head-eq-of-cons-eq}
-use Prim.Native.Nat.{ℕ, zero, suc, _+_, _*_, _-_, _/_, _%_, _≤_, _<_}
-use native.Mathlib.Nat.{le-refl, suc-ne-zero, suc-inj}
+use Prim.Native.Nat.{ℕ, zero, suc, _+_, _*_, _-_, _/_, _%_, _≤_}
+use native.Mathlib.Nat.{le-refl, suc-ne-zero}
 use native.Mathlib.Omega.{arith}
-use borrow.Author.Tests.{le-ltb, eq-eqb, ne-eqb, ltb-true, ltb-false, eqb-true, eqb-false, not-false}
+use borrow.Author.Tests.{le-ltb, eq-eqb, ne-eqb, ltb-false, eqb-true, eqb-false, not-false}
 use lib.Dec.{eqb, ltb}
 use lib.ListN.{length, take, drop, length-append}
 use lib.Seq.{getD-take, take-at, drop-at}
@@ -14,90 +14,17 @@ use Rattle.rdp_words.specs.Kinds.{wordsOf}
 use Rattle.rdp_words.specs.Lengths.{firstNumber, wholeWords}
 use Rattle.rdp_command.specs.declared.Answer.{Answer}
 use Rattle.rdp_words.proofs.Tests.{by-test}
-use Rattle.rdp_words.proofs.KindLaws.{words-most}
-use Rattle.rdp_words.proofs.PlaceLaws.{number-small, some-words, is-whole, word-drop}
+use Rattle.rdp_words.proofs.PlaceLaws.{is-whole, word-drop}
 use Rattle.rdp_check.specs.Order.{answer}
 use Rattle.rdp_check.specs.Commands.{commandsOf, restOf, wordsIn, joined}
-use Rattle.rdp_check.proofs.ListLaws.{head, commands-at, command-number, commands-past, commands-head, commands-cut}
-use Rattle.rdp_check.proofs.JoinLaws.{Alone, AllAlone, command-some, head-long, head-alone, parsed, joined-whole, joined-append, commands-joined, rest-joined, length-joined, alone-append, words-append}
-use Rattle.rdp_index.specs.Index.{askedAt, entriesFrom, entriesOf, entryCount, indexAnswer, roomAnswer, buildAnswer, lastBefore, askOf, startsAt, replaceAnswer, withCommand, renewed, ReplaceIs}
+use Rattle.rdp_check.proofs.ListLaws.{head, commands-head, commands-cut}
+use Rattle.rdp_check.proofs.JoinLaws.{Alone, AllAlone, head-long, head-alone, parsed, joined-whole, joined-append, commands-joined, rest-joined, length-joined, alone-append, words-append}
+use Rattle.rdp_index.specs.Index.{askedAt, entriesOf, entryCount, indexAnswer, roomAnswer, buildAnswer, lastBefore, askOf, startsAt, replaceAnswer, withCommand, renewed, ReplaceIs}
 use Rattle.rdp_index.specs.Steps.{IndexIs, Fitting, ReplacementIs}
 use Rattle.rdp_index.specs.declared.Asked.{Asked}
-use Rattle.rdp_index.proofs.NoteLaws.{index-long, index-odd, index-whole, index-cut}
-use Rattle.rdp_index.proofs.BuiltLaws.{hazardsThrough, commands-after, ask-built}
-
--- ---- whether a command starts at a place
-
-starts-past : (place at : ℕ) (cs : List (List ℕ)) → place < at → startsAt place at cs ≡ false
-unfolding startsAt
-starts-past place at [] h = refl
-starts-past place at (c ∷ cs) h =
-    let apart : at ≡ place → ⊥ = λ e. omega arith in
-    rw (ne-eqb _ _ apart) (starts-past place (at + wordsOf (firstNumber c)) cs (omega arith))
-
-pub record Starting (list : List ℕ) (place words at : ℕ) : Type 0 where
-  pub count : words ≡ length list / 8
-  pub within : at ≤ words
-  pub same : startsAt place at (commandsOf (drop (8 * at) list)) ≡ startsAt place 0 (commandsOf list)
-
-pub first : (list : List ℕ) (place words : ℕ) → words ≡ length list / 8 → Starting list place words 0
-first list place words e = record { count = e; within = omega arith; same = refl }
-
-module _ {list : List ℕ} {place words at : ℕ} (s : Starting list place words at) where
-  pub ended : place < at → false ≡ startsAt place 0 (commandsOf list)
-  ended h = sym (starts-past place at _ h) ∙ s .same
-
-  module _ (n : ℕ) (is : n ≡ numberIn (wordAt list at)) (count : ℕ) (long : count ≡ wordsOf n) where
-    pub few : count ≤ 22
-    few = rw (long, is) (words-most _ (number-small (wordAt list at)))
-
-    pub past : words < at + count → false ≡ startsAt place 0 (commandsOf list)
-    unfolding startsAt
-    past h =
-        let short : length list / 8 < at + wordsOf n = omega (arith, s .count) in
-        rw (← s .same, commands-past list at n is short)
-
-    pub falls : at + count ≤ words → words - (at + count) < words - at
-    falls h = omega (arith, some-words list at n is)
-
-    module _ (fits : at + count ≤ words) where
-      there : at + wordsOf n ≤ length list / 8
-      there = omega (arith, s .count)
-
-      pub found : at ≡ place → true ≡ startsAt place 0 (commandsOf list)
-      unfolding startsAt
-      found e = rw (← s .same, commands-at list at n is there, eq-eqb _ _ e)
-
-      pub again : (at ≡ place → ⊥) → Starting list place words (at + count)
-      unfolding startsAt
-      again apart =
-          record {
-            count = s .count;
-            within = fits;
-            same = rw (← s .same, commands-at list at n is there, ne-eqb _ _ apart, command-number list at n is there, long);
-          }
-
--- ---- what 0 says of a list
-
-pub record Whole (list : List ℕ) : Type 0 where
-  pub short : length list ≤ 32768
-  pub words : length list % 8 ≡ 0
-  pub none : restOf list ≡ []
-  pub counted : indexAnswer list .place ≡ entryCount list
-
-module _ (list : List ℕ) (z : indexAnswer list .number ≡ 0) where
-  whole-rest : length list ≤ 32768 → length list % 8 ≡ 0 → (rest : List ℕ) → restOf list ≡ rest → Whole list
-  whole-rest s w [] e = record { short = s; words = w; none = e; counted = ap (λ (a : Answer). a .place) (sym (index-whole list s w e)) }
-  whole-rest s w (b ∷ bs) e = absurd (suc-ne-zero 2 (ap (λ (a : Answer). a .number) (index-cut list s w b bs e) ∙ z))
-
-  pub index-facts : Whole list
-  index-facts =
-      by-test (ltb 32768 (length list))
-      (λ t. absurd (suc-ne-zero 0 (ap (λ (a : Answer). a .number) (index-long list (ltb-true _ _ t)) ∙ z)))
-      (λ f.
-      let s : length list ≤ 32768 = ltb-false _ _ f in
-      by-test (eqb (length list % 8) 0) (λ t. whole-rest s (eqb-true _ _ t) (restOf list) refl)
-      (λ g. absurd (suc-ne-zero 1 (ap (λ (a : Answer). a .number) (index-odd list s (eqb-false _ _ g)) ∙ z))))
+use Rattle.rdp_index.proofs.NoteLaws.{index-whole, Whole, index-facts}
+use Rattle.rdp_index.proofs.BuiltLaws.{hazardsThrough, commands-after, entries-count, ask-built}
+use Rattle.rdp_index.proofs.StartLaws.{Split, starts-split, starts-here}
 
 -- ---- the later entries
 
@@ -120,6 +47,11 @@ renew-by list made r i z place kept is old new e =
     e ∙ (λ j. pasted (2 * same j) (drop (2 * same j) (built j)) old)
 
 -- ---- the refusals in their order
+
+-- as many entries as there are, or more, fit
+pub room-fits : (list : List ℕ) (room : ℕ) → entryCount list ≤ room → roomAnswer room (answer 0 (entryCount list)) ≡ answer 0 (entryCount list)
+unfolding roomAnswer
+room-fits list room h = rw (le-ltb room (entryCount list) h)
 
 room-small : (room : ℕ) (a : Answer) → eqb (a .number) 0 ≡ true → ltb room (a .place) ≡ true → roomAnswer room a ≡ answer 14 (a .place)
 unfolding roomAnswer
@@ -190,30 +122,6 @@ module _ (list es : List ℕ) (place : ℕ) (new : List ℕ) (b : Answer) (is-b 
 
 -- ---- the new list
 
--- a command that starts at a place stands among the commands
-record Split (place at : ℕ) (cs : List (List ℕ)) : Type 0 where
-  before : List (List ℕ)
-  command : List ℕ
-  after : List (List ℕ)
-  all : cs ≡ before ++ command ∷ after
-  here : at + wordsIn before ≡ place
-
-starts-split : (place at : ℕ) (cs : List (List ℕ)) → startsAt place at cs ≡ true → Split place at cs
-unfolding startsAt
-starts-split place at [] t = absurd (true≢false (sym t))
-starts-split place at (c ∷ cs) t =
-    by-test (eqb at place)
-    (λ e. record { before = []; command = c; after = cs; all = refl; here = omega (arith, eqb-true at place e) })
-    (λ f.
-    let s = starts-split place (at + wordsOf (firstNumber c)) cs (sym (ap (λ (b : Bool). b || startsAt place (at + wordsOf (firstNumber c)) cs) f) ∙ t) in
-    record {
-      before = c ∷ s .before;
-      command = s .command;
-      after = s .after;
-      all = ap (λ (l : List (List ℕ)). c ∷ l) (s .all);
-      here = omega (arith, s .here);
-    })
-
 alone-before : (us cs : List (List ℕ)) → AllAlone (us ++ cs) → AllAlone us
 alone-before [] cs h = tt
 alone-before (u ∷ us) cs h = (h .0, alone-before us cs (h .1))
@@ -227,16 +135,19 @@ module _ (bs : List ℕ) (there : wholeWords bs ≡ 0 → ⊥) where
   head-words : wordsOf (firstNumber (head bs)) ≡ wholeWords bs
   head-words = omega (arith, head-long bs there, head-alone bs there)
 
--- how many entries there are goes by how many commands there are
-entries-length :
-    (k at m at′ m′ : ℕ) (cs ds : List (List ℕ)) → length cs ≡ length ds → length (entriesFrom k at m cs) ≡ length (entriesFrom k at′ m′ ds)
-unfolding entriesFrom
-entries-length zero at m at′ m′ [] [] e = refl
-entries-length (suc k) at m at′ m′ [] [] e = refl
-entries-length k at m at′ m′ [] (d ∷ ds) e = absurd (suc-ne-zero (length ds) (sym e))
-entries-length k at m at′ m′ (c ∷ cs) [] e = absurd (suc-ne-zero (length cs) e)
-entries-length zero at m at′ m′ (c ∷ cs) (d ∷ ds) e = ap (λ (n : ℕ). suc (suc n)) (entries-length 63 _ _ _ _ cs ds (suc-inj e))
-entries-length (suc k) at m at′ m′ (c ∷ cs) (d ∷ ds) e = entries-length k _ _ _ _ cs ds (suc-inj e)
+-- the words of the command at a place
+words-at :
+    (list : List ℕ) (us : List (List ℕ)) (c : List ℕ) (cs : List (List ℕ)) → commandsOf list ≡ us ++ c ∷ cs →
+    wordsOf (firstNumber c) ≡ wordsOf (numberIn (wordAt list (wordsIn us)))
+words-at list us c cs e =
+    let from : List ℕ = drop (8 * wordsIn us) list in
+    let here : commandsOf from ≡ c ∷ cs = commands-after us list (c ∷ cs) e in
+    let whole : wholeWords from ≡ 0 → ⊥ = λ z. nil≢cons (sym (commands-cut from z) ∙ here) in
+    let same : head from ≡ c = head-eq-of-cons-eq (sym (commands-head from whole) ∙ here) in
+    ap (λ (x : List ℕ). wordsOf (firstNumber x)) (sym same) ∙
+    head-words from whole ∙
+    is-whole from whole .words ∙
+    ap (λ (w : ℕ). wordsOf (numberIn w)) (word-drop list (wordsIn us))
 
 -- the new list has the commands of the old one but for the one at the place, which is the new one
 pub record Replaced (list : List ℕ) (place : ℕ) (new list′ : List ℕ) : Type 0 where
@@ -273,22 +184,9 @@ module _ (list es : List ℕ) (place : ℕ) (new : List ℕ) (f : Fitting list e
   words-here : wordsIn us ≡ place
   words-here = omega (arith, split .here)
 
-  commands-here : commandsOf (drop (8 * place) list) ≡ c ∷ cs
-  commands-here = ap (λ (k : ℕ). commandsOf (drop (8 * k) list)) (sym words-here) ∙ commands-after us list (c ∷ cs) (split .all)
-
-  whole-here : wholeWords (drop (8 * place) list) ≡ 0 → ⊥
-  whole-here z = nil≢cons (sym (commands-cut (drop (8 * place) list) z) ∙ commands-here)
-
-  c-head : head (drop (8 * place) list) ≡ c
-  c-head = head-eq-of-cons-eq (sym (commands-head (drop (8 * place) list) whole-here) ∙ commands-here)
-
   c-words : wordsOf (firstNumber c) ≡ wholeWords new
   c-words =
-      ap (λ (x : List ℕ). wordsOf (firstNumber x)) (sym c-head) ∙
-      head-words (drop (8 * place) list) whole-here ∙
-      is-whole (drop (8 * place) list) whole-here .words ∙
-      ap (λ (w : ℕ). wordsOf (numberIn w)) (word-drop list place) ∙
-      sym (f .equal)
+      words-at list us c cs (split .all) ∙ ap (λ (p : ℕ). wordsOf (numberIn (wordAt list p))) words-here ∙ sym (f .equal)
 
   d-words : wordsOf (firstNumber d) ≡ wholeWords new
   d-words = head-words new (f .some)
@@ -354,7 +252,9 @@ module _ (list es : List ℕ) (place : ℕ) (new : List ℕ) (f : Fitting list e
       length-append (r .before) (head new ∷ r .after) ∙
       sym (length-append (r .before) (r .command ∷ r .after)) ∙
       ap length (sym (r .commands)) in
-      entries-length 0 0 0 0 0 (commandsOf list′) (commandsOf list) count
+      entries-count 0 0 0 (commandsOf list′) (omega arith) ∙
+      ap (λ (n : ℕ). 2 * ((n + 63 - 0) / 64)) count ∙
+      sym (entries-count 0 0 0 (commandsOf list) (omega arith))
 
   pub new-whole : (indexAnswer (withCommand list place new) .number ≡ 0) × (indexAnswer (withCommand list place new) .place ≡ indexAnswer list .place)
   new-whole =
@@ -417,37 +317,6 @@ room-enough list old z = index-facts list (room-zero (length old / 2) (indexAnsw
 
 -- ---- what is accepted
 
-starts-here : (at : ℕ) (us : List (List ℕ)) (c : List ℕ) (cs : List (List ℕ)) → startsAt (at + wordsIn us) at (us ++ c ∷ cs) ≡ true
-unfolding startsAt
-starts-here at [] c cs =
-    let e : at ≡ at + 0 = omega arith in
-    rw (eq-eqb _ _ e)
-starts-here at (u ∷ us) c cs =
-    let some : 1 ≤ wordsOf (firstNumber u) = command-some u in
-    let apart : at ≡ at + wordsIn (u ∷ us) → ⊥ = λ e. omega arith in
-    let w : at + wordsOf (firstNumber u) + wordsIn us ≡ at + wordsIn (u ∷ us) = omega arith in
-    rw (ne-eqb _ _ apart)
-    (subst (λ (p : ℕ). startsAt p (at + wordsOf (firstNumber u)) (us ++ c ∷ cs) ≡ true) w (starts-here (at + wordsOf (firstNumber u)) us c cs))
-
--- as many entries as there are fit
-room-just : (list : List ℕ) → roomAnswer (length (entriesOf list) / 2) (answer 0 (entryCount list)) ≡ answer 0 (entryCount list)
-unfolding roomAnswer
-room-just list = rw (le-ltb (length (entriesOf list) / 2) (length (entriesOf list) / 2) (le-refl _))
-
--- the words of the command at a place
-words-at :
-    (list : List ℕ) (us : List (List ℕ)) (c : List ℕ) (cs : List (List ℕ)) → commandsOf list ≡ us ++ c ∷ cs →
-    wordsOf (firstNumber c) ≡ wordsOf (numberIn (wordAt list (wordsIn us)))
-words-at list us c cs e =
-    let from : List ℕ = drop (8 * wordsIn us) list in
-    let here : commandsOf from ≡ c ∷ cs = commands-after us list (c ∷ cs) e in
-    let whole : wholeWords from ≡ 0 → ⊥ = λ z. nil≢cons (sym (commands-cut from z) ∙ here) in
-    let same : head from ≡ c = head-eq-of-cons-eq (sym (commands-head from whole) ∙ here) in
-    ap (λ (x : List ℕ). wordsOf (firstNumber x)) (sym same) ∙
-    head-words from whole ∙
-    is-whole from whole .words ∙
-    ap (λ (w : ℕ). wordsOf (numberIn w)) (word-drop list (wordsIn us))
-
 -- for entries built from this list, a whole command of equal length is taken at the place of every command
 pub accepted :
     (list old : List ℕ) → buildAnswer list old .number ≡ 0 →
@@ -459,9 +328,11 @@ accepted list old z us c cs e new some equal =
     let place : ℕ = wordsIn us in
     let w = room-enough list old z in
     let index = index-whole list (w .short) (w .words) (w .none) in
+    let room = ap (roomAnswer (length es / 2)) (sym index) ∙ room-fits list (entryCount list) (le-refl _) in
+    let asked = ask-built list us c cs (w .short) (w .words) e in
     let zero-place : 0 + place ≡ place = omega arith in
     let starts : true ≡ startsAt place 0 (commandsOf list) =
     sym (ap (startsAt place 0) e ∙ subst (λ (p : ℕ). startsAt p 0 (us ++ c ∷ cs) ≡ true) zero-place (starts-here 0 us c cs)) in
     sym
-    (fitting list es place new (answer 0 (entryCount list)) (sym (ap (roomAnswer (length es / 2)) (sym index) ∙ room-just list)) refl (askedAt place (hazardsThrough 0 us) (length us % 64 + 1))
-    (sym (ask-built list us c cs (w .short) (w .words) e)) refl true starts refl (wholeWords new) refl some (wordsOf (firstNumber c)) (words-at list us c cs e) equal .answers)
+    (fitting list es place new (answer 0 (entryCount list)) (sym room) refl (askedAt place (hazardsThrough 0 us) (length us % 64 + 1)) (sym asked) refl true starts
+    refl (wholeWords new) refl some (wordsOf (firstNumber c)) (words-at list us c cs e) equal .answers)

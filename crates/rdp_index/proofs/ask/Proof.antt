@@ -9,7 +9,9 @@ refused-requires : tie.Need-refused-requires
 refused-requires c κs = search needs
 
 returns : tie.Need-returns
-returns c = let a = c .before .before .before .before .args in c .refused .ensures ∙ ask-long (a .list .now) (a .entries .now) (a .place) (c .before .if1 .taken)
+returns c =
+    let a = c .before .before .before .before .args in
+    c .refused .ensures ∙ ask-long (a .list .now) (a .entries .now) (a .place) (c .before .if1 .taken)
 
 cast-refused : tie.Need-cast-refused
 cast-refused c = search needs
@@ -18,7 +20,9 @@ refused-requires-2 : tie.Need-refused-requires-2
 refused-requires-2 c κs = search needs
 
 returns-2 : tie.Need-returns-2
-returns-2 c = let a = c .before .before .before .before .before .args in c .refused2 .ensures ∙ ask-odd (a .list .now) (a .entries .now) (a .place) (c .before .before .if1 .left) (c .before .if2 .taken)
+returns-2 c =
+    let a = c .before .before .before .before .before .args in
+    c .refused2 .ensures ∙ ask-odd (a .list .now) (a .entries .now) (a .place) (c .before .before .if1 .left) (c .before .if2 .taken)
 
 last-before-requires : tie.Need-last-before-requires
 last-before-requires c κs = search needs
@@ -31,7 +35,8 @@ returns-3 c =
     let l = c .before .before in
     let t = l .before in
     let a = t .before .before .before .before .args in
-    c .refused3 .ensures ∙ ask-none (a .list .now) (a .entries .now) (a .place) (t .before .if1 .left) (t .if2 .left) _ (l .last-before .ensures .0) (c .before .if3 .taken)
+    c .refused3 .ensures ∙
+    ask-none (a .list .now) (a .entries .now) (a .place) (t .before .if1 .left) (t .if2 .left) _ (l .last-before .ensures .0) (c .before .if3 .taken)
 
 sub-entry : tie.Need-sub-entry
 sub-entry c = search needs
@@ -63,8 +68,8 @@ returns-4 c =
     let t = l .before in
     let a = t .before .before .before .before .args in
     c .refused4 .ensures ∙
-    ask-high (a .list .now) (a .entries .now) (a .place) (t .before .if1 .left) (t .if2 .left) _ (l .last-before .ensures .0) (c .before .before .before .before .if3 .left)
-    (c .before .if4 .taken)
+    ask-high (a .list .now) (a .entries .now) (a .place) (t .before .if1 .left) (t .if2 .left) _ (l .last-before .ensures .0)
+    (c .before .before .before .before .if3 .left) (c .before .if4 .taken)
 
 step-table-requires : tie.Need-step-table-requires
 step-table-requires c κs = search needs

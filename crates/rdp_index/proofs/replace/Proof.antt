@@ -50,8 +50,8 @@ returns-2 c =
     let p = c .before .before .before .before .before .before .before in
     let r = p .before .before .before in
     let a = r .before .before .before .before .before .before .args in
-    replace-done (a .list .now) (a .entries .now) (a .place) (a .new .now) _ (r .replacement .ensures) (p .before .before .if1 .left) _ _ (p .put-command .ensures)
-    (c .before .before .renew .ensures)
+    replace-done (a .list .now) (a .entries .now) (a .place) (a .new .now) _ (r .replacement .ensures) (p .before .before .if1 .left) _ _
+    (p .put-command .ensures) (c .before .before .renew .ensures)
 
 pub replace-spec : {M : Type 1} → statement M
 replace-spec =

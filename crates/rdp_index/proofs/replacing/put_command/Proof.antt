@@ -59,7 +59,8 @@ returns c =
     let words = whole .whole-words .ensures in
     let all : count - 0 ≡ count = omega arith in
     let long : length (take (count - 0) new) ≡ count = ap (λ (k : ℕ). length (take k new)) all ∙ length-take-le count new (words .1) in
-    part-copied (take (count - 0) new) list (copied .copy .last .0) at (at + count) (omega (arith, long)) (omega (arith, words .0, s .pre)) (copied .copy .ensures) ∙
+    part-copied (take (count - 0) new) list (copied .copy .last .0) at (at + count) (omega (arith, long)) (omega (arith, words .0, s .pre))
+    (copied .copy .ensures) ∙
     ap (λ (k : ℕ). pasted at (take k new) list) (all ∙ ap (λ (n : ℕ). 8 * n) (words .0))
 
 pub put-command-spec : {M : Type 1} → statement M

@@ -53,7 +53,8 @@ returns : tie.Need-returns
 returns c =
     let i = c .before .before .before .before .before .before .before .before .before in
     let a = i .before .before .before .before in
-    renew-by (a .args .list .now) _ _ (i .index-into .ensures) (a .pre .0) (a .args .place) _ (c .before .before .before .before .before .last-before .ensures .0) _ _
+    renew-by (a .args .list .now) _ _ (i .index-into .ensures) (a .pre .0) (a .args .place) _
+    (c .before .before .before .before .before .last-before .ensures .0) _ _
     (c .before .before .copy-part .ensures)
 
 pub renew-spec : {M : Type 1} → statement M

@@ -23,7 +23,8 @@ returns-2 c =
     let q = c .before in
     let b = q .before .before in
     let a = b .before .before .before .before .args in
-    refuse-asked (a .list .now) (a .entries .now) (a .place) (a .new .now) _ (b .room-answer .ensures) (q .before .if1 .left) _ (q .ask .ensures) (c .if2 .taken)
+    refuse-asked (a .list .now) (a .entries .now) (a .place) (a .new .now) _ (b .room-answer .ensures) (q .before .if1 .left) _
+    (q .ask .ensures) (c .if2 .taken)
 
 starts-at-requires : tie.Need-starts-at-requires
 starts-at-requires c κs = search needs
@@ -34,7 +35,8 @@ returns-3 c =
     let q = s .before .before in
     let b = q .before .before in
     let a = b .before .before .before .before .args in
-    refuse-start (a .list .now) (a .entries .now) (a .place) (a .new .now) _ (b .room-answer .ensures) (q .before .if1 .left) _ (q .ask .ensures) (s .before .if2 .left) _
+    refuse-start (a .list .now) (a .entries .now) (a .place) (a .new .now) _ (b .room-answer .ensures) (q .before .if1 .left) _
+    (q .ask .ensures) (s .before .if2 .left) _
     (s .starts-at .ensures) (c .if3 .taken)
 
 whole-words-requires : tie.Need-whole-words-requires
@@ -47,7 +49,8 @@ returns-4 c =
     let q = s .before .before in
     let b = q .before .before in
     let a = b .before .before .before .before .args in
-    refuse-cut (a .list .now) (a .entries .now) (a .place) (a .new .now) _ (b .room-answer .ensures) (q .before .if1 .left) _ (q .ask .ensures) (s .before .if2 .left) _
+    refuse-cut (a .list .now) (a .entries .now) (a .place) (a .new .now) _ (b .room-answer .ensures) (q .before .if1 .left) _
+    (q .ask .ensures) (s .before .if2 .left) _
     (s .starts-at .ensures) (w .before .if3 .left) _ (w .whole-words .ensures .0) (c .if4 .taken)
 
 number-at-requires : tie.Need-number-at-requires
@@ -64,7 +67,8 @@ returns-5 c =
     let q = s .before .before in
     let b = q .before .before in
     let a = b .before .before .before .before .args in
-    refuse-length (a .list .now) (a .entries .now) (a .place) (a .new .now) _ (b .room-answer .ensures) (q .before .if1 .left) _ (q .ask .ensures) (s .before .if2 .left) _
+    refuse-length (a .list .now) (a .entries .now) (a .place) (a .new .now) _ (b .room-answer .ensures) (q .before .if1 .left) _
+    (q .ask .ensures) (s .before .if2 .left) _
     (s .starts-at .ensures) (w .before .if3 .left) _ (w .whole-words .ensures .0) (h .before .if4 .left) _
     (c .before .words-of .ensures ∙ ap wordsOf (h .number-at .ensures)) (c .if5 .taken)
 
@@ -76,7 +80,8 @@ returns-6 c =
     let q = s .before .before in
     let b = q .before .before in
     let a = b .before .before .before .before .args in
-    fitting (a .list .now) (a .entries .now) (a .place) (a .new .now) _ (b .room-answer .ensures) (q .before .if1 .left) _ (q .ask .ensures) (s .before .if2 .left) _
+    fitting (a .list .now) (a .entries .now) (a .place) (a .new .now) _ (b .room-answer .ensures) (q .before .if1 .left) _
+    (q .ask .ensures) (s .before .if2 .left) _
     (s .starts-at .ensures) (w .before .if3 .left) _ (w .whole-words .ensures .0) (h .before .if4 .left) _
     (c .before .words-of .ensures ∙ ap wordsOf (h .number-at .ensures)) (c .if5 .left)
 

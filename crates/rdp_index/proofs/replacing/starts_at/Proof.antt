@@ -3,7 +3,7 @@
 use mathlib.Core.Path.{refl}
 use Prim.Native.Nat.{_-_}
 use native.Mathlib.Omega.{arith}
-use Rattle.rdp_index.proofs.ReplaceLaws.{Starting, first, ended, few, past, falls, found, again}
+use Rattle.rdp_index.proofs.StartLaws.{Starting, first, ended, few, past, falls, found, again}
 use borrow.Author.Needs.{needs}
 use Rattle.rdp_index.proofs.replacing.starts_at.Statement.{statement}
 use Rattle.rdp_index.proofs.replacing.starts_at.Tie as tie
@@ -24,19 +24,27 @@ words-of-requires : tie.Need-words-of-requires Inv-loop μ-loop
 words-of-requires c κs = search needs
 
 add-next : tie.Need-add-next Inv-loop μ-loop
-add-next c = let v = c .before .before .before .loop .inv in omega (arith, few (c .before .before .before .loop .inv) _ (c .before .number-at .ensures) _ (c .words-of .ensures), v .within, v .count)
+add-next c =
+    let v = c .before .before .before .loop .inv in
+    omega (arith, few v _ (c .before .number-at .ensures) _ (c .words-of .ensures), v .within, v .count)
 
 returns : tie.Need-returns Inv-loop μ-loop
 returns c = past (c .before .before .before .before .loop .inv) _ (c .before .before .number-at .ensures) _ (c .before .words-of .ensures) (c .if1 .taken)
 
 returns-2 : tie.Need-returns-2 Inv-loop μ-loop
-returns-2 c = found (c .before .before .before .before .before .loop .inv) _ (c .before .before .before .number-at .ensures) _ (c .before .before .words-of .ensures) (c .before .if1 .left) (c .if2 .taken)
+returns-2 c =
+    let n = c .before .before .before in
+    found (n .before .before .loop .inv) _ (n .number-at .ensures) _ (c .before .before .words-of .ensures) (c .before .if1 .left) (c .if2 .taken)
 
 loop-less : tie.Need-loop-less Inv-loop μ-loop
-loop-less c = falls (c .before .before .before .before .before .loop .inv) _ (c .before .before .before .number-at .ensures) _ (c .before .before .words-of .ensures) (c .before .if1 .left)
+loop-less c =
+    let n = c .before .before .before in
+    falls (n .before .before .loop .inv) _ (n .number-at .ensures) _ (c .before .before .words-of .ensures) (c .before .if1 .left)
 
 loop-again : tie.Need-loop-again Inv-loop μ-loop
-loop-again c = again (c .before .before .before .before .before .loop .inv) _ (c .before .before .before .number-at .ensures) _ (c .before .before .words-of .ensures) (c .before .if1 .left) (c .if2 .left)
+loop-again c =
+    let n = c .before .before .before in
+    again (n .before .before .loop .inv) _ (n .number-at .ensures) _ (c .before .before .words-of .ensures) (c .before .if1 .left) (c .if2 .left)
 
 returns-3 : tie.Need-returns-3 Inv-loop μ-loop
 returns-3 c = ended (c .before .loop .inv) (c .loop-test .left)
