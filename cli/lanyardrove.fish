@@ -1,6 +1,6 @@
 # fish completion for lanyardrove
 
-set -l lists check repair dump draw report
+set -l lists check repair dump draw report edit
 set -l commands $lists translate
 
 complete -c lanyardrove -n "not __fish_seen_subcommand_from $commands help" -f
@@ -16,7 +16,7 @@ complete -c lanyardrove -n "__fish_seen_subcommand_from check" -l all -d "every 
 complete -c lanyardrove -n "__fish_seen_subcommand_from check" -l format -x -a "text gcc github json sarif"
 
 complete -c lanyardrove -n "__fish_seen_subcommand_from repair" -l check -d "write nothing"
-complete -c lanyardrove -n "__fish_seen_subcommand_from repair" -s i -l in-place -d "write each list over itself"
+complete -c lanyardrove -n "__fish_seen_subcommand_from repair edit" -s i -l in-place -d "write each list over itself"
 
 complete -c lanyardrove -n "__fish_seen_subcommand_from dump" -l brief -d "leave out fields that are 0"
 complete -c lanyardrove -n "__fish_seen_subcommand_from dump" -l from -x
@@ -28,7 +28,7 @@ complete -c lanyardrove -n "__fish_seen_subcommand_from draw report translate" -
 complete -c lanyardrove -n "__fish_seen_subcommand_from draw report" -l texture -r -F
 complete -c lanyardrove -n "__fish_seen_subcommand_from draw" -l image -x
 
-complete -c lanyardrove -n "__fish_seen_subcommand_from repair draw report translate" -s o -l output -r -F
+complete -c lanyardrove -n "__fish_seen_subcommand_from repair draw report translate edit" -s o -l output -r -F
 
 complete -c lanyardrove -n "__fish_seen_subcommand_from check dump draw report" -l f3dex2 -x
 complete -c lanyardrove -n "__fish_seen_subcommand_from $lists" -l offset -x

@@ -108,7 +108,8 @@ static const Option options[] = {
       "where the display list begins in the memory; 0 if not\ngiven" },
     { OF_REPAIR, "check", 0, FLAG(dry), "write nothing; status 1 where a sync would be inserted" },
     { OF_REPAIR, "in-place", 'i', FLAG(in_place), "write each list over itself, where a sync is inserted" },
-    { OF_REPAIR, "output", 'o', OUTPUT, "the file to write; it may be FILE itself" },
+    { OF_EDIT, "in-place", 'i', FLAG(in_place), "write the list over itself" },
+    { OF_REPAIR | OF_EDIT, "output", 'o', OUTPUT, "the file to write; it may be FILE itself" },
     { OF_DRAW, "output", 'o', OUTPUT,
       "the file to write: .png or .ppm for the picture, .bin for\n"
       "all of memory, or with --image for the picture's bytes" },
