@@ -1,6 +1,6 @@
 /*
- * Lanyardrove: checks, repairs, draws, decodes and encodes command lists of the Nintendo 64's display processor (RDP), and
- * translates the display lists of games into them.
+ * Lanyardrove: checks, repairs, draws, decodes, encodes and compares command lists of the Nintendo 64's display processor
+ * (RDP), and translates the display lists of games into them.
  *
  * Link with build/liblanyardrove.a (`make`) and the C library. The functions allocate nothing, keep no state between calls,
  * use less than 8 KiB of stack and touch only the bytes that they are lent, so calls on different buffers may run at the
@@ -8,15 +8,15 @@
  *
  * A list is 64-bit words, most significant byte first, at any alignment. Places are counted in words from 0.
  *
- * Lent bytes. Each buffer is a pointer and a length, in bytes for bytes and in elements for 64-bit numbers; the pointer
- * may be null where the length is 0. Pointers to 64-bit numbers are aligned as the platform asks, no buffer is longer
+ * Lent bytes. Each buffer is a pointer and a length, in bytes for bytes and in elements for 32- and 64-bit numbers; the pointer
+ * may be null where the length is 0. Pointers to such numbers are aligned as the platform asks, no buffer is longer
  * than PTRDIFF_MAX bytes, and a buffer that is written overlaps no other buffer of the call: C cannot check these three,
  * and they are the caller's to keep. Every content and every length is otherwise allowed. A record is lent by its pointer,
  * which is never null.
  *
  * Answers. Each function but lanyardrove_version and lanyardrove_words answers one 64-bit number, whose parts
  * lanyardrove_number, lanyardrove_place and lanyardrove_third give (or by their meaning _cause, _cycles, _command,
- * _commands_read, _hazards, _required). Number 0 says that all went well; any other is the first refusal that holds: 1 and 2
+ * _commands_read, _list, _hazards, _required). Number 0 says that all went well; any other is the first refusal that holds: 1 and 2
  * of the list, then command by command 3, 4, 19, 5, 6 and 7 to 9, then those that the function adds, in the order of its
  * description. A refusal leaves every byte as it was, but for the repair's work buffer at 14 and a stream's record, which
  * remembers it.
@@ -36,13 +36,13 @@ extern "C" {
    A release steps the major number where a function of the last release is gone, takes other parameters, or answers or
    writes anything else for some input; else the minor number where a function is added; else the patch number. The numbers
    after the one that steps become 0. */
-#define LANYARDROVE_VERSION 0x060100
+#define LANYARDROVE_VERSION 0x060200
 
 uint32_t lanyardrove_version(void);
 
 /* The number of an answer, with the place that it has. */
 enum lanyardrove_ground {
-    LANYARDROVE_ACCEPTED = 0,           /* Accepted; the place is the words of the list, or the words or fields written. */
+    LANYARDROVE_ACCEPTED = 0,           /* Accepted; the place is the words of the list, or the words, fields or numbers written. */
     LANYARDROVE_TOO_LONG = 1,           /* The list is over 32,768 bytes (repair: 16,384); place 4,096 (repair: 2,048). */
     LANYARDROVE_NOT_WORDS = 2,          /* The byte length is no multiple of 8; place length / 8, rounded down. */
     LANYARDROVE_PAST_END = 3,           /* A command runs past the end of the list; place its first word. */
@@ -83,13 +83,15 @@ static inline uint32_t lanyardrove_place(uint64_t answer) { return (uint32_t)ans
 static inline uint32_t lanyardrove_third(uint64_t answer) { return (uint32_t)(answer >> 32) & 0xFFFFFFu; }
 
 /* The third number by its meaning: the cause that the check gives; the cycles, of a repair those that it inserted, of a stream
-   those that its syncs have waited; the number of a decoded command; the display list commands that translating has read.
-   Those of a repair and of decoding are 0 at a refusal. In the answers of drawing and encoding the third number is 0.
+   those that its syncs have waited; the number of a decoded command; the display list commands that translating has read; the
+   list that a rest is of. Those of a repair, of decoding and of a rest are 0 at a refusal. In the answers of drawing, encoding
+   and comparing the third number is 0.
    Of a step's answer the place is the hazards after it, and the third number's low two bits are the sync required. */
 static inline uint32_t lanyardrove_cause(uint64_t checked) { return lanyardrove_third(checked); }
 static inline uint32_t lanyardrove_cycles(uint64_t repaired_or_fed) { return lanyardrove_third(repaired_or_fed); }
 static inline uint32_t lanyardrove_command(uint64_t decoded) { return lanyardrove_third(decoded); }
 static inline uint32_t lanyardrove_commands_read(uint64_t translated) { return lanyardrove_third(translated); }
+static inline uint32_t lanyardrove_list(uint64_t rest) { return lanyardrove_third(rest); }
 static inline uint32_t lanyardrove_hazards(uint64_t stepped) { return lanyardrove_place(stepped); }
 static inline uint32_t lanyardrove_required(uint64_t stepped) { return lanyardrove_third(stepped) % 4; }
 
@@ -229,6 +231,27 @@ uint64_t lanyardrove_encode(uint32_t number,
                             const uint64_t *fields, size_t count,
                             const uint8_t *suffix, size_t suffix_length,
                             uint8_t *out, size_t out_length);
+
+/* Compares two lists, command by command from the first: writes four numbers to entries for each pair of commands that differ
+   in number or in a field, in their order: the place in the first list, the place in the second, and 64 bits, the high half
+   first. Bits of a command that belong to no field do not count.
+   Where the numbers differ, the 64 bits are zero. Else the bit of each field that differs is set: that of its index below,
+   but of Set Other Modes 1 higher from LANYARDROVE_OTHER_MODES_CYCLE_TYPE on, 2 from .._BL_M1A_0 and 3 from .._FORCE_BLEND, since
+   three bit lines there have an index and no name. A triangle's suffix, all that follows its first four words, is one field
+   more, bit LANYARDROVE_TRIANGLE_FIELDS.
+   Answers 0 and the numbers written as the place; or the first of refusals 1, 2 and 3 of the first list, then of the second, at
+   its place in that list; and then 14 at the numbers needed where count is too small. 16,384 numbers always suffice.
+   Numbers beyond those written are not touched. Commands that only one list has are the rest, which lanyardrove_rest finds. */
+uint64_t lanyardrove_compare(const uint8_t *first, size_t first_length,
+                             const uint8_t *second, size_t second_length, uint32_t *entries, size_t count);
+
+/* The rest of the list that has more commands than the other: from its first command without a partner to its end.
+   The number is that of lanyardrove_compare of the same lists with room for as many numbers as count says. lanyardrove_list is
+   the list, 0 for the first and 1 for the second, and the place is the first byte of the rest in that list. With as many
+   commands in both lists, and at every refusal, also 14, it is the empty end of the first list: its length, where this is over
+   4,294,967,295 that number. */
+uint64_t lanyardrove_rest(const uint8_t *first, size_t first_length,
+                          const uint8_t *second, size_t second_length, size_t count);
 
 /* The numbers of commands; every other from 0 to 63 is unassigned: decoded and encoded as a command of one word without fields,
    and refused in lists by 19. Of a triangle's number bit 2 says that it has shade, bit 1 texture, bit 0 depth. */

@@ -2,7 +2,7 @@
  * Calls every function of include/lanyardrove.h through the archive: empty, short, cut and longest lists, null pointers where
  * a length is 0, document 01's examples, guard bytes around every buffer, every command number there and back, its length,
  * its step from each of the sixteen hazards, every unassigned number, lists in portions with the cycles that their syncs wait,
- * textures that are loaded and copied, and display lists translated.
+ * textures that are loaded and copied, display lists translated, and lists compared.
  * It compiles as C11 and as C++17. The last line counts the checks; the exit status says whether all passed.
  */
 #include "lanyardrove.h"
@@ -136,6 +136,7 @@ static void parts(void) {
     CHECK(lanyardrove_cycles(answer) == 100001);
     CHECK(lanyardrove_command(answer) == 100001);
     CHECK(lanyardrove_commands_read(answer) == 100001);
+    CHECK(lanyardrove_list(answer) == 100001);
     CHECK(lanyardrove_place(answer) == 4);
     answer = ~(uint64_t)0;
     CHECK(lanyardrove_number(answer) == 0xFF && lanyardrove_third(answer) == 0xFFFFFF && lanyardrove_place(answer) == 0xFFFFFFFFu);
@@ -156,6 +157,8 @@ static void null_pointers(void) {
     ANSWERS(lanyardrove_draw(NULL, 0, NULL, 0, UINT64_MAX, a_texture.bytes, LANYARDROVE_TEXTURE_BYTES), 0, 0, 0);
     ANSWERS(lanyardrove_translate(NULL, 0, 0, NULL, 0), 20, 0, 0);
     ANSWERS(lanyardrove_translate(NULL, 0, UINT32_MAX, NULL, 0), 20, 0, UINT32_MAX);
+    ANSWERS(lanyardrove_compare(NULL, 0, NULL, 0, NULL, 0), 0, 0, 0);
+    ANSWERS(lanyardrove_rest(NULL, 0, NULL, 0, 0), 0, 0, 0);
     ANSWERS(lanyardrove_decode(NULL, 0, NULL, 0), 3, 0, 0);
     ANSWERS(lanyardrove_encode(0, NULL, 0, NULL, 0, NULL, 0), 14, 0, 1);
     ANSWERS(lanyardrove_encode(64, NULL, 0, NULL, 0, NULL, 0), 15, 0, 0);
@@ -1740,6 +1743,122 @@ static void translate_most_memory(void) {
     free(memory);
 }
 
+/* ---- Two lists compared. */
+
+#define MOST_NUMBERS 16384
+#define OLD_NUMBER 0xA5A5A5A5u
+
+static uint32_t numbers[1 + MOST_NUMBERS + 4];
+static uint8_t another_list[ROOM];
+
+static void fresh_numbers(void) {
+    size_t i;
+    for (i = 0; i < sizeof numbers / 4; i++) numbers[i] = OLD_NUMBER;
+}
+
+/* The numbers from one on, and that before them, are as they were. */
+static int numbers_untouched_from(size_t from) {
+    size_t i;
+    if (numbers[0] != OLD_NUMBER) return 0;
+    for (i = 1 + from; i < sizeof numbers / 4; i++)
+        if (numbers[i] != OLD_NUMBER) return 0;
+    return 1;
+}
+
+/* a_list and another_list, n and m bytes of them: these entries, with exactly the room needed and with more; 14 with less; and the rest. */
+static void compares(size_t n, size_t m, const uint32_t *entries, size_t count, unsigned list, unsigned byte, int line) {
+    fresh_numbers();
+    if (count) expect_answer(lanyardrove_compare(a_list.bytes, n, another_list, m, numbers + 1, count - 1), 14, 0, (unsigned)count, line);
+    if (count) expect_answer(lanyardrove_rest(a_list.bytes, n, another_list, m, count - 1), 14, 0, (unsigned)n, line);
+    expect(numbers_untouched_from(0), "14 leaves the numbers", line);
+    expect_answer(lanyardrove_compare(a_list.bytes, n, another_list, m, numbers + 1, count), 0, 0, (unsigned)count, line);
+    expect((count == 0 || memcmp(numbers + 1, entries, 4 * count) == 0) && numbers_untouched_from(count), "the entries, and nothing beyond", line);
+    expect_answer(lanyardrove_rest(a_list.bytes, n, another_list, m, count), 0, list, byte, line);
+    fresh_numbers();
+    expect_answer(lanyardrove_compare(a_list.bytes, n, another_list, m, numbers + 1, MOST_NUMBERS), 0, 0, (unsigned)count, line);
+    expect((count == 0 || memcmp(numbers + 1, entries, 4 * count) == 0) && numbers_untouched_from(count), "the entries, with room to spare", line);
+    expect_answer(lanyardrove_rest(a_list.bytes, n, another_list, m, MOST_NUMBERS), 0, list, byte, line);
+}
+
+/* The refusal, with room and without, and the empty end of the first list. */
+static void compare_refuses(const uint8_t *first, size_t n, const uint8_t *second, size_t m, unsigned number, unsigned place, int line) {
+    fresh_numbers();
+    expect_answer(lanyardrove_compare(first, n, second, m, numbers + 1, MOST_NUMBERS), number, 0, place, line);
+    expect_answer(lanyardrove_compare(first, n, second, m, NULL, 0), number, 0, place, line);
+    expect(numbers_untouched_from(0), "a refusal leaves the numbers", line);
+    expect_answer(lanyardrove_rest(first, n, second, m, MOST_NUMBERS), number, 0, (unsigned)n, line);
+    expect_answer(lanyardrove_rest(first, n, second, m, 0), number, 0, (unsigned)n, line);
+}
+
+static size_t other_of(const uint64_t *words, size_t n) {
+    size_t i;
+    for (i = 0; i < n; i++) put(another_list + 8 * i, words[i]);
+    return 8 * n;
+}
+
+static void compare_lists(void) {
+    const uint64_t one[] = {TEXTURED, 0, C}, two[] = {TEXTURED, 1, 0x3800000000000000u, N};
+    const uint64_t modes[] = {S1, 0xEF30000000000000u}, others[] = {0x2F20000000000000u, 0x2F70000F00008001u};
+    const uint32_t differ[] = {0, 0, 0, 1u << LANYARDROVE_TEXRECT_DTDY, 2, 2, 0, 0}, of_modes[] = {0, 0, 0, 4, 1, 1, 128, 0};
+    size_t n = LIST(one), m = other_of(two, 4);
+    compares(n, m, differ, 8, 1, 24, __LINE__);
+    compares(n, m - 8, differ, 8, 0, 24, __LINE__);
+    compares(n, m - 16, differ, 4, 0, 16, __LINE__);
+    compares(n, 0, NULL, 0, 0, 0, __LINE__);
+    compares(0, m, NULL, 0, 1, 0, __LINE__);
+    compares(LIST(modes), other_of(others, 2), of_modes, 8, 0, 16, __LINE__);
+}
+
+static void compare_refusals(void) {
+    const uint64_t cut[] = {N, TEXTURED};
+    size_t k;
+    fresh(&a_list);
+    for (k = 0; k < 4097; k++) put(a_list.bytes + 8 * k, N);
+    memcpy(another_list, a_list.bytes, 8 * 4097);
+    compares(8 * 4096, 8 * 4096, NULL, 0, 0, 8 * 4096, __LINE__);
+    compare_refuses(a_list.bytes, 32769, another_list, 32769, 1, 4096, __LINE__);
+    compare_refuses(a_list.bytes, 8 * 4096, another_list, 8 * 4097, 1, 4096, __LINE__);
+    compare_refuses(a_list.bytes, 15, another_list, 8 * 4097, 2, 1, __LINE__);
+    compare_refuses(a_list.bytes, 16, another_list, 15, 2, 1, __LINE__);
+    LIST(cut);
+    compare_refuses(a_list.bytes, 16, another_list, 15, 3, 1, __LINE__);
+    compare_refuses(another_list, 8, a_list.bytes, 16, 3, 1, __LINE__);
+}
+
+/* The bit of a field, by its index. */
+static unsigned bit_of_field(unsigned number, unsigned k) {
+    if (number != LANYARDROVE_SET_OTHER_MODES) return k;
+    return k + (k >= LANYARDROVE_OTHER_MODES_CYCLE_TYPE) + (k >= LANYARDROVE_OTHER_MODES_BL_M1A_0) + (k >= LANYARDROVE_OTHER_MODES_FORCE_BLEND);
+}
+
+/* Every command number, with one bit after another turned: the bits set are the fields in which decoding differs, and a triangle's suffix. */
+static void compare_every_bit(void) {
+    uint64_t fields[LANYARDROVE_MOST_FIELDS], others[LANYARDROVE_MOST_FIELDS];
+    unsigned number, bit, k;
+    for (number = 0; number < 64; number++) {
+        uint64_t first = (random_word() & 0xC0FFFFFFFFFFFFFFu) | (uint64_t)number << 56;
+        size_t words = (size_t)lanyardrove_words(first);
+        fresh(&a_list);
+        put(a_list.bytes, first);
+        for (k = 1; k < words; k++) put(a_list.bytes + 8 * k, random_word());
+        for (bit = 0; bit < 64 * words; bit++) {
+            uint64_t mask = 0, decoded;
+            uint32_t entry[4] = {0, 0, 0, 0};
+            if (bit < 8 && bit > 1) continue; /* the number itself */
+            memcpy(another_list, a_list.bytes, 8 * words);
+            another_list[bit / 8] ^= (uint8_t)(0x80 >> bit % 8);
+            decoded = lanyardrove_decode(a_list.bytes, 8 * words, fields, LANYARDROVE_MOST_FIELDS);
+            lanyardrove_decode(another_list, 8 * words, others, LANYARDROVE_MOST_FIELDS);
+            for (k = 0; k < lanyardrove_place(decoded); k++)
+                if (fields[k] != others[k]) mask |= (uint64_t)1 << bit_of_field(number, k);
+            if (bit >= 256) mask |= (uint64_t)1 << LANYARDROVE_TRIANGLE_FIELDS;
+            entry[2] = (uint32_t)(mask >> 32);
+            entry[3] = (uint32_t)mask;
+            compares(8 * words, 8 * words, entry, mask ? 4 : 0, 0, (unsigned)(8 * words), __LINE__);
+        }
+    }
+}
+
 int main(void) {
     parts();
     null_pointers();
@@ -1783,6 +1902,9 @@ int main(void) {
     translate_settings();
     translate_most_commands();
     translate_most_memory();
+    compare_lists();
+    compare_refusals();
+    compare_every_bit();
     if (failures)
         printf("test_boundary: %lu checks, %lu FAILED\n", checks, failures);
     else
