@@ -230,14 +230,22 @@ typedef struct {
     uint64_t start; /* the address of the first */
 } Memory;
 
+/* Pixels of a picture: a rectangle of them. */
+typedef struct {
+    uint32_t left, top, width, height;
+} Box;
+
+#define RUN_LIMIT LANYARDROVE_MOST_SIDE /* pixels of a row that the library shows at once */
+
 bool image_of_list(const List *list, Image *image);
 size_t image_length(const Image *image);
 bool image_inside(const Image *image, const Memory *memory);
 void image_text(const Image *image, char *text, size_t room);
-void pixel_rgb(const uint8_t *pixel, uint32_t bits, uint8_t *rgb);
-uint8_t *image_rgb(const Image *image, const Memory *memory);
-uint8_t *image_png(const Image *image, const uint8_t *rgb, size_t *length);
-uint8_t *image_ppm(const Image *image, const uint8_t *rgb, size_t *length);
+Box whole_of(const Image *image);
+bool pixels_rgb(const Memory *memory, uint64_t address, uint32_t count, uint32_t bits, uint8_t *rgb);
+uint8_t *image_rgb(const Image *image, const Box *part, const Memory *memory);
+uint8_t *image_png(const Box *part, const uint8_t *rgb, size_t *length);
+uint8_t *image_ppm(const Box *part, const uint8_t *rgb, size_t *length);
 
 /* -- translated.c: the list that a display list stands for -------------- */
 

@@ -66,8 +66,9 @@ static bool make_png(Report *report, const List *list, const Memory *memory)
 {
     if (!image_of_list(list, &report->image) || !image_inside(&report->image, memory))
         return true;
-    uint8_t *rgb = image_rgb(&report->image, memory);
-    report->png = rgb != NULL ? image_png(&report->image, rgb, &report->png_length) : NULL;
+    Box whole = whole_of(&report->image);
+    uint8_t *rgb = image_rgb(&report->image, &whole, memory);
+    report->png = rgb != NULL ? image_png(&whole, rgb, &report->png_length) : NULL;
     free(rgb);
     return report->png != NULL;
 }
