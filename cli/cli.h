@@ -237,6 +237,7 @@ typedef struct {
 
 #define RUN_LIMIT LANYARDROVE_MOST_SIDE /* pixels of a row that the library shows at once */
 
+void image_set(Image *set, const Command *command);
 bool image_of_list(const List *list, Image *image);
 size_t image_length(const Image *image);
 bool image_inside(const Image *image, const Memory *memory);
@@ -291,7 +292,7 @@ typedef struct {
     int count;
     Input input;
     const char *output; /* NULL where -o is not given */
-    bool help, brief, quiet, verbose, failures, all, afresh, dry, in_place, has_memory, has_image;
+    bool help, brief, quiet, verbose, failures, all, afresh, dry, in_place, steps, has_memory, has_image;
     const struct Format *format; /* of what check tells */
     Number from, to, around; /* places that dump shows */
     const char *memory_file, *texture; /* files of memory and of texture memory; NULL where they are zeros */

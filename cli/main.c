@@ -39,7 +39,8 @@ static const Entry entries[] = {
       "waited, the hazards along the list, the syncs that a repair would insert, the\n"
       "picture if it can be drawn, and the commands, with links to the refused one and\n"
       "to the one that it has to wait for. It is written for a refused list too.\n"
-      "The list is drawn into zeros at every address, or into what --memory gives." },
+      "The list is drawn into zeros at every address, or into what --memory gives.\n"
+      "With --steps the page shows the picture after each draw, step by step." },
     { OF_TRANSLATE, "translate", run_translate, 1, "file of memory",
       "translate FILE [--start OFFSET] -o OUT\n"
       "Writes the list that a game's display list (Fast3DEX2) stands for. FILE is the\n"

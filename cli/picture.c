@@ -6,19 +6,25 @@
 #include <stdlib.h>
 #include <string.h>
 
+/* A colour image and a scissor, as a command leaves them: the image is as high as the scissor. */
+void image_set(Image *set, const Command *command)
+{
+    if (command->number == LANYARDROVE_SET_COLOR_IMAGE) {
+        set->address = command->fields[LANYARDROVE_IMAGE_ADDRESS];
+        set->width = (uint32_t)command->fields[LANYARDROVE_IMAGE_WIDTH] + 1;
+        set->bits = 4u << command->fields[LANYARDROVE_IMAGE_SIZE];
+    } else if (command->number == LANYARDROVE_SET_SCISSOR)
+        set->height = ((uint32_t)command->fields[LANYARDROVE_SCISSOR_LOWER_RIGHT_Y] + 3) / 4;
+}
+
 /* The colour image of the last rectangle of a list that can be drawn, as high as the scissor there; false where there is none. */
 bool image_of_list(const List *list, Image *image)
 {
     Command command;
     Image set = { 0 }, drawn = { 0 };
     for (size_t place = 0; command_at(list, place, &command) && command.whole; place += command.words) {
-        if (command.number == LANYARDROVE_SET_COLOR_IMAGE) {
-            set.address = command.fields[LANYARDROVE_IMAGE_ADDRESS];
-            set.width = (uint32_t)command.fields[LANYARDROVE_IMAGE_WIDTH] + 1;
-            set.bits = 4u << command.fields[LANYARDROVE_IMAGE_SIZE];
-        } else if (command.number == LANYARDROVE_SET_SCISSOR)
-            set.height = ((uint32_t)command.fields[LANYARDROVE_SCISSOR_LOWER_RIGHT_Y] + 3) / 4;
-        else if (command.number == LANYARDROVE_FILL_RECTANGLE || command.number == LANYARDROVE_TEXTURE_RECTANGLE)
+        image_set(&set, &command);
+        if (command.number == LANYARDROVE_FILL_RECTANGLE || command.number == LANYARDROVE_TEXTURE_RECTANGLE)
             drawn = set;
     }
     bool is_picture = drawn.height > 0 && drawn.width > 0 && drawn.bits >= 8;

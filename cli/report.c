@@ -4,9 +4,6 @@
 #include <stdlib.h>
 #include <string.h>
 
-/* An address has 26 bits, and a picture at most 1,024 rows of 1,024 pixels of 4 bytes: all of them are inside. */
-#define MEMORY_BYTES (72u * 1024u * 1024u)
-
 /* The row of the command at a place; `count` where there is none. */
 static size_t row_at(const Rows *rows, size_t place)
 {
@@ -76,7 +73,7 @@ static bool make_png(Report *report, const List *list, const Memory *memory)
 static bool draw_picture(Report *report, const List *list)
 {
     Lent lent;
-    bool done = lend(report->arguments, report->arguments->has_memory ? report->arguments->memory : MEMORY_BYTES, &lent);
+    bool done = lend(report->arguments, report->arguments->has_memory ? report->arguments->memory : REPORT_MEMORY, &lent);
     if (done) {
         report->drawing = draw_into(list, &lent);
         done = is_refused(report->drawing) || make_png(report, list, &lent.memory);
@@ -101,13 +98,28 @@ static bool gather(Report *report)
     return done;
 }
 
+/* The page of the steps, or that of the list. */
+static bool add_page(Text *text, const Report *report)
+{
+    Steps steps = { 0 };
+    bool done = !report->arguments->steps || steps_of(report, &steps);
+    if (report->arguments->steps)
+        steps_page_add(text, report, &steps);
+    else
+        page_add(text, report);
+    text->failed |= steps.picture.shown.failed || steps.texture.shown.failed || steps.table.failed;
+    steps_free(&steps);
+    return done;
+}
+
 static int write_report(Report *report, const char *output)
 {
     Text text = { 0 };
     int status = STATUS_ERROR;
-    if (!gather(report))
+    if (!gather(report) || !add_page(&text, report)) {
+        free(text.bytes);
         return STATUS_ERROR;
-    page_add(&text, report);
+    }
     if (text.failed)
         complain("not enough memory for the page");
     else if (file_write(output, text.bytes, text.length))

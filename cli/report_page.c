@@ -5,14 +5,19 @@
 #define PICTURE_WIDTH 640 /* small pictures are shown larger, up to this many pixels */
 #define PIXEL_WIDTH 40    /* and up to this many for each of theirs */
 
-static void add_head(Text *text, const Report *report)
+/* The start of a page, with the verdict and the name of the list in its title. */
+void head_add(Text *text, const Report *report, const char *more)
 {
     text_add(text, "<!DOCTYPE html>\n<html lang=\"en\">\n<head>\n<meta charset=\"utf-8\">\n"
-                   "<meta name=\"viewport\" content=\"width=device-width,initial-scale=1\">\n<title>%s: ",
-             is_accepted(report->answer) ? "Accepted" : "Refused");
+                   "<meta name=\"viewport\" content=\"width=device-width,initial-scale=1\">\n%s<title>%s: ",
+             more, is_accepted(report->answer) ? "Accepted" : "Refused");
     text_add_escaped(text, report->path);
     text_add(text, "</title>\n");
     style_add(text);
+}
+
+static void add_title(Text *text, const Report *report)
+{
     text_add(text, "</head>\n<body>\n<main>\n<p class=\"kind\">Check of an RDP command list</p>\n<h1 id=\"top\">");
     text_add_escaped(text, report->path);
     text_add(text, "</h1>\n");
@@ -34,7 +39,7 @@ static void add_insertion(Text *text, const Report *report, const Insertion *ins
 }
 
 /* `number place` and what it means, in the middle of a sentence. */
-static void add_answer(Text *text, const List *list, Answer answer, Purpose purpose)
+void answer_add(Text *text, const List *list, Answer answer, Purpose purpose)
 {
     Meaning meaning = meaning_of(list, answer, purpose);
     text_add(text, "<code>%u %u</code>, ", answer.number, (unsigned)answer.place);
@@ -138,7 +143,7 @@ static void add_repair(Text *text, const Report *report)
     text_add(text, "<section>\n<h2>Repair</h2>\n");
     if (!is_accepted(report->repaired.answer)) {
         text_add(text, "<p>The list cannot be repaired: ");
-        add_answer(text, &report->list, report->repaired.answer, FOR_REPAIR);
+        answer_add(text, &report->list, report->repaired.answer, FOR_REPAIR);
         text_add(text, ".</p>\n");
         if (report->missing.number != 0) {
             text_add(text, "<p>The first sync that it misses: ");
@@ -187,7 +192,7 @@ static void add_picture(Text *text, const Report *report)
         text_add(text, "<p>The list draws no picture.</p>\n");
     else {
         text_add(text, "<p>The %slist cannot be drawn: ", repaired ? "repaired " : "");
-        add_answer(text, &report->list, report->drawing, FOR_DRAW);
+        answer_add(text, &report->list, report->drawing, FOR_DRAW);
         text_add(text, ".</p>\n");
         if (report->drawing.number == LANYARDROVE_NOT_COPYABLE)
             text_add(text, "<p class=\"note\">%s</p>\n", copy_needs);
@@ -199,7 +204,8 @@ void page_add(Text *text, const Report *report)
 {
     char version[VERSION_ROOM];
     version_text(version);
-    add_head(text, report);
+    head_add(text, report, "");
+    add_title(text, report);
     add_verdict(text, report);
     add_hazards(text, report);
     add_repair(text, report);
