@@ -27,6 +27,7 @@ const FUNCTIONS: &[&str] = &[
     "lanyardrove_repair_afresh",
     "lanyardrove_compare",
     "lanyardrove_rest",
+    "lanyardrove_view",
 ];
 const BENCH_FUNCTIONS: &[&str] = &["lanyardrove_bench_registers"];
 

@@ -27,6 +27,7 @@ pub enum Ground {
     TooManyRead = 21,
     NotTranslated = 22,
     WrongParameter = 23,
+    NotShown = 27,
 }
 
 /// A refusal: its ground and its place.

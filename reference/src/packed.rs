@@ -10,7 +10,8 @@ use crate::marks::Marks;
 use crate::record::{self, Record};
 use crate::repair::Repaired;
 use crate::stream::{Stream, Told, DAMAGED};
-use crate::{check, decode, differences, display, draw, encode, repair};
+use crate::view::Image;
+use crate::{check, decode, differences, display, draw, encode, repair, view};
 
 /// An answer in its three parts.
 #[derive(Clone, Copy, Debug, PartialEq, Eq)]
@@ -196,4 +197,12 @@ pub fn rest(first: &[u8], second: &[u8], count: usize) -> u64 {
     let (rest, outcome) = differences::rest(first, second, count);
     let number = outcome.map_or_else(|refusal| refusal.ground as u8, |()| 0);
     packed(number, rest.first_byte, rest.of_second.into())
+}
+
+/// `lanyardrove_view`: the place is the bytes written, or needed at 14.
+pub fn view(memory: &[u8], start: u64, image: Image, out: &mut [u8]) -> u64 {
+    match view::view(memory, start, image, out) {
+        Ok(bytes) => accepted(bytes, 0),
+        Err(refusal) => refused(refusal),
+    }
 }

@@ -19,6 +19,7 @@ use reference::record::{pack, unpack, Record, NUMBERS};
 use reference::repair::without_syncs;
 use reference::stream::{MOST_TOTAL, ROOM};
 use reference::texture::TEXTURE_BYTES;
+use reference::view::Image;
 use reference::words::{command_number, word_at};
 
 const SEED: u64 = 7;
@@ -165,6 +166,16 @@ enum Fault {
     SecondFirst,
     /// The rest is always the first list's.
     RestOfFirst,
+    /// A five-bit channel becomes 8v.
+    ChannelDark,
+    /// The alpha bit becomes 0 or 1.
+    AlphaBit,
+    /// The alpha of an 8-bit value is that value.
+    ValueAlpha,
+    /// An image at the very end of memory is refused.
+    LastByteRefused,
+    /// An image too wide is refused only where it lies inside memory.
+    SizeLate,
     /// At 14 the rest is that of a success.
     RestAtGround14,
 }
@@ -344,6 +355,29 @@ impl Side for Faulty {
             _ => answer,
         }
     }
+
+    fn view(&self, memory: &[u8], start: u64, image: Image, out: &mut [u8]) -> u64 {
+        faulty_view(self.0, memory, start, image, out)
+    }
+}
+
+/// An image viewed with one fault, most often in its first pixel.
+fn faulty_view(fault: Fault, memory: &[u8], start: u64, image: Image, out: &mut [u8]) -> u64 {
+    let taken = match fault {
+        Fault::LastByteRefused => memory.len().saturating_sub(1),
+        _ => memory.len(),
+    };
+    let answer = Reference.view(&memory[..taken], start, image, out);
+    match (fault, ground(answer), image.size) {
+        (Fault::ChannelDark, 0, 2) => out[0] &= 0xF8,
+        (Fault::AlphaBit, 0, 2) => out[3] &= 1,
+        (Fault::ValueAlpha, 0, 1) => out[3] = out[0],
+        (Fault::SizeLate, 27, 1..=3) if memory.is_empty() || image.address < start => {
+            return 12 << 56;
+        }
+        _ => {}
+    }
+    answer
 }
 
 /// Two lists compared with one fault.
@@ -563,6 +597,11 @@ fn every_fault_is_found_in_its_function() {
         (Fault::SuffixUnseen, Function::Compare),
         (Fault::SecondFirst, Function::Compare),
         (Fault::RestOfFirst, Function::Rest),
+        (Fault::ChannelDark, Function::View),
+        (Fault::AlphaBit, Function::View),
+        (Fault::ValueAlpha, Function::View),
+        (Fault::LastByteRefused, Function::View),
+        (Fault::SizeLate, Function::View),
         (Fault::RestAtGround14, Function::Rest),
     ];
     for (fault, function) in faults {

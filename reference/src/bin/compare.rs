@@ -24,7 +24,8 @@ static ARCHIVE: Foreign = foreign!(
     lanyardrove_translate,
     lanyardrove_repair_afresh,
     lanyardrove_compare,
-    lanyardrove_rest
+    lanyardrove_rest,
+    lanyardrove_view
 );
 
 /// The arguments: seed, number of cases, first case.

@@ -5,6 +5,7 @@ use std::fmt;
 use crate::comparison::lent::Lent;
 use crate::comparison::portions::Portions;
 use crate::comparison::side::Side;
+use crate::view::Image;
 
 #[derive(Clone, Copy, Debug, PartialEq, Eq)]
 pub enum Function {
@@ -20,10 +21,11 @@ pub enum Function {
     Afresh,
     Compare,
     Rest,
+    View,
 }
 
 impl Function {
-    pub const COUNT: usize = 12;
+    pub const COUNT: usize = 13;
     pub const ALL: [Function; Function::COUNT] = [
         Function::Check,
         Function::Repair,
@@ -37,6 +39,7 @@ impl Function {
         Function::Afresh,
         Function::Compare,
         Function::Rest,
+        Function::View,
     ];
 
     pub fn name(self) -> &'static str {
@@ -53,6 +56,7 @@ impl Function {
             Function::Afresh => "afresh",
             Function::Compare => "compare",
             Function::Rest => "rest",
+            Function::View => "view",
         }
     }
 }
@@ -82,6 +86,8 @@ pub struct Call {
     pub out: Lent<u8>,
     pub memory: Lent<u8>,
     pub texture: Lent<u8>,
+    /// The image in memory that is viewed.
+    pub image: Image,
     /// How the list is fed to a record, and what becomes of it.
     pub portions: Portions,
 }
@@ -105,6 +111,7 @@ impl Call {
             out: Lent::default(),
             memory: Lent::default(),
             texture: Lent::default(),
+            image: Image::default(),
             portions: Portions::default(),
         }
     }
@@ -138,6 +145,10 @@ impl Call {
             }
             Function::Compare => side.compare(list, self.second.slice(), self.entries.slice_mut()),
             Function::Rest => side.rest(list, self.second.slice(), self.count),
+            Function::View => {
+                let memory = self.memory.slice();
+                side.view(memory, self.start, self.image, self.out.slice_mut())
+            }
         }
     }
 
@@ -206,6 +217,7 @@ impl fmt::Display for Call {
             Function::Stream => write!(f, "{}", self.portions),
             Function::Translate => self.describe_translation(f),
             Function::Compare | Function::Rest => self.describe_pair(f),
+            Function::View => self.describe_view(f),
         }
     }
 }
@@ -228,6 +240,16 @@ impl Call {
         )?;
         let count = self.count.max(self.entries.len());
         writeln!(f, "entries {count} numbers")
+    }
+
+    fn describe_view(&self, f: &mut fmt::Formatter) -> fmt::Result {
+        let (memory, out) = (self.memory.len(), self.out.len());
+        writeln!(f, "{:?}", self.image)?;
+        writeln!(
+            f,
+            "memory {memory} bytes, start {:#x}, out {out} bytes",
+            self.start
+        )
     }
 
     fn describe_translation(&self, f: &mut fmt::Formatter) -> fmt::Result {

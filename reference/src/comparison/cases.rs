@@ -9,6 +9,7 @@ use crate::comparison::lent::Lent;
 use crate::comparison::pairs::pair;
 use crate::comparison::portions::Portions;
 use crate::comparison::rng::Rng;
+use crate::comparison::views::Viewed;
 use crate::decode::decode;
 use crate::differences::{compare, ENTRY};
 use crate::display::walk as walk_display;
@@ -37,6 +38,7 @@ pub fn calls(rng: &mut Rng, case: u64, list: &[u8]) -> Vec<Call> {
         afresh_call(rng, list),
         compare_call,
         rest_call,
+        view_call(rng),
     ]
 }
 
@@ -270,5 +272,18 @@ fn numbers(rng: &mut Rng, needed: usize, entry: usize) -> usize {
         2..=4 => needed + more,
         5 => 0,
         _ => needed,
+    }
+}
+
+/// An image in memory, with room for its rows.
+fn view_call(rng: &mut Rng) -> Call {
+    let viewed = Viewed::random(rng);
+    let written = viewed.image.written_bytes().unwrap_or(40);
+    Call {
+        start: viewed.start,
+        image: viewed.image,
+        memory: viewed.memory(rng),
+        out: room(rng, written, 4),
+        ..Call::of(Function::View)
     }
 }

@@ -3,6 +3,7 @@
 use crate::comparison::side::Side;
 use crate::packed;
 use crate::record::Record;
+use crate::view::Image;
 
 pub type Check = unsafe extern "C" fn(*const u8, usize) -> u64;
 pub type Repair = unsafe extern "C" fn(*const u8, usize, *mut u8, usize, *mut u8, usize) -> u64;
@@ -17,6 +18,8 @@ pub type Close = unsafe extern "C" fn(*mut Record) -> u64;
 pub type Translate = unsafe extern "C" fn(*const u8, usize, u32, *mut u8, usize) -> u64;
 pub type Compare = unsafe extern "C" fn(*const u8, usize, *const u8, usize, *mut u32, usize) -> u64;
 pub type Rest = unsafe extern "C" fn(*const u8, usize, *const u8, usize, usize) -> u64;
+pub type View =
+    unsafe extern "C" fn(*const u8, usize, u64, u64, u32, u32, u32, *mut u8, usize) -> u64;
 
 /// Functions that ask of their pointers only that each lends as much as the
 /// length after it says.
@@ -35,6 +38,7 @@ pub struct Foreign {
     pub repair_afresh: Option<Repair>,
     pub compare: Option<Compare>,
     pub rest: Option<Rest>,
+    pub view: Option<View>,
 }
 
 /// Declares functions of C by their names, and gives them as a `Foreign`: check,
@@ -46,7 +50,7 @@ macro_rules! foreign {
         $check:ident, $repair:ident, $draw:ident, $feed:ident, $close:ident
         $(
             , $decode:ident, $encode:ident, $words:ident, $step:ident, $translate:ident,
-            $repair_afresh:ident, $compare:ident, $rest:ident
+            $repair_afresh:ident, $compare:ident, $rest:ident, $view:ident
         )?
     ) => {{
         extern "C" {
@@ -122,6 +126,17 @@ macro_rules! foreign {
                     second_length: usize,
                     count: usize,
                 ) -> u64;
+                fn $view(
+                    memory: *const u8,
+                    memory_length: usize,
+                    start: u64,
+                    address: u64,
+                    width: u32,
+                    height: u32,
+                    size: u32,
+                    out: *mut u8,
+                    out_length: usize,
+                ) -> u64;
             )?
         }
         $crate::comparison::foreign::Foreign {
@@ -138,6 +153,7 @@ macro_rules! foreign {
             repair_afresh: $crate::foreign!($($repair_afresh)?),
             compare: $crate::foreign!($($compare)?),
             rest: $crate::foreign!($($rest)?),
+            view: $crate::foreign!($($view)?),
         }
     }};
     () => { None };
@@ -259,5 +275,26 @@ impl Side for Foreign {
         let (first, first_length) = (first.as_ptr(), first.len());
         let (second, second_length) = (second.as_ptr(), second.len());
         unsafe { rest(first, first_length, second, second_length, count) }
+    }
+
+    fn view(&self, memory: &[u8], start: u64, image: Image, out: &mut [u8]) -> u64 {
+        let Some(view) = self.view else {
+            return packed::view(memory, start, image, out);
+        };
+        let (memory, memory_length) = (memory.as_ptr(), memory.len());
+        let (out, out_length) = (out.as_mut_ptr(), out.len());
+        unsafe {
+            view(
+                memory,
+                memory_length,
+                start,
+                image.address,
+                image.width,
+                image.height,
+                image.size,
+                out,
+                out_length,
+            )
+        }
     }
 }

@@ -2,6 +2,7 @@
 
 use crate::packed;
 use crate::record::Record;
+use crate::view::Image;
 
 /// The C functions, over slices. Every answer is one packed 64-bit number, but
 /// for the plain count of a command's words.
@@ -19,6 +20,7 @@ pub trait Side {
     fn repair_afresh(&self, list: &[u8], work: &mut [u8], out: &mut [u8]) -> u64;
     fn compare(&self, first: &[u8], second: &[u8], entries: &mut [u32]) -> u64;
     fn rest(&self, first: &[u8], second: &[u8], count: usize) -> u64;
+    fn view(&self, memory: &[u8], start: u64, image: Image, out: &mut [u8]) -> u64;
 }
 
 /// This crate.
@@ -75,5 +77,9 @@ impl Side for Reference {
 
     fn rest(&self, first: &[u8], second: &[u8], count: usize) -> u64 {
         packed::rest(first, second, count)
+    }
+
+    fn view(&self, memory: &[u8], start: u64, image: Image, out: &mut [u8]) -> u64 {
+        packed::view(memory, start, image, out)
     }
 }
