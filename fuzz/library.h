@@ -12,6 +12,8 @@ uint64_t lanyardrove_repair(const uint8_t *list, size_t list_length, uint8_t *wo
 uint64_t lanyardrove_repair_afresh(const uint8_t *list, size_t list_length, uint8_t *work, size_t work_length, uint8_t *out, size_t out_length);
 uint64_t lanyardrove_draw(const uint8_t *list, size_t list_length, uint8_t *memory, size_t memory_length, uint64_t start, uint8_t *texture,
                           size_t texture_length);
+uint64_t lanyardrove_view(const uint8_t *memory, size_t memory_length, uint64_t start, uint64_t address, uint32_t width, uint32_t height, uint32_t size,
+                          uint8_t *out, size_t out_length);
 uint64_t lanyardrove_translate(const uint8_t *memory, size_t memory_length, uint32_t start, uint8_t *out, size_t out_length);
 uint64_t lanyardrove_decode(const uint8_t *list, size_t list_length, uint64_t *fields, size_t count);
 uint64_t lanyardrove_encode(uint32_t number, const uint64_t *fields, size_t count, const uint8_t *suffix, size_t suffix_length, uint8_t *out,
