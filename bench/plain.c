@@ -1475,6 +1475,165 @@ uint64_t plain_translate(const uint8_t *memory, size_t memory_length, uint32_t s
     return walk_display(&writing, start);
 }
 
+/* Two lists compared (request #110). A line is a field of document 000's bit lists: its word, and its highest and lowest bit there. */
+
+struct line {
+    uint8_t word, high, low;
+};
+
+#define UNNAMED {0, 0, 1} /* a line without a name: it counts, and has no bits */
+#define CORNERS {0, 55, 44}, {0, 43, 32}
+#define EDGE(word) {word, 59, 48}, {word, 47, 32}, {word, 29, 16}, {word, 15, 0}
+#define BYTES {0, 31, 24}, {0, 23, 16}, {0, 15, 8}, {0, 7, 0}
+#define BIT(at) {0, at, at}
+#define PAIR(low) {0, low + 1, low}
+
+enum { MOST_LINES = 40, SUFFIX_LINE = 21, TRIANGLE_WORDS = 4 };
+
+static const struct line lines_of_triangle[] = {BIT(58), BIT(57), BIT(56), BIT(55), {0, 53, 51}, {0, 50, 48}, {0, 45, 32}, {0, 29, 16}, {0, 13, 0},
+                                                EDGE(1), EDGE(2), EDGE(3)};
+static const struct line lines_of_texture_rectangle[] = {CORNERS, {0, 26, 24}, {0, 23, 12}, {0, 11, 0}, {1, 63, 48}, {1, 47, 32}, {1, 31, 16}, {1, 15, 0}};
+static const struct line lines_of_key_gb[] = {CORNERS, BYTES};
+static const struct line lines_of_key_r[] = {{0, 27, 16}, {0, 15, 8}, {0, 7, 0}};
+static const struct line lines_of_convert[] = {{0, 53, 45}, {0, 44, 36}, {0, 35, 27}, {0, 26, 18}, {0, 17, 9}, {0, 8, 0}};
+static const struct line lines_of_scissor[] = {CORNERS, BIT(25), BIT(24), {0, 23, 12}, {0, 11, 0}};
+static const struct line lines_of_depth[] = {{0, 31, 16}, {0, 15, 0}};
+static const struct line lines_of_modes[] = {
+    BIT(55), UNNAMED, PAIR(52), BIT(51), BIT(50), BIT(49), BIT(48), BIT(47), BIT(46), BIT(45), BIT(44), BIT(43), BIT(42), BIT(41), BIT(40), PAIR(38), PAIR(36), UNNAMED,
+    PAIR(30), PAIR(28), PAIR(26), PAIR(24), PAIR(22), PAIR(20), PAIR(18), PAIR(16), UNNAMED, BIT(14), BIT(13), BIT(12), PAIR(10), PAIR(8), BIT(7), BIT(6), BIT(5),
+    BIT(4), BIT(3), BIT(2), BIT(1), BIT(0)};
+static const struct line lines_of_area[] = {CORNERS, {0, 26, 24}, {0, 23, 12}, {0, 11, 0}};
+static const struct line lines_of_tile[] = {{0, 55, 53}, {0, 52, 51}, {0, 49, 41}, {0, 40, 32}, {0, 26, 24}, {0, 23, 20}, BIT(19), BIT(18), {0, 17, 14}, {0, 13, 10},
+                                            BIT(9), BIT(8), {0, 7, 4}, {0, 3, 0}};
+static const struct line lines_of_fill[] = {CORNERS, {0, 23, 12}, {0, 11, 0}};
+static const struct line lines_of_fill_color[] = {{0, 31, 0}};
+static const struct line lines_of_color[] = {BYTES};
+static const struct line lines_of_primitive[] = {{0, 47, 40}, {0, 39, 32}, BYTES};
+static const struct line lines_of_combine[] = {{0, 55, 0}};
+static const struct line lines_of_texture_image[] = {{0, 55, 53}, {0, 52, 51}, {0, 41, 32}, {0, 23, 0}};
+static const struct line lines_of_depth_image[] = {{0, 23, 0}};
+static const struct line lines_of_color_image[] = {{0, 55, 53}, {0, 52, 51}, {0, 41, 32}, {0, 25, 0}};
+
+#define KIND(first, last, lines) {first, last, lines, sizeof lines / sizeof lines[0]}
+static const struct {
+    uint8_t first, last; /* command numbers */
+    const struct line *lines;
+    size_t count;
+} kinds_of_lines[] = {
+    KIND(0x08, 0x0F, lines_of_triangle), KIND(0x24, 0x25, lines_of_texture_rectangle), KIND(0x2A, 0x2A, lines_of_key_gb), KIND(0x2B, 0x2B, lines_of_key_r),
+    KIND(0x2C, 0x2C, lines_of_convert), KIND(0x2D, 0x2D, lines_of_scissor), KIND(0x2E, 0x2E, lines_of_depth), KIND(0x2F, 0x2F, lines_of_modes),
+    KIND(0x30, 0x30, lines_of_area), KIND(0x32, 0x34, lines_of_area), KIND(0x35, 0x35, lines_of_tile), KIND(0x36, 0x36, lines_of_fill),
+    KIND(0x37, 0x37, lines_of_fill_color), KIND(0x38, 0x39, lines_of_color), KIND(0x3A, 0x3A, lines_of_primitive), KIND(0x3B, 0x3B, lines_of_color),
+    KIND(0x3C, 0x3C, lines_of_combine), KIND(0x3D, 0x3D, lines_of_texture_image), KIND(0x3E, 0x3E, lines_of_depth_image), KIND(0x3F, 0x3F, lines_of_color_image)};
+
+/* By command number, filled before main: the word and the bits of each line. */
+static struct {
+    uint64_t mask[MOST_LINES];
+    uint8_t word[MOST_LINES];
+    size_t count;
+} lines[64];
+
+__attribute__((constructor)) static void fill_lines(void)
+{
+    for (size_t k = 0; k < sizeof kinds_of_lines / sizeof kinds_of_lines[0]; k++)
+        for (unsigned number = kinds_of_lines[k].first; number <= kinds_of_lines[k].last; number++) {
+            lines[number].count = kinds_of_lines[k].count;
+            for (size_t i = 0; i < kinds_of_lines[k].count; i++) {
+                struct line line = kinds_of_lines[k].lines[i];
+                lines[number].word[i] = line.word;
+                lines[number].mask[i] = (((uint64_t)1 << (line.high + 1 - line.low)) - 1) << line.low;
+            }
+        }
+}
+
+/* The lines in which two commands of a number differ. */
+static uint64_t differing_lines(unsigned number, const uint8_t *first, const uint8_t *second)
+{
+    uint64_t differing = 0;
+    for (size_t i = 0; i < lines[number].count; i++) {
+        size_t byte = 8 * (size_t)lines[number].word[i];
+        if (((word_at(first + byte) ^ word_at(second + byte)) & lines[number].mask[i]) != 0)
+            differing |= (uint64_t)1 << i;
+    }
+    size_t suffix = 8 * TRIANGLE_WORDS;
+    if (is_triangle(number) && memcmp(first + suffix, second + suffix, 8 * words_in(number) - suffix) != 0)
+        differing |= (uint64_t)1 << SUFFIX_LINE;
+    return differing;
+}
+
+/* Refusals 1, 2 and 3, or 0. */
+static uint64_t decoding_refusal(const uint8_t *list, size_t length)
+{
+    uint64_t refusal = length_refusal(length, 4096);
+    if (refusal != 0)
+        return refusal;
+    size_t words = length / 8, at = 0;
+    for (size_t here; at < words; at += here) {
+        here = words_in(number_at(list + 8 * at));
+        if (here > words - at)
+            return answer(3, 0, at);
+    }
+    return 0;
+}
+
+/* The numbers of the entries, which are written where there are such. Where each list was left is told. */
+static inline __attribute__((always_inline)) size_t compare_lists(const uint8_t *first, size_t *first_end, const uint8_t *second, size_t *second_end,
+                                                                  uint32_t *entries)
+{
+    size_t numbers = 0, i = 0, k = 0;
+    while (i < *first_end && k < *second_end) {
+        unsigned number = number_at(first + i), other = number_at(second + k);
+        size_t bytes = 8 * words_in(number);
+        bool same = number == other && memcmp(first + i, second + k, bytes) == 0;
+        uint64_t differing = !same && number == other ? differing_lines(number, first + i, second + k) : 0;
+        if (number != other || differing != 0) {
+            if (entries != NULL) {
+                entries[numbers] = i / 8;
+                entries[numbers + 1] = k / 8;
+                entries[numbers + 2] = differing >> 32;
+                entries[numbers + 3] = differing;
+            }
+            numbers += 4;
+        }
+        i += bytes;
+        k += 8 * words_in(other);
+    }
+    *first_end = i;
+    *second_end = k;
+    return numbers;
+}
+
+static uint64_t compare_refusal(const uint8_t *first, size_t first_length, const uint8_t *second, size_t second_length)
+{
+    uint64_t refusal = decoding_refusal(first, first_length);
+    return refusal != 0 ? refusal : decoding_refusal(second, second_length);
+}
+
+/* A refusal leaves the entries, so that they are counted first. */
+uint64_t plain_compare(const uint8_t *first, size_t first_length, const uint8_t *second, size_t second_length, uint32_t *entries, size_t count)
+{
+    uint64_t refusal = compare_refusal(first, first_length, second, second_length);
+    if (refusal != 0)
+        return refusal;
+    size_t ends[4] = {first_length, second_length, first_length, second_length};
+    size_t numbers = compare_lists(first, &ends[0], second, &ends[1], NULL);
+    if (numbers > count)
+        return answer(14, 0, numbers);
+    compare_lists(first, &ends[2], second, &ends[3], entries);
+    return answer(0, 0, numbers);
+}
+
+uint64_t plain_rest(const uint8_t *first, size_t first_length, const uint8_t *second, size_t second_length, size_t count)
+{
+    uint64_t refusal = compare_refusal(first, first_length, second, second_length);
+    size_t ends[2] = {first_length, second_length};
+    if (refusal != 0)
+        return answer(refusal >> 56, 0, first_length < UINT32_MAX ? first_length : UINT32_MAX);
+    if (compare_lists(first, &ends[0], second, &ends[1], NULL) > count)
+        return answer(14, 0, first_length);
+    return ends[1] < second_length ? answer(0, 1, ends[1]) : answer(0, 0, ends[0]);
+}
+
 /* Views: an image as RGBA rows. */
 
 enum { MOST_SIDE = 1024 };

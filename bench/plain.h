@@ -21,6 +21,10 @@ uint64_t plain_stream_close(struct plain_stream *stream);
 /* The RDP list of a display list in memory; bits 55:32 are the display list commands read. */
 uint64_t plain_translate(const uint8_t *memory, size_t memory_length, uint32_t start, uint8_t *out, size_t out_length);
 
+/* Two lists compared, four numbers an entry, and the rest of the longer one: bits 55:32 say which that is. */
+uint64_t plain_compare(const uint8_t *first, size_t first_length, const uint8_t *second, size_t second_length, uint32_t *entries, size_t count);
+uint64_t plain_rest(const uint8_t *first, size_t first_length, const uint8_t *second, size_t second_length, size_t count);
+
 /* An image in memory as rows of red, green, blue and alpha. */
 uint64_t plain_view(const uint8_t *memory, size_t memory_length, uint64_t start, uint64_t address, uint32_t width, uint32_t height, uint32_t size,
                     uint8_t *out, size_t out_length);

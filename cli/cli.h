@@ -292,7 +292,7 @@ typedef struct {
     int count;
     Input input;
     const char *output; /* NULL where -o is not given */
-    bool help, brief, quiet, verbose, failures, all, afresh, dry, in_place, steps, has_memory, has_image;
+    bool help, brief, quiet, verbose, failures, all, afresh, dry, in_place, json, steps, has_memory, has_image;
     const struct Format *format; /* of what check tells */
     Number from, to, around; /* places that dump shows */
     const char *memory_file, *texture; /* files of memory and of texture memory; NULL where they are zeros */
@@ -302,8 +302,8 @@ typedef struct {
 
 /* The commands of the tool, a bit each. */
 enum {
-    OF_CHECK = 1, OF_REPAIR = 2, OF_DUMP = 4, OF_DRAW = 8, OF_REPORT = 16, OF_TRANSLATE = 32,
-    OF_LISTS = OF_CHECK | OF_REPAIR | OF_DUMP | OF_DRAW | OF_REPORT, OF_ALL = OF_LISTS | OF_TRANSLATE
+    OF_CHECK = 1, OF_REPAIR = 2, OF_DUMP = 4, OF_DRAW = 8, OF_REPORT = 16, OF_DIFF = 32, OF_TRANSLATE = 64,
+    OF_LISTS = OF_CHECK | OF_REPAIR | OF_DUMP | OF_DRAW | OF_REPORT | OF_DIFF, OF_ALL = OF_LISTS | OF_TRANSLATE
 };
 
 /* A command of the tool. */
@@ -311,8 +311,8 @@ typedef struct {
     unsigned command; /* its bit */
     const char *name;
     int (*run)(const Arguments *arguments);
-    int most;          /* files that it takes; it needs one */
-    const char *takes; /* what they are */
+    int least, most;   /* files that it takes */
+    const char *takes; /* what one of them is */
     const char *help;
 } Entry;
 
@@ -355,6 +355,7 @@ int run_repair(const Arguments *arguments);
 int run_dump(const Arguments *arguments);
 int run_draw(const Arguments *arguments);
 int run_report(const Arguments *arguments);
+int run_diff(const Arguments *arguments);
 int run_translate(const Arguments *arguments);
 
 #endif

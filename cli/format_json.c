@@ -1,8 +1,8 @@
 /* What check tells machines, by jansson: as JSON of its own, and as SARIF. Both are one document, printed at the end. */
 #define _POSIX_C_SOURCE 200809L
 #include "check.h"
+#include "json.h"
 
-#include <jansson.h>
 #include <stdlib.h>
 #include <string.h>
 
@@ -29,7 +29,7 @@ static bool print_document(json_t *document)
 }
 
 /* A text as JSON has it: bytes that are no UTF-8 become '?'. */
-static json_t *json_text(const char *text)
+json_t *json_text(const char *text)
 {
     json_t *value = json_string(text);
     char *copy = value == NULL ? strdup(text) : NULL;

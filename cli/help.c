@@ -14,6 +14,7 @@ static const char overview[] =
     "  dump       show a list command by command\n"
     "  draw       draw the rectangles of a list into memory\n"
     "  report     write a page about a list, for a browser\n"
+    "  diff       compare two lists command by command\n"
     "  translate  write the list that a game's display list stands for\n\n"
     "'lanyardrove help COMMAND' or 'lanyardrove COMMAND --help' tells more of a\n"
     "command; 'lanyardrove -V' or '--version' prints the version. A FILE of - is\n"

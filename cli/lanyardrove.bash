@@ -6,7 +6,7 @@ _lanyardrove()
     local options input="--offset --length --swap --hex -h --help"
     COMPREPLY=()
     if [ "$COMP_CWORD" -eq 1 ]; then
-        mapfile -t COMPREPLY < <(compgen -W "check repair dump draw report translate help --help --version" -- "$current")
+        mapfile -t COMPREPLY < <(compgen -W "check repair dump draw report diff translate help --help --version" -- "$current")
         return
     fi
     case ${COMP_WORDS[1]} in
@@ -14,14 +14,18 @@ _lanyardrove()
     repair) options="--afresh --check -i --in-place -o --output $input" ;;
     report) options="--f3dex2 --memory --start --texture --steps -o --output $input" ;;
     dump) options="--brief --from --to --around --f3dex2 $input" ;;
+    diff) options="-q --quiet --format -o --output $input" ;;
     translate) options="--start -o --output -h --help" ;;
-    help) mapfile -t COMPREPLY < <(compgen -W "check repair dump draw report translate" -- "$current"); return ;;
+    help) mapfile -t COMPREPLY < <(compgen -W "check repair dump draw report diff translate" -- "$current"); return ;;
     draw) options="--f3dex2 --memory --start --texture --image -o --output $input" ;;
     *) return ;;
     esac
     case $previous in
     --memory) mapfile -t COMPREPLY < <(compgen -W "64K 1M 4M 8M" -- "$current"; compgen -f -- "$current"); return ;;
-    --format) mapfile -t COMPREPLY < <(compgen -W "text gcc github json sarif" -- "$current"); return ;;
+    --format)
+        local forms="text gcc github json sarif"
+        [ "${COMP_WORDS[1]}" = diff ] && forms="text json"
+        mapfile -t COMPREPLY < <(compgen -W "$forms" -- "$current"); return ;;
     --start|--f3dex2|--image|--offset|--length|--from|--to|--around) return ;;
     esac
     if [[ $current == -* ]]; then

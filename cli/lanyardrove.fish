@@ -1,6 +1,6 @@
 # fish completion for lanyardrove
 
-set -l lists check repair dump draw report
+set -l lists check repair dump draw report diff
 set -l commands $lists translate
 
 complete -c lanyardrove -n "not __fish_seen_subcommand_from $commands help" -f
@@ -10,6 +10,8 @@ complete -c lanyardrove -n "not __fish_seen_subcommand_from $commands help" -s V
 complete -c lanyardrove -n "__fish_seen_subcommand_from help" -f -a "$commands"
 
 complete -c lanyardrove -n "__fish_seen_subcommand_from check" -s q -l quiet -d "number and place alone"
+complete -c lanyardrove -n "__fish_seen_subcommand_from diff" -s q -l quiet -d "the count alone"
+complete -c lanyardrove -n "__fish_seen_subcommand_from diff" -l format -x -a "text json"
 complete -c lanyardrove -n "__fish_seen_subcommand_from check" -s v -l verbose -d "the cycles waited too"
 complete -c lanyardrove -n "__fish_seen_subcommand_from check" -l failures -d "leave out accepted lists"
 complete -c lanyardrove -n "__fish_seen_subcommand_from check" -l all -d "every missing sync"
@@ -30,7 +32,7 @@ complete -c lanyardrove -n "__fish_seen_subcommand_from draw report" -l texture 
 complete -c lanyardrove -n "__fish_seen_subcommand_from draw" -l image -x
 complete -c lanyardrove -n "__fish_seen_subcommand_from report" -l steps -d "a page of the steps"
 
-complete -c lanyardrove -n "__fish_seen_subcommand_from repair draw report translate" -s o -l output -r -F
+complete -c lanyardrove -n "__fish_seen_subcommand_from repair draw report diff translate" -s o -l output -r -F
 
 complete -c lanyardrove -n "__fish_seen_subcommand_from check dump draw report" -l f3dex2 -x
 complete -c lanyardrove -n "__fish_seen_subcommand_from $lists" -l offset -x

@@ -4,7 +4,7 @@
 _lanyardrove()
 {
     local -a commands input options memory display
-    commands=(check repair dump draw report translate)
+    commands=(check repair dump draw report diff translate)
     input=('--offset=:byte:' '--length=:bytes:' --swap --hex -h --help '*:list:_files')
     display='--f3dex2=:offset:'
     memory=($display '--memory=:memory:{compadd 64K 1M 4M 8M; _files}' '--start=:address:' '--texture=:texture:_files')
@@ -18,6 +18,7 @@ _lanyardrove()
     dump) options=($display --brief '--from=:place:' '--to=:place:' '--around=:place:') ;;
     draw) options=($memory '--image=:image:' '-o:output:_files' '--output=:output:_files') ;;
     report) options=($memory --steps '-o:output:_files' '--output=:output:_files') ;;
+    diff) options=(-q --quiet '--format=:form:(text json)' '-o:output:_files' '--output=:output:_files') ;;
     translate)
         options=('--start=:offset:' '-o:output:_files' '--output=:output:_files')
         input=(-h --help '*:memory:_files') ;;

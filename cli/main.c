@@ -7,14 +7,14 @@
 
 /* The help is for terminals of 80 columns. */
 static const Entry entries[] = {
-    { OF_CHECK, "check", run_check, INT_MAX, "list",
+    { OF_CHECK, "check", run_check, 1, INT_MAX, "list",
       "check [OPTION].. FILE..\n"
       "Prints 'number place' for a list, then what it means. Number 0 accepts the\n"
       "list, and the place is the number of its words; any other number is the first\n"
       "refusal, at a word of the list. Of a missing sync it says also for which command\n"
       "it is missing. Of a pipe no more is read than up to the first refused command.\n"
       "With several files there is a line for each, and a count." },
-    { OF_REPAIR, "repair", run_repair, INT_MAX, "list",
+    { OF_REPAIR, "repair", run_repair, 1, INT_MAX, "list",
       "repair FILE [-o OUT], or repair --in-place|--check FILE..\n"
       "Writes the list with the syncs inserted that it misses, at the fewest cycles,\n"
       "and says which sync stands before which command, and the cycles that the list\n"
@@ -22,18 +22,18 @@ static const Entry entries[] = {
       "text to standard error. Nothing is written where the list is refused for another\n"
       "reason than a missing sync.\n"
       "With --afresh it says which syncs go, come and change." },
-    { OF_DUMP, "dump", run_dump, 1, "list",
+    { OF_DUMP, "dump", run_dump, 1, 1, "list",
       "dump [OPTION].. FILE\n"
       "Shows the verdict, then the list command by command: place, byte, words, name,\n"
       "the hazards before it (pipe, tile, draw, load) and every field. At the refused\n"
       "command stands why, and the command that it has to wait for is marked. After it\n"
       "the hazards go on as if it had run." },
-    { OF_DRAW, "draw", run_draw, 1, "list",
+    { OF_DRAW, "draw", run_draw, 1, 1, "list",
       "draw FILE --memory BYTES|FILE -o OUT [OPTION]..\n"
       "Draws a list into memory, and writes the picture in it: fill rectangles, and\n"
       "what texture rectangles copy of the tiles that are loaded. Nothing is written\n"
       "where the list is refused. Numbers are decimal, or hexadecimal after 0x." },
-    { OF_REPORT, "report", run_report, 1, "list",
+    { OF_REPORT, "report", run_report, 1, 1, "list",
       "report FILE -o OUT [OPTION]..\n"
       "Writes a page in HTML, which needs no other file: the verdict with the cycles\n"
       "waited, the hazards along the list, the syncs that a repair would insert, the\n"
@@ -41,7 +41,14 @@ static const Entry entries[] = {
       "to the one that it has to wait for. It is written for a refused list too.\n"
       "The list is drawn into zeros at every address, or into what --memory gives.\n"
       "With --steps the page shows the picture after each draw, step by step." },
-    { OF_TRANSLATE, "translate", run_translate, 1, "file of memory",
+    { OF_DIFF, "diff", run_diff, 2, 2, "list",
+      "diff [OPTION].. FIRST SECOND\n"
+      "Compares two lists command by command, from the first on: both places of each\n"
+      "pair that differs, both commands, or of the same command each field that\n"
+      "differs with both values. Bits that belong to no field don't count. Then it\n"
+      "counts them, and the commands that only one list has. Exit status: 0 where the\n"
+      "lists are the same, 1 where they differ, 2 where one cannot be compared." },
+    { OF_TRANSLATE, "translate", run_translate, 1, 1, "file of memory",
       "translate FILE [--start OFFSET] -o OUT\n"
       "Writes the list that a game's display list (Fast3DEX2) stands for. FILE is the\n"
       "memory that it lies in; its addresses are offsets there. Prints 'number place'\n"

@@ -37,6 +37,14 @@ static bool set_format(void *member, const char *value)
     return *format != NULL;
 }
 
+/* Text is what diff tells if nothing is said. */
+static bool set_json(void *member, const char *value)
+{
+    bool *json = member;
+    *json = strcmp(value, "json") == 0;
+    return *json || strcmp(value, "text") == 0;
+}
+
 static bool set_output(void *member, const char *value)
 {
     const char **output = member;
@@ -84,6 +92,8 @@ static const Option options[] = {
     { OF_CHECK, "format", 0, "FORM", set_format, offsetof(Arguments, format), "one of text, gcc, github, json and sarif",
       "how lists are told: text, gcc (as compilers do), github\n"
       "(annotations), json or sarif" },
+    { OF_DIFF, "quiet", 'q', FLAG(quiet), "count what differs, and tell no more" },
+    { OF_DIFF, "format", 0, "FORM", set_json, offsetof(Arguments, json), "one of text and json", "how it is told: text or json" },
     { OF_DUMP, "brief", 0, FLAG(brief), "leave out the fields that are 0" },
     { OF_DUMP, "from", 0, NUMBER("PLACE", from), "show the commands from this word on" },
     { OF_DUMP, "to", 0, NUMBER("PLACE", to), "show the commands up to this word" },
@@ -119,6 +129,7 @@ static const Option options[] = {
       "the file to write: .png or .ppm for the picture, .bin for\n"
       "all of memory, or with --image for the picture's bytes" },
     { OF_REPORT, "output", 'o', OUTPUT, "the file to write" },
+    { OF_DIFF, "output", 'o', OUTPUT, "write a page in HTML too: both lists side by side" },
     { OF_TRANSLATE, "output", 'o', OUTPUT, "the file to write; with - the text goes to standard error" },
     { OF_LISTS, "offset", 0, NUMBER("BYTE", input.offset), "where the list begins in the file; 0 if not given" },
     { OF_LISTS, "length", 0, NUMBER("BYTES", input.length), "the list's length; to the end of the file if not given" },
@@ -196,6 +207,14 @@ static bool take_option(const Entry *entry, int found, Arguments *arguments)
     return taken;
 }
 
+/* Too few files, or too many. */
+static void complain_of_count(const Entry *entry, int count)
+{
+    bool two = entry->least > 1;
+    complain(count < entry->least ? "%s needs %s %s%s; - is standard input" : "%s takes %s %s%s", entry->name,
+             two ? "two" : count < entry->least ? "a" : "one", entry->takes, two ? "s" : "");
+}
+
 /* Reads the arguments of a command and runs it; argv[0] is its name. */
 int run_entry(const Entry *entry, int argc, char **argv)
 {
@@ -214,8 +233,8 @@ int run_entry(const Entry *entry, int argc, char **argv)
     }
     arguments.paths = argv + optind;
     arguments.count = argc - optind;
-    if (arguments.count == 0 || arguments.count > entry->most) {
-        complain(arguments.count == 0 ? "%s needs a %s; - is standard input" : "%s takes one %s", entry->name, entry->takes);
+    if (arguments.count < entry->least || arguments.count > entry->most) {
+        complain_of_count(entry, arguments.count);
         return usage_error(entry->name);
     }
     if (arguments.input.display.is_given && !is_as_it_stands(&arguments.input)) {

@@ -80,9 +80,11 @@ void steps_free(Steps *steps);
 
 extern const char command_blocks[];
 void style_add(Text *text);
+void head_add(Text *text, const char *verdict, const char *path, const char *kind);
+void foot_add(Text *text);
 void page_add(Text *text, const Report *report);
 void steps_page_add(Text *text, const Report *report, const Steps *steps);
-void head_add(Text *text, const Report *report, const char *more);
+void head_start_add(Text *text, const char *verdict, const char *path, const char *more);
 void answer_add(Text *text, const List *list, Answer answer, Purpose purpose);
 void meaning_add(Text *text, const Report *report);
 void strip_add(Text *text, const Rows *rows);

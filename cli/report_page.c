@@ -5,22 +5,30 @@
 #define PICTURE_WIDTH 640 /* small pictures are shown larger, up to this many pixels */
 #define PIXEL_WIDTH 40    /* and up to this many for each of theirs */
 
-/* The start of a page, with the verdict and the name of the list in its title. */
-void head_add(Text *text, const Report *report, const char *more)
+/* The start of a page about a file, up to the end of its style: what comes of it stands in the title. */
+void head_start_add(Text *text, const char *verdict, const char *path, const char *more)
 {
     text_add(text, "<!DOCTYPE html>\n<html lang=\"en\">\n<head>\n<meta charset=\"utf-8\">\n"
-                   "<meta name=\"viewport\" content=\"width=device-width,initial-scale=1\">\n%s<title>%s: ",
-             more, is_accepted(report->answer) ? "Accepted" : "Refused");
-    text_add_escaped(text, report->path);
+                   "<meta name=\"viewport\" content=\"width=device-width,initial-scale=1\">\n%s<title>%s: ", more, verdict);
+    text_add_escaped(text, path);
     text_add(text, "</title>\n");
     style_add(text);
 }
 
-static void add_title(Text *text, const Report *report)
+/* The head of a page about a file, and its heading. */
+void head_add(Text *text, const char *verdict, const char *path, const char *kind)
 {
-    text_add(text, "</head>\n<body>\n<main>\n<p class=\"kind\">Check of an RDP command list</p>\n<h1 id=\"top\">");
-    text_add_escaped(text, report->path);
+    head_start_add(text, verdict, path, "");
+    text_add(text, "</head>\n<body>\n<main>\n<p class=\"kind\">%s</p>\n<h1 id=\"top\">", kind);
+    text_add_escaped(text, path);
     text_add(text, "</h1>\n");
+}
+
+void foot_add(Text *text)
+{
+    char version[VERSION_ROOM];
+    version_text(version);
+    text_add(text, "</main>\n<footer>Made by lanyardrove %s</footer>\n<p class=\"top\"><a href=\"#top\">Back to top</a></p>\n</body>\n</html>\n", version);
 }
 
 /* A word of the list, which leads to its row. */
@@ -202,14 +210,11 @@ static void add_picture(Text *text, const Report *report)
 
 void page_add(Text *text, const Report *report)
 {
-    char version[VERSION_ROOM];
-    version_text(version);
-    head_add(text, report, "");
-    add_title(text, report);
+    head_add(text, is_accepted(report->answer) ? "Accepted" : "Refused", report->path, "Check of an RDP command list");
     add_verdict(text, report);
     add_hazards(text, report);
     add_repair(text, report);
     add_picture(text, report);
     table_add(text, report);
-    text_add(text, "</main>\n<footer>Made by lanyardrove %s</footer>\n<p class=\"top\"><a href=\"#top\">Back to top</a></p>\n</body>\n</html>\n", version);
+    foot_add(text);
 }

@@ -136,7 +136,7 @@ void steps_page_add(Text *text, const Report *report, const Steps *steps)
 {
     char version[VERSION_ROOM];
     version_text(version);
-    head_add(text, report, policy);
+    head_start_add(text, is_accepted(report->answer) ? "Accepted" : "Refused", report->path, policy);
     text_add(text, "<style>\n@media screen{%s}\n%s</style>\n</head>\n<body class=\"steps\">\n<main>\n", command_blocks, style);
     add_stage(text, report, steps);
     text_add(text, "<section class=\"list\" aria-label=\"Commands\">\n");

@@ -55,20 +55,23 @@ static const char table[] =
     ".choices:has(#show-marked:checked)~table tbody tr:not(.refused,.cause,.inserted,.comes,.changes),.choices:has(#show-draw:checked)~table tbody tr:not(.draw),\n"
     ".choices:has(#show-load:checked)~table tbody tr:not(.load),.choices:has(#show-set:checked)~table tbody tr:not(.set),\n"
     ".choices:has(#show-sync:checked)~table tbody tr:not(.sync),.choices:has(#show-none:checked)~table tbody tr:not(.none),\n"
-    ".choices:has(#show-unassigned:checked)~table tbody tr:not(.unassigned){display:none}\n"
+    ".choices:has(#show-unassigned:checked)~table tbody tr:not(.unassigned),\n"
+    ".choices:has(#show-differs:checked)~table tbody tr:not(.differs,.rest){display:none}\n"
     "tr:has(:target) td.place,td.place:target{background:var(--wait-soft)}[id^=w]{scroll-margin-top:4rem}\n"
     ".field{display:inline-block;margin-right:.9rem;color:var(--soft)}.field b{color:var(--ink);font-weight:600}\n"
     "tr.refused>*{background:var(--bad-soft)}tr.refused td:first-child{box-shadow:inset .4rem 0 var(--bad)}\n"
     "tr.cause>*{background:var(--wait-soft)}tr.cause td:first-child{box-shadow:inset .4rem 0 var(--wait)}\n"
     "#refused,#cause{scroll-margin-top:7rem}.reason{color:var(--bad);font-weight:700}.cause .reason{color:var(--wait)}\n"
     ".reason a,.meaning a{color:inherit}tr.inserted>*{background:var(--good-soft);color:var(--good)}\n"
-    ".fresh{color:var(--draw);font-weight:700}tr.comes>*{background:var(--panel);color:var(--draw)}\n";
+    ".fresh{color:var(--draw);font-weight:700}tr.comes>*{background:var(--panel);color:var(--draw)}\n"
+    ".pairs tr.differs>*{background:var(--wait-soft)}.pairs tr.rest>*{background:var(--panel)}.pairs .field{display:inline}\n"
+    ".pairs{table-layout:fixed}.pairs th:nth-child(3n+1){width:4rem}.pairs th:nth-child(3n+2){width:12rem}.pairs td{overflow-wrap:anywhere}\n";
 
 /* Where there is little room each command is a block. */
 const char command_blocks[] =
     "thead{display:none}table,tbody,caption{display:block}\n"
     "tr{display:grid;grid-template-columns:3.4rem 1fr;border-bottom:1px solid var(--line);padding:.4rem 0}\n"
-    "td,tbody th{border:0;padding:.1rem .5rem;grid-column:2;min-width:0;overflow-wrap:anywhere}.place{grid-column:1;grid-row:1}.name{grid-row:1}\n"
+    "td,tbody th{border:0;padding:.1rem .5rem;grid-column:2;min-width:0;overflow-wrap:anywhere}.place{grid-column:1;grid-row:1}.name{grid-row:1}.pairs .place{grid-row:auto}\n"
     "td:empty{display:none}.hazards::before{content:\"hazards before: \";color:var(--soft)}\n"
     "tr.refused{background:var(--bad-soft);box-shadow:inset .4rem 0 var(--bad)}tr.inserted{background:var(--good-soft)}\n"
     "tr.cause{background:var(--wait-soft);box-shadow:inset .4rem 0 var(--wait)}\n"

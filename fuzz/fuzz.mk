@@ -5,8 +5,8 @@
 FUZZ_ARCHIVE ?= build/liblanyardrove.a
 FUZZ_OUT ?= build/fuzz
 FUZZ_SECONDS ?= 600
-FUZZ_DRIVERS := check repair repair_afresh draw view decode encode words step stream translate
-FUZZ_FUNCTIONS := check repair repair_afresh draw view decode encode words step stream_feed stream_close translate
+FUZZ_DRIVERS := check repair repair_afresh draw view decode encode words step stream compare translate index
+FUZZ_FUNCTIONS := check repair repair_afresh draw view decode encode words step stream_feed stream_close compare rest translate index_build index_ask index_replace
 FUZZ_FLAGS := -std=gnu17 -O2 -g -Wall -Wextra -Iinclude -Ifuzz
 FUZZ_COMMON := fuzz/lent.c fuzz/lists.c fuzz/repairs.c fuzz/fields.c fuzz/acts.c fuzz/mutate.c fuzz/blocks.c
 FUZZ_HEADERS := fuzz/lent.h fuzz/lists.h fuzz/repairs.h fuzz/fields.h fuzz/acts.h fuzz/record.h fuzz/library.h $(wildcard include/lanyardrove.h)
@@ -21,7 +21,9 @@ FUZZ_WRONG := check:1 check:2 check:3 check:4 check:5 check:6 check:7 check:8 ch
     words:35 words:51 words:52 words:53 words:54 words:55 step:4 step:61 step:62 step:63 step:64 step:65 step:66 step:67 \
     stream:71 stream:72 stream:73 stream:74 stream:75 stream:76 stream:77 stream:78 stream:79 stream:80 \
     stream:81 stream:82 stream:83 stream:84 stream:85 stream:86 stream:87 stream:88 stream:89 \
-    translate:91 translate:92 translate:93 translate:94 translate:95 translate:96 translate:97 translate:98 translate:99
+    compare:111 compare:112 compare:113 compare:114 compare:115 compare:116 compare:117 compare:118 compare:119 \
+    translate:91 translate:92 translate:93 translate:94 translate:95 translate:96 translate:97 translate:98 translate:99 \
+    index:101 index:102 index:103 index:104 index:105 index:106 index:107 index:108 index:109 index:110 index:120
 
 .PHONY: fuzz-build fuzz fuzz-wrong fuzz-memcheck fuzz-always
 fuzz-build: $(FUZZ_DRIVERS:%=$(FUZZ_OUT)/%) $(FUZZ_OUT)/blocks $(FUZZ_OUT)/memcheck

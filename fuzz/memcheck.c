@@ -88,6 +88,42 @@ static void one_translate(const uint8_t *list, size_t length, uint32_t start, si
     free(out);
 }
 
+// The list beside itself with one byte turned over, and less its last word
+static void one_compare(const uint8_t *list, size_t length, size_t count, bool null) {
+    uint8_t *other = copy(list, length, null);
+    uint32_t *entries = (uint32_t *)(void *)exact(4 * count, null);
+    if (length) other[length / 2] ^= 0xFF;
+    for (size_t less = 0; less <= length && less <= 8; less += 8) {
+        const uint64_t answer = lanyardrove_compare(list, length, other, length - less, entries, count);
+        const uint64_t rest = lanyardrove_rest(list, length, other, length - less, count);
+        calls += 2;
+        written(&answer, sizeof answer);
+        written(&rest, sizeof rest);
+        if (number_of(answer) == 0) written(entries, 4 * (size_t)place_of(answer));
+    }
+    free(other);
+    free(entries);
+}
+
+// Built, asked at a place, and the command there replaced by the list's first, with room for so many numbers; the numbers beyond the entries stay undefined
+static void one_index(const uint8_t *bytes, size_t length, size_t count, uint32_t place, bool null) {
+    uint8_t *list = copy(bytes, length, null);
+    uint32_t *entries = (uint32_t *)(void *)exact(4 * count, null);
+    uint64_t answer = lanyardrove_index_build(list, length, entries, count);
+    const size_t numbers = number_of(answer) ? 0 : 2 * (size_t)place_of(answer);
+    written(&answer, sizeof answer);
+    written(entries, 4 * numbers);
+    answer = lanyardrove_index_ask(list, length, entries, numbers, place);
+    written(&answer, sizeof answer);
+    answer = lanyardrove_index_replace(list, length, entries, numbers, place, bytes, length);
+    calls += 3;
+    written(&answer, sizeof answer);
+    written(entries, 4 * numbers);
+    written(list, length);
+    free(list);
+    free(entries);
+}
+
 static void one_decode(const uint8_t *list, size_t length, size_t count, bool null) {
     uint64_t *fields = (uint64_t *)(void *)exact(8 * count, null);
     const uint64_t answer = lanyardrove_decode(list, length, fields, count);
@@ -149,6 +185,11 @@ static void one_list(const uint8_t *bytes, size_t length) {
         const uint32_t offsets[] = {0, 4, 8, (uint32_t)length, UINT32_MAX - 7};
         for (size_t s = 0; s < sizeof offsets / sizeof *offsets; s++)
             for (size_t o = 0; o < sizeof room / sizeof *room; o++) one_translate(list, length, offsets[s], room[o], null);
+        for (size_t o = 0; o < sizeof room / sizeof *room; o++) one_compare(list, length, room[o], null);
+        const size_t numbers[] = {0, 1, 2, 3, 128, 129};
+        const uint32_t asked[] = {0, 1, 3, 64, (uint32_t)(length / 8), UINT32_MAX};
+        for (size_t n = 0; n < sizeof numbers / sizeof *numbers; n++)
+            for (size_t p = 0; p < sizeof asked / sizeof *asked; p++) one_index(list, length, numbers[n], asked[p], null);
         for (size_t count = 0; count < MOST_FIELDS; count++) one_decode(list, length, count, null);
         const size_t portions[] = {1, 7, 64, 175, 176, 40000};
         for (size_t p = 0; p < sizeof portions / sizeof *portions; p++) one_stream(list, length, portions[p], null);

@@ -10,12 +10,17 @@ uint64_t right_check(const uint8_t *list, size_t length);
 uint64_t right_repair(const uint8_t *list, size_t length, uint8_t *work, size_t work_length, uint8_t *out, size_t out_length);
 uint64_t right_repair_afresh(const uint8_t *list, size_t length, uint8_t *work, size_t work_length, uint8_t *out, size_t out_length);
 uint64_t right_draw(const uint8_t *list, size_t length, uint8_t *memory, size_t memory_length, uint64_t start, uint8_t *texture, size_t texture_length);
+uint64_t right_compare(const uint8_t *first, size_t first_length, const uint8_t *second, size_t second_length, uint32_t *entries, size_t count);
+uint64_t right_rest(const uint8_t *first, size_t first_length, const uint8_t *second, size_t second_length, size_t count);
 uint64_t right_view(const uint8_t *memory, size_t length, uint64_t start, uint64_t address, uint32_t width, uint32_t height, uint32_t size, uint8_t *out,
                     size_t out_length);
 uint64_t right_translate(const uint8_t *memory, size_t memory_length, uint32_t start, uint8_t *out, size_t out_length);
 uint64_t right_decode(const uint8_t *list, size_t length, uint64_t *fields, size_t count);
 uint64_t right_encode(uint32_t number, const uint64_t *fields, size_t count, const uint8_t *suffix, size_t suffix_length, uint8_t *out, size_t out_length);
 uint64_t right_words(uint64_t first_word);
+uint64_t right_index_build(const uint8_t *list, size_t length, uint32_t *entries, size_t count);
+uint64_t right_index_ask(const uint8_t *list, size_t length, const uint32_t *entries, size_t count, uint32_t place);
+uint64_t right_index_replace(uint8_t *list, size_t length, uint32_t *entries, size_t count, uint32_t place, const uint8_t *command, size_t command_length);
 uint64_t right_step(uint32_t hazards, uint32_t number);
 uint64_t right_stream_feed(uint8_t *record, const uint8_t *portion, size_t length);
 uint64_t right_stream_close(uint8_t *record);
@@ -140,6 +145,40 @@ uint64_t lanyardrove_repair_afresh(const uint8_t *list, size_t length, uint8_t *
                 out[8 * i] = 0x27;
                 return a + (25ull << 32);
             }
+    return a;
+}
+
+static void swap(uint32_t *numbers) {
+    const uint32_t first = numbers[0];
+    numbers[0] = numbers[1];
+    numbers[1] = first;
+}
+
+uint64_t lanyardrove_compare(const uint8_t *first, size_t first_length, const uint8_t *second, size_t second_length, uint32_t *entries, size_t count) {
+    if (wrong(115)) {  // the second list's grounds first
+        const uint64_t of_second = right_compare(second, second_length, second, second_length, NULL, 0);
+        if (of_second >> 56) return of_second;
+    }
+    const uint64_t a = right_compare(first, first_length, second, second_length, entries, count), number = a >> 56;
+    const size_t numbers = (uint32_t)a;
+    if (wrong(114) && number == 0 && numbers && numbers == count) return 14ull << 56 | numbers;          // room for one more
+    if (wrong(119) && number == 14 && count) entries[count - 1] ^= 1;                                     // writes and refuses
+    if (wrong(118) && number == 0 && numbers == 0 && count >= 4 && first_length == second_length && first_length && memcmp(first, second, first_length)) {
+        memset(entries, 0, 16);  // bits of no field count
+        return 4;
+    }
+    for (size_t i = 0; number == 0 && i < numbers; i += 4) {
+        if (wrong(111)) swap(entries + i + 2);  // low half first
+        if (wrong(112)) swap(entries + i);      // places
+        if (wrong(113) && command_number(first + 8 * entries[i]) / 8 == 1 && entries[i + 3] >> 21) entries[i + 3] ^= 3u << 21;  // the suffix is bit 22
+    }
+    return a;
+}
+
+uint64_t lanyardrove_rest(const uint8_t *first, size_t first_length, const uint8_t *second, size_t second_length, size_t count) {
+    const uint64_t a = right_rest(first, first_length, second, second_length, count), number = a >> 56;
+    if (wrong(116) && number == 0 && (uint32_t)a < first_length) return a ^ 1ull << 32;       // the other list
+    if (wrong(117) && number == 14) return right_rest(first, first_length, second, second_length, SIZE_MAX) | 14ull << 56;  // the rest at 14
     return a;
 }
 
@@ -274,6 +313,34 @@ uint64_t lanyardrove_translate(const uint8_t *memory, size_t memory_length, uint
     if (wrong(97) && number == 20 && place % 8) return with_third(22ull << 56 | place, count);           // 22 before 20
     if (wrong(98) && number == 0 && 8 * place < out_length) out[8 * place] ^= 1;                         // beyond what is written
     if (wrong(99) && number == 14) return with_third(a, 0);                                              // nothing read at 14
+    return a;
+}
+
+uint64_t lanyardrove_index_build(const uint8_t *list, size_t length, uint32_t *entries, size_t count) {
+    const uint64_t a = right_index_build(list, length, entries, count), number = a >> 56;
+    const size_t numbers = 2 * (size_t)(uint32_t)a;
+    if (wrong(101) && number == 0 && numbers > 2) entries[2]++;                      // the second entry one word on
+    if (wrong(102) && number == 14) return a - 1;                                    // an entry less needed
+    if (wrong(103) && number == 0 && numbers < count) entries[numbers] ^= 1;         // beyond the entries
+    if (wrong(104) && number == 0 && numbers > 2) entries[3] = 0;                    // the marks not kept
+    return a;
+}
+
+uint64_t lanyardrove_index_ask(const uint8_t *list, size_t length, const uint32_t *entries, size_t count, uint32_t place) {
+    const uint64_t a = right_index_ask(list, length, entries, count, place), number = a >> 56;
+    if (wrong(105) && number == 24) return right_index_ask(list, length, entries, count > 2 ? 2 : count, place);  // by the first entry
+    if (wrong(106) && number == 3) return (a & 0xFFFFFFFF) | 24ull << 56;                                         // 24 before 3
+    if (wrong(107) && number == 0 && (a >> 36 & 127) == 64) return (a & 0xFFFFFFFF) | 24ull << 56;                // 63 commands read
+    return a;
+}
+
+uint64_t lanyardrove_index_replace(uint8_t *list, size_t length, uint32_t *entries, size_t count, uint32_t place, const uint8_t *command,
+                                   size_t command_length) {
+    if (wrong(108) && count && length > 8 * (size_t)place) entries[0] ^= right_index_ask(list, length, entries, count, place) >> 56 == 26;  // writes at 26
+    const uint64_t a = right_index_replace(list, length, entries, count, place, command, command_length), number = a >> 56;
+    if (wrong(109) && number == 24 && right_index_ask(list, length, entries, count, place) >> 56 == 0) return place;  // taken where no command starts
+    if (wrong(110) && number == 0) right_index_build(list, length, entries, count);                                   // all entries anew
+    if (wrong(120) && number == 25) return (a & 0xFFFFFFFF) | 3ull << 56;                                             // 3 for 25
     return a;
 }
 

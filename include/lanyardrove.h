@@ -1,6 +1,6 @@
 /*
- * Lanyardrove: checks, repairs, draws, compares, decodes and encodes command lists of the Nintendo 64's display processor
- * (RDP), shows the images that they draw, and translates the display lists of games into them.
+ * Lanyardrove: checks, repairs, compares, indexes, draws, decodes and encodes command lists of the Nintendo 64's display
+ * processor (RDP), shows the images that they draw, and translates the display lists of games into them.
  *
  * Link with build/liblanyardrove.a (`make`) and the C library. The functions allocate nothing, keep no state between calls,
  * use less than 8 KiB of stack and touch only the bytes that they are lent, so calls on different buffers may run at the
@@ -16,10 +16,10 @@
  *
  * Answers. Each function but lanyardrove_version and lanyardrove_words answers one 64-bit number, whose parts
  * lanyardrove_number, lanyardrove_place and lanyardrove_third give (or by their meaning _cause, _cycles, _command,
- * _commands_read, _list, _hazards, _required). Number 0 says that all went well; any other is the first refusal that holds: 1 and 2
- * of the list, then command by command 3, 4, 19, 5, 6 and 7 to 9, then those that the function adds, in the order of its
- * description. A refusal leaves every byte as it was, but for the repair's work buffer at 14 and a stream's record, which
- * remembers it.
+ * _commands_read, _list, _hazards, _required, _hazards_before, _index_read). Number 0 says that all went well; any other is
+ * the first refusal that holds: 1 and 2 of the list, then command by command 3, 4, 19, 5, 6 and 7 to 9, then those that the
+ * function adds, in the order of its description. A refusal leaves every byte as it was, but for the repair's work buffer at
+ * 14 and a stream's record, which remembers it.
  */
 #ifndef LANYARDROVE_H
 #define LANYARDROVE_H
@@ -74,6 +74,11 @@ enum lanyardrove_ground {
                                            place; place its offset. */
     LANYARDROVE_INVALID_SETTING = 23,   /* Translating: a ninth call deep, an address, parameter, shift or count that is not
                                            allowed; place the command's offset. */
+    LANYARDROVE_NO_COMMAND = 24,        /* Index: no command that is read, or none of the list, starts at the place asked; that
+                                           place. */
+    LANYARDROVE_LENGTHS_DIFFER = 25,    /* Index: the new command has not as many words as the one at the place; that place. */
+    LANYARDROVE_NO_ENTRY = 26,          /* Index: no entry has a place that is not beyond the one asked, or that entry's hazards
+                                           are none of 0 to 15; the place asked. */
     LANYARDROVE_NOT_VIEWABLE = 27,      /* Viewing: the width or the height is 0 or above 1,024, or the size is none of 1 to 3;
                                            place 0. */
     LANYARDROVE_RECORD_DAMAGED = 28     /* Stream: the record is none that feeding and closing leave; place 0. */
@@ -87,7 +92,9 @@ static inline uint32_t lanyardrove_third(uint64_t answer) { return (uint32_t)(an
 /* The third number by its meaning: the cause that the check gives; the cycles, of a repair those that it inserted, of a repair
    afresh all that the written list waits, of a stream those that its syncs have waited; the number of a decoded command; the display list commands that translating has read.
    Those of a repair and of decoding are 0 at a refusal. In the answers of drawing, viewing and encoding the third number is 0.
-   Of a step's answer the place is the hazards after it, and the third number's low two bits are the sync required. */
+   Of a step's answer the place is the hazards after it, and the third number's low two bits are the sync required. Of the
+   answer of a question to an index the third number has the hazards, and above them the commands read; both are 0 at a
+   refusal. */
 static inline uint32_t lanyardrove_cause(uint64_t checked) { return lanyardrove_third(checked); }
 static inline uint32_t lanyardrove_cycles(uint64_t repaired_or_fed) { return lanyardrove_third(repaired_or_fed); }
 static inline uint32_t lanyardrove_command(uint64_t decoded) { return lanyardrove_third(decoded); }
@@ -95,6 +102,8 @@ static inline uint32_t lanyardrove_commands_read(uint64_t translated) { return l
 static inline uint32_t lanyardrove_list(uint64_t rest) { return lanyardrove_third(rest); }
 static inline uint32_t lanyardrove_hazards(uint64_t stepped) { return lanyardrove_place(stepped); }
 static inline uint32_t lanyardrove_required(uint64_t stepped) { return lanyardrove_third(stepped) % 4; }
+static inline uint32_t lanyardrove_hazards_before(uint64_t asked) { return lanyardrove_third(asked) % 16; }
+static inline uint32_t lanyardrove_index_read(uint64_t asked) { return lanyardrove_third(asked) / 16; }
 
 /* The check of a list: 0 at the number of its words, or the first of refusals 1 to 9 and 19. The list is read only.
    The third number is the cause. At 7, 8 and 9 it is the place of the command that the missing sync has to wait for, the
@@ -151,6 +160,39 @@ enum lanyardrove_hazard {
        hazards = lanyardrove_hazards(lanyardrove_step(hazards, (uint32_t)(word >> 56)));
        place += lanyardrove_words(word); */
 uint64_t lanyardrove_step(uint32_t hazards, uint32_t number);
+
+/* The numbers of an index's entry, and the numbers that the entries of every list fit into. */
+#define LANYARDROVE_ENTRY_NUMBERS 2
+#define LANYARDROVE_INDEX_NUMBERS 128
+
+/* The index of a list: at every 64th command, from the first, an entry of two numbers, the command's place and the hazards
+   before it, as if every command before it ran also where it misses a sync; the check's refusals of a command do not count.
+   Writes the entries to the front of entries, which lends count numbers, two for an entry; an odd one at the end holds none.
+   Answers 0 and the entries written as the place (half as many as numbers); or 1, 2 and 3 of the list, at the places that the
+   check gives, then 14 at the entries needed. Numbers beyond the entries are not touched.
+   To learn the entries needed, lend a count of 0. An index of one list says nothing about another. */
+uint64_t lanyardrove_index_build(const uint8_t *list, size_t list_length, uint32_t *entries, size_t count);
+
+/* The hazards before the command at a place, from an index: lend it the entries that building has written, count being twice
+   their number. It starts at the last entry whose place is not beyond the one asked, and reads at most 64 commands, the one
+   asked included, none that starts past it or outside the list.
+   Answers 0 with lanyardrove_hazards_before and lanyardrove_index_read, the number of commands read; or 1 and 2 of the list; 26
+   where there is no such entry or its hazards are above 15; 3 where a command that is read is cut; 24 where none that is read
+   starts at the place. The place is the one asked, but at 1 and 2.
+   With the entries of this list the answer is 0 at the place of every command, and the hazards are those of the walk from the
+   first one. Whatever the entries are, the answer is as described. */
+uint64_t lanyardrove_index_ask(const uint8_t *list, size_t list_length, const uint32_t *entries, size_t count, uint32_t place);
+
+/* Replaces the command at a place by the first command of other bytes, which has as many words, in the list and in its index.
+   Of the list only that command's bytes change. Entry 0 to the command's own, whose number is that of the commands before it
+   divided by 64, are not touched, nor are numbers beyond the entries; the later ones become those that building gives of the
+   new list, whatever they were. So an index of the list becomes the index of the new list.
+   Answers 0 at the place; or refuses as building does, at its places; then as the question does; then by 24 where no command
+   of the list starts at the place, also where the entries, of another list, say otherwise; 3 where the new command is cut; 25
+   where it has not as many words as the old one; all at the place asked. Bytes after the new command are not read.
+   A refusal leaves the list and the entries as they were. The check is not asked: see what it says of the new list. */
+uint64_t lanyardrove_index_replace(uint8_t *list, size_t list_length, uint32_t *entries, size_t count, uint32_t place,
+                                   const uint8_t *command, size_t command_length);
 
 /* The repair of a list: writes it to the front of out with the Sync Load, Sync Tile and Sync Pipe words inserted that it
    misses, at the fewest cycles possible (25, 33 and 50 each). The written list passes the check and keeps every given word.
@@ -238,7 +280,7 @@ uint64_t lanyardrove_compare(const uint8_t *first, size_t first_length,
    lanyardrove_compare answers where count numbers are lent for its entries. At 0 the third number, lanyardrove_list, says
    which list has more commands, 0 the first and 1 the second, and the place is the byte of that list where they begin: they
    go on to its end. Where both have as many, and at every other number, it is the empty end of the first: 0 and
-   first_length. */
+   first_length, as the place at most 4,294,967,295, which stands for that and more. */
 uint64_t lanyardrove_rest(const uint8_t *first, size_t first_length,
                           const uint8_t *second, size_t second_length,
                           size_t count);

@@ -235,12 +235,13 @@ def completion_offers_commands_options_and_files():
     write("list one.rdp", b"")
     os.mkdir("lists")
     same(completed(""), [*COMMANDS, "help", "--help", "--version"])
-    same(completed("help", "d"), ["dump", "draw"])
+    same(completed("help", "d"), ["dump", "draw", "diff"])
     same((sorted(completed_by_fish("")), completed_by_zsh("")), (sorted([*COMMANDS, "help"]), [*COMMANDS, "help", "--help", "--version"]))
     same((sorted(completed_by_fish("help", "")), completed_by_zsh("help", "")), (sorted(COMMANDS), list(COMMANDS)))
     same(sorted(completed_by_fish("check", "--format", "")), ["gcc", "github", "json", "sarif", "text"])
     assert "lists/" in completed_by_fish("check", "l") and not completed_by_fish("draw", "--start", "l")
-    for typed, expected in ((["d"], ["dump", "draw"]), (["draw", "--m"], ["--memory"]), (["check", "--fo"], ["--format"]), (["check", "--format", "g"], ["gcc", "github"]),
+    same(sorted(completed_by_fish("diff", "--format", "")), ["json", "text"])
+    for typed, expected in ((["d"], ["dump", "draw", "diff"]), (["draw", "--m"], ["--memory"]), (["diff", "--format", ""], ["text", "json"]), (["check", "--fo"], ["--format"]), (["check", "--format", "g"], ["gcc", "github"]),
                             (["check", "li"], ["list one.rdp", "lists"]), (["check", "-q", "list "], ["list one.rdp"]),
                             (["repair", "x", "-o", "li"], ["list one.rdp", "lists"]), (["draw", "--start", "l"], []),
                             (["draw", "--memory", "6"], ["64K"]),

@@ -14,7 +14,7 @@ use reference::comparison::side::{Reference, Side};
 use reference::decode::suffix;
 use reference::differences::ENTRY;
 use reference::display::{walk, MOST_CALLS};
-use reference::kinds::{base_words, commands, is_draw, is_textured_draw, is_unassigned, Command};
+use reference::kinds::{base_words, commands, is_draw, is_textured_draw, is_unassigned};
 use reference::record::{pack, unpack, Record, NUMBERS};
 use reference::repair::without_syncs;
 use reference::stream::{MOST_TOTAL, ROOM};

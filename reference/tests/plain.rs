@@ -7,6 +7,21 @@ use reference::comparison::run::run;
 use reference::foreign;
 
 extern "C" {
+    fn plain_compare(
+        first: *const u8,
+        first_length: usize,
+        second: *const u8,
+        second_length: usize,
+        entries: *mut u32,
+        count: usize,
+    ) -> u64;
+    fn plain_rest(
+        first: *const u8,
+        first_length: usize,
+        second: *const u8,
+        second_length: usize,
+        count: usize,
+    ) -> u64;
     fn plain_repair_afresh(
         list: *const u8,
         list_length: usize,
@@ -44,6 +59,8 @@ fn the_plain_version_agrees_with_the_reference() {
         translate: Some(plain_translate),
         view: Some(plain_view),
         repair_afresh: Some(plain_repair_afresh),
+        compare: Some(plain_compare),
+        rest: Some(plain_rest),
         ..foreign!(
             plain_check,
             plain_repair,

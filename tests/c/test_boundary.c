@@ -2,8 +2,8 @@
  * Calls every function of include/lanyardrove.h through the archive: empty, short, cut and longest lists, null pointers where
  * a length is 0, document 01's examples, guard bytes around every buffer, every command number there and back, its length,
  * its step from each of the sixteen hazards, every unassigned number, lists in portions with the cycles that their syncs wait,
- * textures that are loaded and copied, lists whose syncs are chosen afresh, two lists compared, images viewed, and display lists
- * translated.
+ * textures that are loaded and copied, lists whose syncs are chosen afresh, two lists compared, an index asked at every place and
+ * kept up by replacements, images viewed, and display lists translated.
  * It compiles as C11 and as C++17. The last line counts the checks; the exit status says whether all passed.
  */
 #include "lanyardrove.h"
@@ -143,6 +143,8 @@ static void parts(void) {
     CHECK(lanyardrove_number(answer) == 0xFF && lanyardrove_third(answer) == 0xFFFFFF && lanyardrove_place(answer) == 0xFFFFFFFFu);
     answer = (uint64_t)6 << 32 | 13;
     CHECK(lanyardrove_hazards(answer) == 13 && lanyardrove_required(answer) == 2);
+    answer = (uint64_t)(11 + 16 * 64) << 32 | 13;
+    CHECK(lanyardrove_hazards_before(answer) == 11 && lanyardrove_index_read(answer) == 64);
 }
 
 /* A null pointer, for each pointer of each function, where its length is 0. */
@@ -157,6 +159,10 @@ static void null_pointers(void) {
     ANSWERS(lanyardrove_draw(NULL, 0, NULL, 0, 0, NULL, 0), 16, 0, 0);
     ANSWERS(lanyardrove_draw(NULL, 0, NULL, 0, 0, a_texture.bytes, LANYARDROVE_TEXTURE_BYTES), 0, 0, 0);
     ANSWERS(lanyardrove_draw(NULL, 0, NULL, 0, UINT64_MAX, a_texture.bytes, LANYARDROVE_TEXTURE_BYTES), 0, 0, 0);
+    ANSWERS(lanyardrove_index_build(NULL, 0, NULL, 0), 0, 0, 0);
+    ANSWERS(lanyardrove_index_ask(NULL, 0, NULL, 0, 0), 26, 0, 0);
+    ANSWERS(lanyardrove_index_ask(NULL, 0, NULL, 0, UINT32_MAX), 26, 0, UINT32_MAX);
+    ANSWERS(lanyardrove_index_replace(NULL, 0, NULL, 0, 7, NULL, 0), 26, 0, 7);
     ANSWERS(lanyardrove_view(NULL, 0, 0, 0, 0, 0, 0, NULL, 0), 27, 0, 0);
     ANSWERS(lanyardrove_view(NULL, 0, 0, 0, 1, 1, 1, NULL, 0), 12, 0, 0);
     ANSWERS(lanyardrove_view(NULL, 0, UINT64_MAX, UINT64_MAX, 1, 1, 1, NULL, 0), 12, 0, 0);
@@ -2088,6 +2094,197 @@ static void translate_most_memory(void) {
     free(memory);
 }
 
+/* ---- An index of a list (#111). */
+
+#define MOST_COMMANDS 4096
+#define OLD_NUMBER 0xA5A5A5A5u
+
+/* Entries with guards on both sides, and what a walk from the first command on finds. */
+static uint32_t all_entries[16 + LANYARDROVE_INDEX_NUMBERS + 16], *const entries = all_entries + 16;
+static uint32_t places[MOST_COMMANDS + 1], before[MOST_COMMANDS];
+static size_t commands;
+
+static void fresh_entries(void) {
+    size_t i;
+    for (i = 0; i < COUNT(all_entries); i++) all_entries[i] = OLD_NUMBER;
+}
+
+/* Nothing is written from a number on, nor before the entries. */
+static int entries_end_at(size_t from) {
+    size_t i;
+    for (i = 0; i < COUNT(all_entries); i++)
+        if ((i < 16 || i >= 16 + from) && all_entries[i] != OLD_NUMBER) return 0;
+    return 1;
+}
+
+/* Walks a_list by the lengths and the steps. */
+static void walk_list(size_t length) {
+    uint32_t place = 0, hazards = 0;
+    for (commands = 0; place < length / 8; commands++) {
+        uint64_t word = get(a_list.bytes + 8 * place);
+        places[commands] = place;
+        before[commands] = hazards;
+        hazards = lanyardrove_hazards(lanyardrove_step(hazards, (uint32_t)(word >> 56)));
+        place += (uint32_t)lanyardrove_words(word);
+    }
+    places[commands] = place;
+}
+
+/* Whether these are the entries of the commands walked. */
+static int are_entries(const uint32_t *found) {
+    size_t i;
+    for (i = 0; i < commands; i += 64)
+        if (found[i / 32] != places[i] || found[i / 32 + 1] != before[i]) return 0;
+    return 1;
+}
+
+/* A list of so many words: random whole commands, mostly of one word, and no operations where none fits; its length in bytes. */
+static size_t random_list(size_t most) {
+    size_t n = 0, words, i;
+    fresh(&a_list);
+    while (n < most) {
+        uint64_t word = random_word();
+        if (random_word() % 4) word = word % 0x0100000000000000u | (0x24 + random_word() % 28) << 56;
+        if (n + lanyardrove_words(word) > most) word = N;
+        words = (size_t)lanyardrove_words(word);
+        put(a_list.bytes + 8 * n, word);
+        for (i = 1; i < words; i++) put(a_list.bytes + 8 * (n + i), random_word());
+        n += words;
+    }
+    return 8 * n;
+}
+
+/* Builds with just the room, with a number less and with room to spare, and asks at every place. */
+static void index_of(size_t length, int line) {
+    size_t numbers, i, k = 0;
+    walk_list(length);
+    numbers = 2 * ((commands + 63) / 64);
+    fresh_entries();
+    if (numbers) expect_answer(lanyardrove_index_build(a_list.bytes, length, entries, numbers - 1), 14, 0, (unsigned)numbers / 2, line);
+    expect(entries_end_at(0), "14 leaves the entries", line);
+    expect_answer(lanyardrove_index_build(a_list.bytes, length, entries, numbers), 0, 0, (unsigned)numbers / 2, line);
+    expect(are_entries(entries) && entries_end_at(numbers), "the entries, and nothing beyond", line);
+    fresh_entries();
+    expect_answer(lanyardrove_index_build(a_list.bytes, length, entries, LANYARDROVE_INDEX_NUMBERS), 0, 0, (unsigned)numbers / 2, line);
+    expect(are_entries(entries) && entries_end_at(numbers), "the entries, with room to spare", line);
+    for (i = 0; i <= length / 8; i++) {
+        uint64_t answer = lanyardrove_index_ask(a_list.bytes, length, entries, numbers, (uint32_t)i);
+        if (k < commands && places[k] == i) {
+            expect_answer(answer, 0, before[k] + 16 * (unsigned)(k % 64 + 1), (unsigned)i, line);
+            k++;
+        } else
+            expect_answer(answer, commands ? 24 : 26, 0, (unsigned)i, line);
+    }
+    expect(untouched_from(&a_list, length), "nothing beside the list", line);
+}
+
+/* Replaces each command by another of its length, and compares with the index built anew. */
+static void replace_each(size_t length, int line) {
+    size_t k, all = commands, numbers = 2 * ((all + 63) / 64);
+    uint8_t command[8 * LANYARDROVE_MOST_WORDS + 8], old[ROOM];
+    for (k = 0; k < all; k++) {
+        uint32_t place = places[k];
+        size_t words = places[k + 1] - place, i;
+        uint64_t first = random_word();
+        while (lanyardrove_words(first) != words) first = random_word() % 0x4000000000000000u;
+        put(command, first);
+        for (i = 8; i < sizeof command; i++) command[i] = (uint8_t)random_word();
+        memcpy(old, a_list.bytes, length);
+        expect_answer(lanyardrove_index_replace(a_list.bytes, length, entries, numbers, place, command, 8 * words - 1), 3, 0, place, line);
+        expect(memcmp(old, a_list.bytes, length) == 0 && are_entries(entries), "3 leaves all", line);
+        expect_answer(lanyardrove_index_replace(a_list.bytes, length, entries, numbers, place, command, sizeof command), 0, 0, place, line);
+        memcpy(old + 8 * place, command, 8 * words);
+        expect(memcmp(old, a_list.bytes, length) == 0, "the command's bytes alone", line);
+        walk_list(length);
+        expect(commands == all && are_entries(entries) && entries_end_at(numbers), "the entries of the new list", line);
+    }
+    expect(untouched_from(&a_list, length), "nothing beside the list", line);
+}
+
+static void index_every_place(void) {
+    const size_t lengths[] = {0, 1, 2, 63, 64, 65, 127, 128, 129, 1000, 4095, 4096};
+    size_t i, j;
+    for (i = 0; i < COUNT(lengths); i++) index_of(random_list(lengths[i]), __LINE__);
+    fresh(&a_list);
+    for (j = 0; j < 4096; j++) put(a_list.bytes + 8 * j, j % 3 ? R : j % 2 ? L : PIPE);
+    index_of(32768, __LINE__); /* 64 entries, the most */
+    for (i = 0; i < 12; i++) {
+        size_t length = random_list(1 + (size_t)(random_word() % 400));
+        index_of(length, __LINE__);
+        replace_each(length, __LINE__);
+    }
+}
+
+/* Building, a question and a replacement at the lists that they refuse, and the order of their refusals. */
+static void index_refusals(void) {
+    const uint64_t three[] = {R, L, C}, cut[] = {R, 0x0800000000000000u, 0, 0}, longer[] = {R, TEXTURED, 0, C};
+    const uint8_t sync[8] = {0x27}, rectangle[16] = {0x24};
+    size_t n;
+    fresh_entries();
+    fresh(&a_list);
+    ANSWERS(lanyardrove_index_build(a_list.bytes, 32776, entries, 0), 1, 0, 4096);
+    ANSWERS(lanyardrove_index_ask(a_list.bytes, 32769, entries, 0, 5), 1, 0, 4096);
+    ANSWERS(lanyardrove_index_replace(a_list.bytes, 32776, entries, 0, 5, NULL, 0), 1, 0, 4096);
+    ANSWERS(lanyardrove_index_build(a_list.bytes, 23, entries, 0), 2, 0, 2);
+    ANSWERS(lanyardrove_index_ask(a_list.bytes, 23, entries, 0, 5), 2, 0, 2);
+    ANSWERS(lanyardrove_index_replace(a_list.bytes, 23, entries, 0, 5, NULL, 0), 2, 0, 2);
+    n = LIST(cut);
+    ANSWERS(lanyardrove_index_build(a_list.bytes, n, entries, 0), 3, 0, 1);
+    ANSWERS(lanyardrove_index_replace(a_list.bytes, n, entries, 0, 9, NULL, 0), 3, 0, 1);
+    entries[0] = 0, entries[1] = 0;
+    ANSWERS(lanyardrove_index_ask(a_list.bytes, n, entries, 2, 0), 0, 16, 0);
+    ANSWERS(lanyardrove_index_ask(a_list.bytes, n, entries, 2, 1), 3, 0, 1);
+    ANSWERS(lanyardrove_index_ask(a_list.bytes, n, entries, 2, 3), 3, 0, 3);
+    n = LIST(longer);
+    ANSWERS(lanyardrove_index_replace(a_list.bytes, n, entries, 1, 1, NULL, 0), 14, 0, 1);
+    ANSWERS(lanyardrove_index_replace(a_list.bytes, n, entries, 2, 2, NULL, 0), 24, 0, 2);
+    ANSWERS(lanyardrove_index_replace(a_list.bytes, n, entries, 2, 1, NULL, 0), 3, 0, 1);
+    ANSWERS(lanyardrove_index_replace(a_list.bytes, n, entries, 2, 1, rectangle, 15), 3, 0, 1);
+    ANSWERS(lanyardrove_index_replace(a_list.bytes, n, entries, 2, 1, sync, 8), 25, 0, 1);
+    ANSWERS(lanyardrove_index_replace(a_list.bytes, n, entries, 2, 0, rectangle, 16), 25, 0, 0);
+    ANSWERS(lanyardrove_index_replace(a_list.bytes, n, entries, 2, 4, sync, 8), 24, 0, 4);
+    CHECK(begins(a_list.bytes, longer, COUNT(longer)) && untouched_from(&a_list, n));
+    n = LIST(three);
+    ANSWERS(lanyardrove_index_ask(a_list.bytes, n, entries, 2, 2), 0, 15 + 16 * 3, 2);
+    ANSWERS(lanyardrove_index_ask(a_list.bytes, n, entries, 2, 3), 24, 0, 3);
+    ANSWERS(lanyardrove_index_replace(a_list.bytes, n, entries, 2, 1, sync, 8), 0, 0, 1);
+    ANSWERS(lanyardrove_index_ask(a_list.bytes, n, entries, 2, 2), 0, 16 * 3, 2);
+}
+
+/* Entries that were not built from the list: unsorted, with hazards that there are not, far off, and inside a command. */
+static void index_foreign_entries(void) {
+    const uint64_t triangle[] = {N, 0x0800000000000000u, 0, 0, PIPE, R};
+    const uint8_t sync[8] = {0x27};
+    size_t n = LIST(triangle), i;
+    fresh_entries();
+    entries[0] = 1, entries[1] = 0;
+    ANSWERS(lanyardrove_index_ask(a_list.bytes, n, entries, 2, 0), 26, 0, 0); /* beyond the place */
+    ANSWERS(lanyardrove_index_ask(a_list.bytes, n, entries, 1, 1), 26, 0, 1); /* half an entry */
+    entries[0] = 0, entries[1] = 16;
+    ANSWERS(lanyardrove_index_ask(a_list.bytes, n, entries, 2, 0), 26, 0, 0);
+    entries[1] = 9, entries[2] = 5, entries[3] = 0, entries[4] = 1, entries[5] = 6;
+    ANSWERS(lanyardrove_index_ask(a_list.bytes, n, entries, 6, 5), 0, 7 + 16 * 2, 5); /* the last of the three that are not beyond */
+    ANSWERS(lanyardrove_index_ask(a_list.bytes, n, entries, 4, 5), 0, 16, 5);
+    ANSWERS(lanyardrove_index_ask(a_list.bytes, n, entries, 2, 5), 0, 13 + 16 * 3, 5); /* entry hazards as they stand */
+    ANSWERS(lanyardrove_index_ask(a_list.bytes, n, entries, 4, 1), 0, 9 + 16 * 2, 1);
+    entries[0] = UINT32_MAX, entries[1] = 0;
+    ANSWERS(lanyardrove_index_ask(a_list.bytes, n, entries, 2, UINT32_MAX), 24, 0, UINT32_MAX); /* outside the list */
+    entries[0] = 4; /* the triangle's last word, which looks like a Sync Pipe */
+    ANSWERS(lanyardrove_index_ask(a_list.bytes, n, entries, 2, 4), 0, 16, 4);
+    ANSWERS(lanyardrove_index_replace(a_list.bytes, n, entries, 2, 4, sync, 8), 24, 0, 4);
+    CHECK(begins(a_list.bytes, triangle, COUNT(triangle)) && entries[0] == 4 && entries[1] == 0);
+    ANSWERS(lanyardrove_index_replace(a_list.bytes, n, entries, 2, 5, sync, 8), 0, 0, 5);
+    CHECK(entries[0] == 4 && get(a_list.bytes + 40) == PIPE); /* the only entry is the command's own */
+
+    fresh(&a_list);
+    for (i = 0; i < 200; i++) put(a_list.bytes + 8 * i, N);
+    for (i = 0; i < 8; i++) entries[i] = 0;
+    ANSWERS(lanyardrove_index_ask(a_list.bytes, 1600, entries, 8, 63), 0, 16 * 64, 63);
+    ANSWERS(lanyardrove_index_ask(a_list.bytes, 1600, entries, 8, 64), 24, 0, 64); /* more than 64 commands on */
+    ANSWERS(lanyardrove_index_replace(a_list.bytes, 1600, entries, 8, 40, sync, 8), 0, 0, 40);
+    CHECK(entries[0] == 0 && entries[2] == 64 && entries[4] == 128 && entries[6] == 192); /* the later ones are as built */
+}
+
 int main(void) {
     parts();
     null_pointers();
@@ -2139,6 +2336,9 @@ int main(void) {
     translate_settings();
     translate_most_commands();
     translate_most_memory();
+    index_every_place();
+    index_refusals();
+    index_foreign_entries();
     if (failures)
         printf("test_boundary: %lu checks, %lu FAILED\n", checks, failures);
     else

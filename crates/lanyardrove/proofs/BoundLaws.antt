@@ -21,14 +21,18 @@ use Rattle.rdp_hazards.specs.Hazards.{requiredOf}
 use Rattle.rdp_hazards.proofs.HazardLaws.{next-small, required-most}
 use Rattle.rdp_check.specs.Check.{checkRefusals, checkOf}
 use Rattle.rdp_repair.specs.declared.Repaired.{Repaired}
+use Rattle.rdp_index.specs.Index.{askOf}
 use Rattle.rdp_draw.specs.Draw.{drawAnswer}
 use Rattle.rdp_check.proofs.BoundLaws.{checkNumbers, check-numbers, among-below, place-most}
 use Rattle.rdp_repair.proofs.BoundLaws.{repairNumbers, Bounds, repair-bounds, afresh-bounds}
+use Rattle.rdp_index.proofs.BoundLaws as index
 use Rattle.rdp_draw.proofs.BoundLaws.{drawNumbers, draw-numbers, draw-place}
+use Rattle.rdp_view.specs.View.{Image}
+use Rattle.rdp_view.proofs.ViewLaws.{view-bounds}
 use Rattle.rdp_stream.proofs.StreamLaws.{Near, fed-near, closed-near, fed-told, closed-told}
 use Rattle.rdp_stream.specs.declared.Fed.{Fed}
 use Rattle.rdp_stream.specs.Records.{fedOf, closedOf}
-use Rattle.lanyardrove.specs.Replies.{Reply, reply, packed, unpacked, plain, stepReply, checkReply, repairReply, drawReply, decodedReply, decodeReply, madeReply, encodeReply, toldReply, Occurs, ofStep, ofCheck, ofRepair, ofAfresh, ofDraw, ofDecode, ofEncode, ofFeed, ofClose, lentPart, translateReply, ofTranslate}
+use Rattle.lanyardrove.specs.Replies.{Reply, reply, packed, unpacked, plain, stepReply, checkReply, repairReply, drawReply, viewReply, decodedReply, decodeReply, madeReply, encodeReply, toldReply, Occurs, ofStep, ofCheck, ofRepair, ofAfresh, ofDraw, ofView, ofDecode, ofEncode, ofFeed, ofClose, lentPart, translateReply, ofTranslate, askReply, ofBuild, ofAsk, ofReplace}
 use Rattle.f3dex2.proofs.BoundLaws.{answer-bounds}
 use Rattle.lanyardrove.proofs.PackLaws.{Small, unpacked-packed, packed-fits}
 
@@ -51,6 +55,20 @@ check-small list = record { number = among-below 256 (checkOf list .number) chec
 
 repair-small : (r : Repaired) → Bounds r → Small (repairReply r)
 repair-small r b = record { number = among-below 256 (r .number) repairNumbers tt (b .number); third = omega (arith, b .cycles); place = omega (arith, b .place) }
+
+-- an answer of #111 without a third number, at most a place that 32 bits hold
+index-small : (a : Answer) (most : ℕ) → most < 2 ^ 32 → index.Bounds most a → Small (plain a)
+index-small a most h b =
+    record { number = among-below 256 (a .number) index.indexNumbers tt (b .number); third = omega arith; place = omega (arith, b .place) }
+
+ask-small : (list entries : List ℕ) (place : ℕ) → place < 2 ^ 32 → Small (askReply list entries place)
+ask-small list entries place h =
+    let b = index.ask-bounds 0xFFFFFFFF (omega arith) list entries place (omega arith) in
+    record {
+      number = among-below 256 (askOf list entries place .number) index.indexNumbers tt (b .number);
+      third = omega (arith, b .hazards, b .read);
+      place = omega (arith, b .place);
+    }
 
 draw-small : (list : List ℕ) (start len size : ℕ) → Small (drawReply list start len size)
 draw-small list start len size =
@@ -93,6 +111,11 @@ encode-small number fields suffix out = made-small number fields suffix out (fro
 told-small : (x : Fed) → Near (x .answer) → toldReply x .third ≤ 409600 → Small (toldReply x)
 told-small x k most = record { number = omega (arith, k .number); third = omega (arith, most); place = k .place }
 
+view-small : (start len : ℕ) (i : Image) (room : ℕ) → Small (viewReply start len i room)
+view-small start len i room =
+    let b = view-bounds start len i room in
+    record { number = omega (arith, b .number); third = omega arith; place = omega (arith, b .place) }
+
 lent-short : (memory : List ℕ) → length (lentPart memory) ≤ 0xFFFFFFF8
 lent-short memory = omega (arith, length-take (min (length memory) 0xFFFFFFF8) memory)
 
@@ -107,7 +130,12 @@ small (ofStep hazards number) = step-small hazards number
 small (ofCheck list) = check-small list
 small (ofRepair is) = repair-small _ (repair-bounds is)
 small (ofAfresh is) = repair-small _ (afresh-bounds is)
+small (ofBuild list entries) = index-small _ 4096 (omega arith) (index.build-bounds list entries)
+small (ofAsk list entries place h) = ask-small list entries place h
+small (ofReplace list entries place new h) =
+    index-small _ 0xFFFFFFFF (omega arith) (index.replace-bounds 0xFFFFFFFF (omega arith) list entries place (omega arith) new)
 small (ofDraw list start len size) = draw-small list start len size
+small (ofView start len i room) = view-small start len i room
 small (ofDecode list fields) = decode-small list fields
 small (ofEncode number fields suffix out) = encode-small number fields suffix out
 small (ofFeed r long near portion) = told-small (fedOf r portion) (fed-near r long near portion) (fed-told r long near portion)

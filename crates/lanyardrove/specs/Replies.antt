@@ -17,7 +17,10 @@ use Rattle.rdp_check.specs.Check.{checkOf}
 use Rattle.rdp_repair.specs.Repair.{RepairIs}
 use Rattle.rdp_repair.specs.Afresh.{AfreshIs}
 use Rattle.rdp_repair.specs.declared.Repaired.{Repaired}
+use Rattle.rdp_index.specs.Index.{buildAnswer, askOf, replaceAnswer, ReplaceIs}
+use Rattle.rdp_index.specs.declared.Asked.{Asked}
 use Rattle.rdp_draw.specs.Draw.{drawAnswer}
+use Rattle.rdp_view.specs.View.{Image, viewAnswer}
 use Rattle.rdp_stream.specs.Records.{fedOf, closedOf}
 use Rattle.rdp_stream.specs.declared.Stream.{Stream}
 use Rattle.rdp_stream.specs.declared.Fed.{Fed}
@@ -73,9 +76,31 @@ RepairReplies list work out w work′ out′ = (r : Repaired) × (w ≡ packed (
 abbrev pub AfreshReplies : List ℕ → List ℕ → List ℕ → ℕ → List ℕ → List ℕ → Type 0
 AfreshReplies list work out w work′ out′ = (r : Repaired) × (w ≡ packed (repairReply r)) × AfreshIs list work out r work′ out′
 
+-- #111: building
+abbrev pub buildReply : List ℕ → List ℕ → Reply
+buildReply list entries = plain (buildAnswer list entries)
+
+-- a question: the third number is the hazards and 16 times the number of commands read
+abbrev pub askedReply : Asked → Reply
+askedReply a = reply (a .number) (a .hazards + 16 * a .read) (a .place)
+
+abbrev pub askReply : List ℕ → List ℕ → ℕ → Reply
+askReply list entries place = askedReply (askOf list entries place)
+
+-- a replacement, and a number that is its answer, where it leaves the list and the entries so
+abbrev pub replaceReply : List ℕ → List ℕ → ℕ → List ℕ → Reply
+replaceReply list entries place new = plain (replaceAnswer list entries place new)
+
+abbrev pub ReplaceReplies : List ℕ → List ℕ → ℕ → List ℕ → ℕ → List ℕ → List ℕ → Type 0
+ReplaceReplies list entries place new w list′ entries′ = (r : Answer) × (w ≡ packed (plain r)) × ReplaceIs list entries place new r list′ entries′
+
 -- drawing on memory of `len` bytes that starts at address `start`, with texture memory of `size` bytes
 abbrev pub drawReply : List ℕ → ℕ → ℕ → ℕ → Reply
 drawReply list start len size = plain (drawAnswer list start len size)
+
+-- an image of memory of `len` bytes that starts at address `start`, as RGBA rows in an output of `room` bytes (#113)
+abbrev pub viewReply : ℕ → ℕ → Image → ℕ → Reply
+viewReply start len i room = plain (viewAnswer start len i room)
 
 -- a decoded command of number n: the third number is n where its fields are written; the place is their count
 abbrev pub decodedReply : ℕ → List ℕ → Decoded → Reply
@@ -145,13 +170,17 @@ translateReply memory start room = translatedReply (translateAnswer (lentPart me
 abbrev pub translateBytes : List ℕ → ℕ → List ℕ → List ℕ
 translateBytes memory start out = translateOut (lentPart memory) start out
 
--- the answers that there are; of a record, its held bytes are 176 and its place is a 32-bit number
+-- the answers that there are; of a record, its held bytes are 176 and its place is a 32-bit number, as is a place that is asked
 pub data Occurs : Reply → Type 0 where
   ofStep : (hazards number : ℕ) → Occurs (stepReply hazards number)
   ofCheck : (list : List ℕ) → Occurs (checkReply list)
   ofRepair : {list work out work′ out′ : List ℕ} {r : Repaired} → RepairIs list work out r work′ out′ → Occurs (repairReply r)
   ofAfresh : {list work out work′ out′ : List ℕ} {r : Repaired} → AfreshIs list work out r work′ out′ → Occurs (repairReply r)
+  ofBuild : (list entries : List ℕ) → Occurs (buildReply list entries)
+  ofAsk : (list entries : List ℕ) (place : ℕ) → place < 2 ^ 32 → Occurs (askReply list entries place)
+  ofReplace : (list entries : List ℕ) (place : ℕ) (new : List ℕ) → place < 2 ^ 32 → Occurs (replaceReply list entries place new)
   ofDraw : (list : List ℕ) (start len size : ℕ) → Occurs (drawReply list start len size)
+  ofView : (start len : ℕ) (i : Image) (room : ℕ) → Occurs (viewReply start len i room)
   ofDecode : (list fields : List ℕ) → Occurs (decodeReply list fields)
   ofEncode : (number : ℕ) (fields suffix out : List ℕ) → Occurs (encodeReply number fields suffix out)
   ofFeed : (r : Stream) → length (r .held) ≡ 176 → r .place < 2 ^ 32 → (portion : List ℕ) → Occurs (feedReply r portion)

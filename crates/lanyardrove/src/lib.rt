@@ -6,8 +6,10 @@ ghost use lib.Dec.{eqb};
 ghost use lib.ListN.{length};
 ghost use Rattle.lanyardrove.specs.Replies.{mostLent, translateReply, translateBytes};
 ghost use Rattle.rdp_words.specs.Lengths.{commandWords};
+ghost use Rattle.rdp_index.specs.Index.{buildOut};
 ghost use Rattle.rdp_draw.specs.Draw.{drawn, memories};
-ghost use Rattle.lanyardrove.specs.Replies.{reply, mostThird, packed, stepReply, checkReply, RepairReplies, AfreshReplies, drawReply, decodeReply, decodeFields, encodeReply, encodeBytes, fedPacked, closedPacked};
+ghost use Rattle.rdp_view.specs.View.{imageAt, viewOut};
+ghost use Rattle.lanyardrove.specs.Replies.{reply, mostThird, packed, stepReply, checkReply, RepairReplies, AfreshReplies, drawReply, viewReply, decodeReply, decodeFields, encodeReply, encodeBytes, fedPacked, closedPacked, buildReply, askReply, ReplaceReplies};
 use rdp_command::Decoded;
 use rdp_stream::Stream;
 
@@ -104,6 +106,42 @@ pub extern "C" fn lanyardrove_repair_afresh(list: &[u8], work: &mut [u8], out: &
     pack(renewed.number, renewed.cycles, renewed.place)
 }
 
+// The entries of a list at every 64th command (#111): the first of refusals 1 to 3, then 14 at the entries needed, or 0 and the entries.
+#[no_mangle]
+pub extern "C" fn lanyardrove_index_build(list: &[u8], entries: &mut [u32]) -> u64
+    ensures reply { λ r. ⌜ r ≡ packed (buildReply (now (list .entry)) (now (entries .entry))) ⌝ }
+    ensures entries { λ _. ⌜ now (entries .exit) ≡ buildOut (now (list .entry)) (now (entries .entry)) ⌝ }
+{
+    let built = rdp_index::build(list, entries);
+    pack(built.number, 0, built.place)
+}
+
+// The hazards before the command at a place, by a list's entries: the first of refusals 1, 2, 26, 3 and 24, or 0, at the place that is asked. The third number
+// is the hazards and 16 times the number of commands read.
+#[no_mangle]
+pub extern "C" fn lanyardrove_index_ask(list: &[u8], entries: &[u32], place: u32) -> u64
+    ensures { λ r. ⌜ r ≡ packed (askReply (now (list .entry)) (now (entries .entry)) place) ⌝ }
+{
+    let asked = rdp_index::ask(list, entries, place);
+    let third = asked.hazards as u32 + 16 * asked.read;
+    pack(asked.number, third, asked.place)
+}
+
+// Replaces the command at a place by another of equal length, and the later entries: refused as building, then as a question; then 24, no command of the list
+// starts there, 3 and 25; or 0, at the place.
+#[no_mangle]
+pub extern "C" fn lanyardrove_index_replace(
+    list: &mut [u8],
+    entries: &mut [u32],
+    place: u32,
+    new: &[u8],
+) -> u64
+    ensures { λ r. ⌜ ReplaceReplies (now (list .entry)) (now (entries .entry)) place (now (new .entry)) r (now (list .exit)) (now (entries .exit)) ⌝ }
+{
+    let replaced = rdp_index::replace(list, entries, place, new);
+    pack(replaced.number, 0, replaced.place)
+}
+
 // Drawing a list into memory that starts at an address, with texture memory: the first of refusals 1 to 9, 16, and 10, 11, 17, 12 and 18, or 0 and the words of
 // the list.
 #[no_mangle]
@@ -119,6 +157,24 @@ pub extern "C" fn lanyardrove_draw(
 {
     let answer = rdp_draw::draw(list, memory, start, texture);
     pack(answer.number, 0, answer.place)
+}
+
+// An image in memory that starts at an address, as RGBA rows (#113): 27, 12 or 14, or 0 and the bytes written.
+#[no_mangle]
+pub extern "C" fn lanyardrove_view(
+    memory: &[u8],
+    start: u64,
+    address: u64,
+    width: u32,
+    height: u32,
+    size: u32,
+    out: &mut [u8],
+) -> u64
+    ensures reply { λ r. ⌜ r ≡ packed (viewReply start (length (now (memory .entry))) (imageAt address width height size) (length (now (out .entry)))) ⌝ }
+    ensures output { λ _. ⌜ now (out .exit) ≡ viewOut (now (memory .entry)) start (imageAt address width height size) (now (out .entry)) ⌝ }
+{
+    let viewed = rdp_view::view(memory, start, address, width, height, size, out);
+    pack(viewed.number, 0, viewed.place)
 }
 
 // The first command of a list: 0, its command number as the third number and the count of its fields, which are written in the order of the wiki's bit

@@ -4,6 +4,7 @@ ghost use Rattle.rdp_check.specs.Check.{checkOf, repairCheckOf};
 ghost use Rattle.rdp_check.specs.Checkpoint.{checkFrom};
 
 mod cause;
+mod hazards;
 mod onward;
 mod walk;
 

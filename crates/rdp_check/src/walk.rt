@@ -8,8 +8,8 @@ ghost use Rattle.rdp_check.specs.Check.{start, outcomeWithin, checked};
 ghost use Rattle.rdp_check.specs.View.{refusalsBy, code, viewOf, restAfter, restRefusal, ownRefusal, refusalWith, Watches, AdvancedIs, stopAt, judgedView, causedBy};
 use crate::Checked;
 use crate::cause;
+use crate::hazards;
 use rdp_command::Head;
-use rdp_hazards::hazards;
 use rdp_hazards::table;
 
 // Command numbers, a bit for each: the commands that set what the walk carries beside the hazards (Sync Full, Set Scissor, Set Other Modes, Set Color
@@ -226,14 +226,14 @@ fn walk(table: &[u8; 1024], list: &[u8], words: usize, view: View, strict: bool)
                 if e == hazards {
                     continue;
                 }
-                hazards = hazards::next(table, hazards, number);
+                hazards = rdp_hazards::hazards::next(table, hazards, number);
                 continue;
             }
             let count = rdp_words::words_of(number);
             if words - at < count {
                 return answer(3, at, hazards, rest);
             }
-            hazards = hazards::next(table, hazards, number);
+            hazards = rdp_hazards::hazards::next(table, hazards, number);
             at += count;
             continue;
         }

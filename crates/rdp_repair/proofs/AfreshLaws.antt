@@ -48,7 +48,7 @@ number-sync loadSync = refl
 number-sync tileSync = refl
 number-sync pipeSync = refl
 
-is-sync : (n : ℕ) (y : Sync) → n ≡ syncNumber y → isSync n ≡ true
+pub is-sync : (n : ℕ) (y : Sync) → n ≡ syncNumber y → isSync n ≡ true
 is-sync n y e = ap isSync e ∙ number-sync y
 
 word-sync : (y : Sync) → isSync (firstNumber (syncWord y)) ≡ true
@@ -56,12 +56,16 @@ word-sync y = is-sync _ y (sync-number y)
 
 -- ---- the commands that remain
 
+pub others-none : others [] ≡ []
+unfolding others
+others-none = refl
+
 module _ (c : List ℕ) (cs : List (List ℕ)) where
-  others-drop : isSync (firstNumber c) ≡ true → others (c ∷ cs) ≡ others cs
+  pub others-drop : isSync (firstNumber c) ≡ true → others (c ∷ cs) ≡ others cs
   unfolding others
   others-drop e = rw e
 
-  others-keep : isSync (firstNumber c) ≡ false → others (c ∷ cs) ≡ c ∷ others cs
+  pub others-keep : isSync (firstNumber c) ≡ false → others (c ∷ cs) ≡ c ∷ others cs
   unfolding others
   others-keep e = rw e
 
@@ -162,7 +166,7 @@ plain-inserted (c ∷ cs) = plain-with c cs (sync-case (firstNumber c)) (plain-i
 -- ---- leaving syncs out keeps refusals 3 to 6 absent
 
 -- a sync with any other bits leaves the registers, and changes nothing but the hazards
-sync-registers : (r : Registers) (c : List ℕ) (y : Sync) → firstNumber c ≡ syncNumber y → afterDecoded r (decodeOf c) ≡ r
+pub sync-registers : (r : Registers) (c : List ℕ) (y : Sync) → firstNumber c ≡ syncNumber y → afterDecoded r (decodeOf c) ≡ r
 sync-registers r c y e =
     ⊎-elim (λ whole. ap (afterDecoded r) whole ∙ command-keeps y r) (λ cut. ap (afterDecoded r) cut) (sync-word y .any-bits c e)
 

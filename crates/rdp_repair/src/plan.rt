@@ -4,7 +4,6 @@ ghost use Prim.Native.Nat.{_+_, _*_, _/_, _%_, _<_, min};
 ghost use lib.ListN.{getD};
 ghost use Rattle.rdp_hazards.specs.Hazards.{Agrees};
 ghost use Rattle.rdp_repair.specs.Work.{tabulate, bareRank, syncedRank, Bounded, RowIs};
-use rdp_hazards::hazards;
 
 // What each sync adds to a rank: 64 times the cycles that it waits, and 16 times its option.
 const LOAD: u32 = 64 * 25 + 16;
@@ -46,7 +45,8 @@ fn bare_ranks(table: &[u8; 1024], number: u8, after: &[u32; 16]) -> [u32; 16]
     let mut ranks = [0u32; 16];
     let mut m: u8 = 0;
     while m < 16 {
-        let entry = hazards::entry(table, m, number);
+        let at = number as usize * 16 + m as usize;
+        let entry = table[at];
         let rank = bare_rank(after, entry);
         ranks[m as usize] = rank;
         m += 1;

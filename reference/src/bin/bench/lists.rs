@@ -1,7 +1,7 @@
 //! The lists that are measured. Each is the same in every run.
 
 use reference::comparison::rng::Rng;
-use reference::kinds::words;
+use reference::kinds::{commands, words};
 use reference::marks::Marks;
 use reference::words::bytes_of;
 
@@ -219,6 +219,16 @@ fn ended(commands: Vec<Vec<u64>>, length: usize) -> Vec<u8> {
 pub fn mixed(length: usize) -> Vec<u8> {
     let mut rng = Rng::new(2);
     ended(game(&mut rng, length), length)
+}
+
+/// The same, with some bits of every eighth command turned over.
+pub fn changed(length: usize) -> Vec<u8> {
+    let mut list = mixed(length);
+    let places: Vec<usize> = commands(&list).map(|command| command.place).collect();
+    for place in places.into_iter().step_by(8) {
+        list[8 * place + 3] ^= 0xFF;
+    }
+    list
 }
 
 /// The longest triangles, of 22 words.

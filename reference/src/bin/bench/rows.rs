@@ -16,6 +16,8 @@ pub enum Job {
     Stream(usize),
     Repair,
     RepairAfresh,
+    /// The list compared with another, and the rest of the longer one.
+    Compare(Vec<u8>),
     /// The display list at an offset: the row's list is the memory that it lies in.
     Translate(u32),
     /// An image of a size number viewed: the row's list is the memory that it lies in.
@@ -45,16 +47,20 @@ impl Row {
     /// One call by a version.
     pub fn call(&self, version: &Version, buffers: &mut Buffers) -> u64 {
         let side = version.side;
-        match self.job {
+        match &self.job {
             Job::Check => side.check(&self.list),
             Job::Registers => (version.registers)(&self.list),
-            Job::Stream(portion) => stream(side, &self.list, portion),
+            Job::Stream(portion) => stream(side, &self.list, *portion),
             Job::Repair => side.repair(&self.list, &mut buffers.work, &mut buffers.out),
             Job::RepairAfresh => {
                 side.repair_afresh(&self.list, &mut buffers.work, &mut buffers.out)
             }
-            Job::Translate(start) => side.translate(&self.list, start, &mut buffers.out),
-            Job::View(size) => side.view(&self.list, 0, picture(size), &mut buffers.out),
+            Job::Compare(other) => {
+                let compared = side.compare(&self.list, other, &mut buffers.entries);
+                compared ^ side.rest(&self.list, other, buffers.entries.len())
+            }
+            Job::Translate(start) => side.translate(&self.list, *start, &mut buffers.out),
+            Job::View(size) => side.view(&self.list, 0, picture(*size), &mut buffers.out),
             Job::Draw(_) | Job::Copy(_) | Job::Load(_) => {
                 let (memory, texture) = buffers.drawn();
                 side.draw(&self.list, memory, 0, texture)
@@ -87,6 +93,7 @@ fn picture(size: u32) -> Image {
 pub struct Buffers {
     pub work: Vec<u8>,
     pub out: Vec<u8>,
+    entries: Vec<u32>,
     memory: Vec<Line>,
     texture: Vec<u8>,
 }
@@ -101,13 +108,15 @@ const MEMORY: usize = (WIDTH * HEIGHT * 4) as usize;
 
 impl Buffers {
     /// Memory and texture memory are zero, but what textures are moved from has no
-    /// zero byte. There are sixteen bytes of work for each word of the list, and room
+    /// zero byte. There are sixteen bytes of work for each word of the list, as many
+    /// bytes of entries, and room
     /// for twice its words; for those of a display list too, though parts of it are
     /// called again and again.
     pub fn new(row: &Row) -> Buffers {
         let mut buffers = Buffers {
             work: vec![0xA5; 2 * row.list.len()],
             out: vec![0xA5; 2 * row.list.len()],
+            entries: vec![0xA5; row.list.len() / 2],
             memory: vec![Line([0; 64]); MEMORY / 64],
             texture: vec![0; TEXTURE_BYTES],
         };
@@ -153,6 +162,8 @@ pub fn rows() -> Vec<Row> {
     rows.push(repair(lists::needy(2_048)));
     rows.push(repair_afresh("small commands", lists::needy(2_048)));
     rows.push(repair_afresh("full of syncs", lists::full_of_syncs(2_048)));
+    rows.push(compare("the same", lists::mixed(4_096)));
+    rows.push(compare("one in eight differs", lists::changed(4_096)));
     rows.push(translate(1_000));
     rows.extend(large_draws());
     rows.extend(small_draws());
@@ -212,6 +223,15 @@ fn repair_afresh(what: &str, list: Vec<u8>) -> Row {
         name: format!("repair afresh, {what}, {} words", list.len() / 8),
         list,
         job: Job::RepairAfresh,
+    }
+}
+
+/// A game's list beside another.
+fn compare(what: &str, other: Vec<u8>) -> Row {
+    Row {
+        name: format!("compare, {what}, {} words", other.len() / 8),
+        list: lists::mixed(other.len() / 8),
+        job: Job::Compare(other),
     }
 }
 

@@ -18,6 +18,8 @@ static LIBRARY: Foreign = Foreign {
     translate: Some(lanyardrove_translate),
     view: Some(lanyardrove_view),
     repair_afresh: Some(lanyardrove_repair_afresh),
+    compare: Some(lanyardrove_compare),
+    rest: Some(lanyardrove_rest),
     ..foreign!(
         lanyardrove_check,
         lanyardrove_repair,
@@ -32,6 +34,8 @@ static PLAIN: Foreign = Foreign {
     translate: Some(plain_translate),
     view: Some(plain_view),
     repair_afresh: Some(plain_repair_afresh),
+    compare: Some(plain_compare),
+    rest: Some(plain_rest),
     ..foreign!(
         plain_check,
         plain_repair,
@@ -42,6 +46,36 @@ static PLAIN: Foreign = Foreign {
 };
 
 extern "C" {
+    fn lanyardrove_compare(
+        first: *const u8,
+        first_length: usize,
+        second: *const u8,
+        second_length: usize,
+        entries: *mut u32,
+        count: usize,
+    ) -> u64;
+    fn lanyardrove_rest(
+        first: *const u8,
+        first_length: usize,
+        second: *const u8,
+        second_length: usize,
+        count: usize,
+    ) -> u64;
+    fn plain_compare(
+        first: *const u8,
+        first_length: usize,
+        second: *const u8,
+        second_length: usize,
+        entries: *mut u32,
+        count: usize,
+    ) -> u64;
+    fn plain_rest(
+        first: *const u8,
+        first_length: usize,
+        second: *const u8,
+        second_length: usize,
+        count: usize,
+    ) -> u64;
     fn lanyardrove_repair_afresh(
         list: *const u8,
         list_length: usize,

@@ -4,7 +4,7 @@ use mathlib.Core.Path.{ap, _∙_}
 use Prim.Native.Nat.{_-_, _<_}
 use native.Mathlib.Omega.{arith}
 use borrow.Author.Needs.{needs}
-use Rattle.rdp_hazards.proofs.HazardLaws.{entry-read, next-read}
+use Rattle.rdp_hazards.proofs.HazardLaws.{next-read}
 use Rattle.rdp_check.specs.View.{viewAfter, Watches, judgedView}
 use Rattle.rdp_words.proofs.PlaceLaws.{number-small}
 use Rattle.rdp_check.proofs.WalkLaws.{Walked, first, ended, past, refused, falls, again, turn, stays, quick, quick-one}
@@ -28,7 +28,7 @@ head-at-requires : tie.Need-head-at-requires Inv-loop μ-loop
 head-at-requires c κs = search needs
 
 entry-requires : tie.Need-entry-requires Inv-loop μ-loop
-entry-requires c κs = search needs
+entry-requires c κs = (c .before .before .before .before .before .before .pre .0, (c .before .before .loop .inv .0 .low, rw (c .head-at .ensures) (number-small _)))
 
 is-among-requires : tie.Need-is-among-requires Inv-loop μ-loop
 is-among-requires c κs = search needs
@@ -49,8 +49,7 @@ loop-again c =
     let h = t .before .before .before in
     let agree = h .before .before .before .before .before .before .pre .0 in
     let small : h .head-at .result .number < 64 = rw (h .head-at .ensures) (number-small _) in
-    let read = t .before .before .entry .ensures ∙ entry-read _ agree _ _ small in
-    let q = turn (l .inv .0) _ (l .inv .1) (h .before .loop-test .taken) _ (h .head-at .ensures) _ read _ (t .before .is-among .ensures) (t .if1 .taken) in
+    let q = turn (l .inv .0) _ (l .inv .1) (h .before .loop-test .taken) _ (h .head-at .ensures) _ (t .before .before .entry .ensures) _ (t .before .is-among .ensures) (t .if1 .taken) in
     (quick-one q (stays q (c .if3 .taken)) _ (c .before .before .is-among2 .ensures) (c .before .if2 .taken), l .inv .1)
 
 next-requires : tie.Need-next-requires Inv-loop μ-loop
@@ -66,8 +65,7 @@ loop-again-2 c =
     let h = t .before .before .before in
     let agree = h .before .before .before .before .before .before .pre .0 in
     let small : h .head-at .result .number < 64 = rw (h .head-at .ensures) (number-small _) in
-    let read = t .before .before .entry .ensures ∙ entry-read _ agree _ _ small in
-    let q = turn (l .inv .0) _ (l .inv .1) (h .before .loop-test .taken) _ (h .head-at .ensures) _ read _ (t .before .is-among .ensures) (t .if1 .taken) in
+    let q = turn (l .inv .0) _ (l .inv .1) (h .before .loop-test .taken) _ (h .head-at .ensures) _ (t .before .before .entry .ensures) _ (t .before .is-among .ensures) (t .if1 .taken) in
     (quick-one q (c .next .ensures ∙ next-read _ agree _ _ (l .inv .0 .low) small) _ (c .before .before .before .is-among2 .ensures) (c .before .before .if2 .taken), l .inv .1)
 
 words-of-requires : tie.Need-words-of-requires Inv-loop μ-loop
@@ -103,15 +101,14 @@ loop-again-3 c =
     let h = t .before .before .before in
     let agree = h .before .before .before .before .before .before .pre .0 in
     let small : h .head-at .result .number < 64 = rw (h .head-at .ensures) (number-small _) in
-    let read = t .before .before .entry .ensures ∙ entry-read _ agree _ _ small in
-    let q = turn (l .inv .0) _ (l .inv .1) (h .before .loop-test .taken) _ (h .head-at .ensures) _ read _ (t .before .is-among .ensures) (t .if1 .taken) in
+    let q = turn (l .inv .0) _ (l .inv .1) (h .before .loop-test .taken) _ (h .head-at .ensures) _ (t .before .before .entry .ensures) _ (t .before .is-among .ensures) (t .if1 .taken) in
     (quick q (c .next2 .ensures ∙ next-read _ agree _ _ (l .inv .0 .low) small) _ (c .before .before .words-of .ensures) (c .before .if4 .left), l .inv .1)
 
 advance-requires : tie.Need-advance-requires Inv-loop μ-loop
 advance-requires c κs =
     let h = c .before .before .before in
     let small : h .head-at .result .number < 64 = rw (h .head-at .ensures) (number-small _) in
-    (small, c .before .before .entry .ensures ∙ entry-read _ (h .before .before .before .before .before .before .pre .0) _ _ small)
+    (small, c .before .before .entry .ensures)
 
 sub-if5 : tie.Need-sub-if5 Inv-loop μ-loop
 sub-if5 c = omega (arith, c .before .before .before .before .before .loop-test .taken)

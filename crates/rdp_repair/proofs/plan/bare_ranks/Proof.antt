@@ -4,7 +4,6 @@ use Prim.Native.Nat.{ℕ, _-_, _≤_}
 use native.Mathlib.Omega.{arith}
 use borrow.Author.Needs.{needs}
 use lib.ListN.{length, getD, length-set}
-use Rattle.rdp_hazards.proofs.HazardLaws.{entry-read}
 use Rattle.rdp_repair.specs.Work.{bareRank}
 use Rattle.rdp_repair.proofs.RankLaws.{bare-is}
 use Rattle.rdp_repair.proofs.TabulateLaws.{Holds, holds-more, holds-all}
@@ -20,8 +19,17 @@ abbrev μ-loop : tie.MeasureT-loop
 loop-holds : tie.Need-loop-holds Inv-loop μ-loop
 loop-holds c = (omega arith, refl, λ k h. absurd (omega arith))
 
-entry-requires : tie.Need-entry-requires Inv-loop μ-loop
-entry-requires c κs = search needs
+mul-at : tie.Need-mul-at Inv-loop μ-loop
+mul-at c = search needs
+
+cast-at : tie.Need-cast-at Inv-loop μ-loop
+cast-at c = search needs
+
+add-at : tie.Need-add-at Inv-loop μ-loop
+add-at c = search needs
+
+element-copy-out-entry : tie.Need-element-copy-out-entry Inv-loop μ-loop
+element-copy-out-entry c = search (needs, c .before .before .pre .1)
 
 bare-rank-requires : tie.Need-bare-rank-requires Inv-loop μ-loop
 bare-rank-requires c κs = c .before .before .before .pre .2
@@ -50,7 +58,7 @@ loop-again c =
       omega arith,
       simp length-set long,
       holds-more (t .loop .ranks) (bareRank (a .number) f) (t .loop .m) _ (omega arith) (t .loop .inv .2)
-          (c .bare-rank .ensures ∙ bare-is (t .loop .m) (a .number) _ (t .before .pre .1) (c .before .entry .ensures ∙ entry-read _ (t .before .pre .0) _ _ (t .before .pre .1)) f),
+          (c .bare-rank .ensures ∙ bare-is (t .loop .m) (a .number) _ (t .before .pre .1) (t .before .pre .0 (t .loop .m) (a .number) (c .before .before .loop-test .taken) (t .before .pre .1)) f),
     )
 
 returns : tie.Need-returns Inv-loop μ-loop
@@ -66,7 +74,10 @@ bare-ranks-spec =
     Inv-loop
     μ-loop
     loop-holds
-    entry-requires
+    mul-at
+    cast-at
+    add-at
+    element-copy-out-entry
     bare-rank-requires
     cast-ranks
     mul-ranks

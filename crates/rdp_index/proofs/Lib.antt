@@ -1,0 +1,9 @@
+pub mod ReadLaws
+pub mod NoteLaws
+pub mod BuiltLaws
+pub mod CopyLaws
+pub mod BoundLaws
+pub mod StartLaws
+pub mod ReplaceLaws
+pub mod RenewLaws
+pub mod IndexLaws

@@ -1,0 +1,3 @@
+pub mod PixelLaws
+pub mod ViewLaws
+pub mod PictureLaws
