@@ -166,6 +166,26 @@ enum Fault {
     SecondFirst,
     /// The rest is always the first list's.
     RestOfFirst,
+    /// At 14 the rest is that of a success.
+    RestAtGround14,
+    /// An entry has the marks after its command.
+    MarksAfter,
+    /// The asked command is not counted as read.
+    AskedUncounted,
+    /// A question starts at the first entry.
+    FirstEntry,
+    /// The search for an entry stops at the first one beyond.
+    SearchStops,
+    /// Of an entry's marks the low four bits count.
+    MarksUnjudged,
+    /// Later entries are not renewed.
+    EntriesKept,
+    /// The entry of the replaced command is renewed too.
+    OwnEntryRenewed,
+    /// The list keeps its command.
+    CommandKept,
+    /// 25 comes before 3 of the new command.
+    LengthFirst,
     /// A five-bit channel becomes 8v.
     ChannelDark,
     /// The alpha bit becomes 0 or 1.
@@ -176,8 +196,6 @@ enum Fault {
     LastByteRefused,
     /// An image too wide is refused only where it lies inside memory.
     SizeLate,
-    /// At 14 the rest is that of a success.
-    RestAtGround14,
 }
 
 /// The reference with one fault.
@@ -356,6 +374,30 @@ impl Side for Faulty {
         }
     }
 
+    fn index_build(&self, list: &[u8], entries: &mut [u32]) -> u64 {
+        let answer = Reference.index_build(list, entries);
+        if self.0 == Fault::MarksAfter && ground(answer) == 0 {
+            for entry in entries.chunks_exact_mut(2).take(answer as usize) {
+                let number = command_number(word_at(list, entry[0] as usize));
+                entry[1] = Reference.step(entry[1], number.into()) as u32;
+            }
+        }
+        answer
+    }
+
+    fn index_ask(&self, list: &[u8], entries: &[u32], place: u32) -> u64 {
+        let entries = with_other_entries(self.0, entries, place);
+        let answer = Reference.index_ask(list, &entries, place);
+        match (self.0, ground(answer)) {
+            (Fault::AskedUncounted, 0) => answer - (16 << 32),
+            _ => answer,
+        }
+    }
+
+    fn index_replace(&self, list: &mut [u8], entries: &mut [u32], place: u32, new: &[u8]) -> u64 {
+        faulty_replace(self.0, list, entries, place, new)
+    }
+
     fn view(&self, memory: &[u8], start: u64, image: Image, out: &mut [u8]) -> u64 {
         faulty_view(self.0, memory, start, image, out)
     }
@@ -375,6 +417,45 @@ fn faulty_view(fault: Fault, memory: &[u8], start: u64, image: Image, out: &mut 
         (Fault::SizeLate, 27, 1..=3) if memory.is_empty() || image.address < start => {
             return 12 << 56;
         }
+        _ => {}
+    }
+    answer
+}
+
+/// Entries as a question with one fault sees them.
+fn with_other_entries(fault: Fault, entries: &[u32], place: u32) -> Vec<u32> {
+    let mut seen: Vec<[u32; 2]> = entries.as_chunks().0.to_vec();
+    match fault {
+        Fault::FirstEntry => seen.truncate(1),
+        Fault::SearchStops => {
+            let beyond = seen.iter().position(|entry| entry[0] > place);
+            seen.truncate(beyond.unwrap_or(seen.len()));
+        }
+        Fault::MarksUnjudged => seen.iter_mut().for_each(|entry| entry[1] &= 15),
+        _ => {}
+    }
+    seen.as_flattened().to_vec()
+}
+
+/// A command replaced with one fault.
+fn faulty_replace(
+    fault: Fault,
+    list: &mut [u8],
+    entries: &mut [u32],
+    place: u32,
+    new: &[u8],
+) -> u64 {
+    let (list_before, entries_before) = (list.to_vec(), entries.to_vec());
+    let answer = Reference.index_replace(list, entries, place, new);
+    let is_own = |entry: &&mut [u32]| entry[0] == place;
+    match (fault, ground(answer)) {
+        (Fault::EntriesKept, 0) => entries.copy_from_slice(&entries_before),
+        (Fault::OwnEntryRenewed, 0) => {
+            let own = entries.chunks_exact_mut(2).find(is_own);
+            own.into_iter().for_each(|entry| entry[1] ^= 1);
+        }
+        (Fault::CommandKept, 0) => list.copy_from_slice(&list_before),
+        (Fault::LengthFirst, 3) if new.len() < 8 => return 25 << 56 | u64::from(place),
         _ => {}
     }
     answer
@@ -597,12 +678,21 @@ fn every_fault_is_found_in_its_function() {
         (Fault::SuffixUnseen, Function::Compare),
         (Fault::SecondFirst, Function::Compare),
         (Fault::RestOfFirst, Function::Rest),
+        (Fault::RestAtGround14, Function::Rest),
+        (Fault::MarksAfter, Function::IndexBuild),
+        (Fault::AskedUncounted, Function::IndexAsk),
+        (Fault::FirstEntry, Function::IndexAsk),
+        (Fault::SearchStops, Function::IndexAsk),
+        (Fault::MarksUnjudged, Function::IndexAsk),
+        (Fault::EntriesKept, Function::IndexReplace),
+        (Fault::OwnEntryRenewed, Function::IndexReplace),
+        (Fault::CommandKept, Function::IndexReplace),
+        (Fault::LengthFirst, Function::IndexReplace),
         (Fault::ChannelDark, Function::View),
         (Fault::AlphaBit, Function::View),
         (Fault::ValueAlpha, Function::View),
         (Fault::LastByteRefused, Function::View),
         (Fault::SizeLate, Function::View),
-        (Fault::RestAtGround14, Function::Rest),
     ];
     for (fault, function) in faults {
         assert_eq!(found(fault).call.function, function, "{fault:?}");

@@ -25,6 +25,9 @@ static ARCHIVE: Foreign = foreign!(
     lanyardrove_repair_afresh,
     lanyardrove_compare,
     lanyardrove_rest,
+    lanyardrove_index_build,
+    lanyardrove_index_ask,
+    lanyardrove_index_replace,
     lanyardrove_view
 );
 

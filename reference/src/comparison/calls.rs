@@ -21,11 +21,14 @@ pub enum Function {
     Afresh,
     Compare,
     Rest,
+    IndexBuild,
+    IndexAsk,
+    IndexReplace,
     View,
 }
 
 impl Function {
-    pub const COUNT: usize = 13;
+    pub const COUNT: usize = 16;
     pub const ALL: [Function; Function::COUNT] = [
         Function::Check,
         Function::Repair,
@@ -39,6 +42,9 @@ impl Function {
         Function::Afresh,
         Function::Compare,
         Function::Rest,
+        Function::IndexBuild,
+        Function::IndexAsk,
+        Function::IndexReplace,
         Function::View,
     ];
 
@@ -56,6 +62,9 @@ impl Function {
             Function::Afresh => "afresh",
             Function::Compare => "compare",
             Function::Rest => "rest",
+            Function::IndexBuild => "build",
+            Function::IndexAsk => "ask",
+            Function::IndexReplace => "replace",
             Function::View => "view",
         }
     }
@@ -75,8 +84,10 @@ pub struct Call {
     /// The address of lent memory, or the offset of a display list in it.
     pub start: u64,
     pub list: Lent<u8>,
-    /// The list that a first one is compared with.
+    /// The list that a first one is compared with, or a new command.
     pub second: Lent<u8>,
+    /// The place that an index is asked for.
+    pub place: u32,
     /// The numbers that were lent for entries.
     pub count: usize,
     pub entries: Lent<u32>,
@@ -103,6 +114,7 @@ impl Call {
             start: 0,
             list: Lent::default(),
             second: Lent::default(),
+            place: 0,
             count: 0,
             entries: Lent::default(),
             suffix: Lent::default(),
@@ -145,6 +157,12 @@ impl Call {
             }
             Function::Compare => side.compare(list, self.second.slice(), self.entries.slice_mut()),
             Function::Rest => side.rest(list, self.second.slice(), self.count),
+            Function::IndexBuild => side.index_build(list, self.entries.slice_mut()),
+            Function::IndexAsk => side.index_ask(list, self.entries.slice(), self.place),
+            Function::IndexReplace => {
+                let (list, entries) = (self.list.slice_mut(), self.entries.slice_mut());
+                side.index_replace(list, entries, self.place, self.second.slice())
+            }
             Function::View => {
                 let memory = self.memory.slice();
                 side.view(memory, self.start, self.image, self.out.slice_mut())
@@ -217,6 +235,8 @@ impl fmt::Display for Call {
             Function::Stream => write!(f, "{}", self.portions),
             Function::Translate => self.describe_translation(f),
             Function::Compare | Function::Rest => self.describe_pair(f),
+            Function::IndexBuild => writeln!(f, "entries {} numbers", self.entries.len()),
+            Function::IndexAsk | Function::IndexReplace => self.describe_index(f),
             Function::View => self.describe_view(f),
         }
     }
@@ -240,6 +260,12 @@ impl Call {
         )?;
         let count = self.count.max(self.entries.len());
         writeln!(f, "entries {count} numbers")
+    }
+
+    fn describe_index(&self, f: &mut fmt::Formatter) -> fmt::Result {
+        writeln!(f, "entries {:?}", self.entries.slice())?;
+        let new = hexadecimal(self.second.slice());
+        writeln!(f, "place {}, new command {new}", self.place)
     }
 
     fn describe_view(&self, f: &mut fmt::Formatter) -> fmt::Result {

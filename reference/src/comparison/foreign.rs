@@ -18,6 +18,10 @@ pub type Close = unsafe extern "C" fn(*mut Record) -> u64;
 pub type Translate = unsafe extern "C" fn(*const u8, usize, u32, *mut u8, usize) -> u64;
 pub type Compare = unsafe extern "C" fn(*const u8, usize, *const u8, usize, *mut u32, usize) -> u64;
 pub type Rest = unsafe extern "C" fn(*const u8, usize, *const u8, usize, usize) -> u64;
+pub type IndexBuild = unsafe extern "C" fn(*const u8, usize, *mut u32, usize) -> u64;
+pub type IndexAsk = unsafe extern "C" fn(*const u8, usize, *const u32, usize, u32) -> u64;
+pub type IndexReplace =
+    unsafe extern "C" fn(*mut u8, usize, *mut u32, usize, u32, *const u8, usize) -> u64;
 pub type View =
     unsafe extern "C" fn(*const u8, usize, u64, u64, u32, u32, u32, *mut u8, usize) -> u64;
 
@@ -38,6 +42,9 @@ pub struct Foreign {
     pub repair_afresh: Option<Repair>,
     pub compare: Option<Compare>,
     pub rest: Option<Rest>,
+    pub index_build: Option<IndexBuild>,
+    pub index_ask: Option<IndexAsk>,
+    pub index_replace: Option<IndexReplace>,
     pub view: Option<View>,
 }
 
@@ -50,7 +57,8 @@ macro_rules! foreign {
         $check:ident, $repair:ident, $draw:ident, $feed:ident, $close:ident
         $(
             , $decode:ident, $encode:ident, $words:ident, $step:ident, $translate:ident,
-            $repair_afresh:ident, $compare:ident, $rest:ident, $view:ident
+            $repair_afresh:ident, $compare:ident, $rest:ident, $index_build:ident,
+            $index_ask:ident, $index_replace:ident, $view:ident
         )?
     ) => {{
         extern "C" {
@@ -126,6 +134,28 @@ macro_rules! foreign {
                     second_length: usize,
                     count: usize,
                 ) -> u64;
+                fn $index_build(
+                    list: *const u8,
+                    list_length: usize,
+                    entries: *mut u32,
+                    count: usize,
+                ) -> u64;
+                fn $index_ask(
+                    list: *const u8,
+                    list_length: usize,
+                    entries: *const u32,
+                    count: usize,
+                    place: u32,
+                ) -> u64;
+                fn $index_replace(
+                    list: *mut u8,
+                    list_length: usize,
+                    entries: *mut u32,
+                    count: usize,
+                    place: u32,
+                    new: *const u8,
+                    new_length: usize,
+                ) -> u64;
                 fn $view(
                     memory: *const u8,
                     memory_length: usize,
@@ -153,6 +183,9 @@ macro_rules! foreign {
             repair_afresh: $crate::foreign!($($repair_afresh)?),
             compare: $crate::foreign!($($compare)?),
             rest: $crate::foreign!($($rest)?),
+            index_build: $crate::foreign!($($index_build)?),
+            index_ask: $crate::foreign!($($index_ask)?),
+            index_replace: $crate::foreign!($($index_replace)?),
             view: $crate::foreign!($($view)?),
         }
     }};
@@ -275,6 +308,32 @@ impl Side for Foreign {
         let (first, first_length) = (first.as_ptr(), first.len());
         let (second, second_length) = (second.as_ptr(), second.len());
         unsafe { rest(first, first_length, second, second_length, count) }
+    }
+
+    fn index_build(&self, list: &[u8], entries: &mut [u32]) -> u64 {
+        let Some(build) = self.index_build else {
+            return packed::index_build(list, entries);
+        };
+        let (entries, count) = (entries.as_mut_ptr(), entries.len());
+        unsafe { build(list.as_ptr(), list.len(), entries, count) }
+    }
+
+    fn index_ask(&self, list: &[u8], entries: &[u32], place: u32) -> u64 {
+        let Some(ask) = self.index_ask else {
+            return packed::index_ask(list, entries, place);
+        };
+        let (entries, count) = (entries.as_ptr(), entries.len());
+        unsafe { ask(list.as_ptr(), list.len(), entries, count, place) }
+    }
+
+    fn index_replace(&self, list: &mut [u8], entries: &mut [u32], place: u32, new: &[u8]) -> u64 {
+        let Some(replace) = self.index_replace else {
+            return packed::index_replace(list, entries, place, new);
+        };
+        let (list, list_length) = (list.as_mut_ptr(), list.len());
+        let (entries, count) = (entries.as_mut_ptr(), entries.len());
+        let (new, new_length) = (new.as_ptr(), new.len());
+        unsafe { replace(list, list_length, entries, count, place, new, new_length) }
     }
 
     fn view(&self, memory: &[u8], start: u64, image: Image, out: &mut [u8]) -> u64 {
