@@ -14,13 +14,15 @@ use reference::comparison::side::{Reference, Side};
 use reference::decode::suffix;
 use reference::differences::ENTRY;
 use reference::display::{walk, MOST_CALLS};
-use reference::kinds::{base_words, commands, is_draw, is_textured_draw, is_unassigned};
+use reference::kinds::{
+    base_words, commands, is_draw, is_textured_draw, is_unassigned, Command,
+};
 use reference::record::{pack, unpack, Record, NUMBERS};
 use reference::repair::without_syncs;
 use reference::stream::{MOST_TOTAL, ROOM};
 use reference::texture::TEXTURE_BYTES;
 use reference::view::Image;
-use reference::words::{command_number, word_at};
+use reference::words::{bits, command_number, word_at, write_word};
 
 const SEED: u64 = 7;
 const CASES: u64 = 4_000;
@@ -74,6 +76,12 @@ enum Fault {
     TextureAtRefusal,
     /// A byte too many of texture memory is taken for right.
     TextureLonger,
+    /// A Load Block turns no word.
+    DxtIgnored,
+    /// A Load Block's row is in quarters.
+    BlockQuarters,
+    /// A Load Block of no texel or too many loads nothing.
+    BlockUnjudged,
     /// The work buffer is not cleared.
     WorkKept,
     /// At ground 14 the output is written as far as it goes.
@@ -271,7 +279,8 @@ impl Side for Faulty {
             Fault::TextureLonger => texture.len().min(TEXTURE_BYTES),
             _ => texture.len(),
         };
-        let answer = Reference.draw(list, memory, start, &mut texture[..taken]);
+        let list = with_other_blocks(self.0, list);
+        let answer = Reference.draw(&list, memory, start, &mut texture[..taken]);
         match (self.0, ground(answer)) {
             (Fault::TextureByte, 0) | (Fault::TextureAtRefusal, 18) => flip_last(texture),
             (Fault::MemoryByte, 0) | (Fault::MemoryAtRefusal, 12) => flip_last(memory),
@@ -505,6 +514,23 @@ fn told_added(list: &[u8], answer: u64) -> u64 {
     with_third(answer, added as usize)
 }
 
+/// A list as a side with a fault in its Load Blocks draws it.
+fn with_other_blocks(fault: Fault, list: &[u8]) -> Vec<u8> {
+    let mut other = list.to_vec();
+    let is_block = |command: &Command| command.number() == 0x33;
+    for Command { place, word } in commands(list).filter(is_block) {
+        let texels = bits(word, 23, 12) as i64 + 1 - bits(word, 55, 44) as i64;
+        let word = match fault {
+            Fault::DxtIgnored => word & !0xFFF,
+            Fault::BlockQuarters => word & !(0xFFF << 32) | bits(word, 43, 34) << 32,
+            Fault::BlockUnjudged if !(1..=2_048).contains(&texels) => word ^ 1 << 56,
+            _ => word,
+        };
+        write_word(&mut other, place, word);
+    }
+    other
+}
+
 /// A display list translated with one fault.
 fn faulty_translate(fault: Fault, memory: &[u8], start: u32, out: &mut [u8]) -> u64 {
     let read = with_other_words(fault, memory);
@@ -637,6 +663,9 @@ fn every_fault_is_found_in_its_function() {
         (Fault::TextureByte, Function::Draw),
         (Fault::TextureAtRefusal, Function::Draw),
         (Fault::TextureLonger, Function::Draw),
+        (Fault::DxtIgnored, Function::Draw),
+        (Fault::BlockQuarters, Function::Draw),
+        (Fault::BlockUnjudged, Function::Draw),
         (Fault::WorkKept, Function::Repair),
         (Fault::OutputAtGround14, Function::Repair),
         (Fault::OutputBeyond, Function::Repair),

@@ -1,8 +1,8 @@
--- `rdp_texels::needs::load_needs` meets its contract. Assumes nothing.
+-- `rdp_texels::load_needs` meets its contract. Assumes nothing.
 use Rattle.rdp_texels.specs.Load.{loadNeeds}
 use borrow.Author.Needs.{needs}
-use Rattle.rdp_texels.proofs.needs.load_needs.Statement.{statement}
-use Rattle.rdp_texels.proofs.needs.load_needs.Tie as tie
+use Rattle.rdp_texels.proofs.load_needs.Statement.{statement}
+use Rattle.rdp_texels.proofs.load_needs.Tie as tie
 
 is-rgba16-requires : tie.Need-is-rgba16-requires
 is-rgba16-requires c κs = search needs
