@@ -45,3 +45,12 @@ impl Refusal {
         Refusal { ground, place }
     }
 }
+
+/// Writes items to the front of a lent buffer, or refuses by 14 with what is needed, in
+/// the measure of the caller.
+pub fn write_front<T: Copy>(out: &mut [T], items: &[T], needed: usize) -> Result<(), Refusal> {
+    let front = out.get_mut(..items.len());
+    let front = front.ok_or(Refusal::new(Ground::OutputTooShort, needed))?;
+    front.copy_from_slice(items);
+    Ok(())
+}

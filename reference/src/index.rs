@@ -70,7 +70,7 @@ pub fn ask(list: &[u8], entries: &[u32], place: u32) -> Result<Asked, Refusal> {
 /// list has no entry, whatever is lent for its entries.
 fn start_of(list: &[u8], entries: &[u32], asked: u32) -> Result<(usize, Marks), Ground> {
     let not_beyond = |entry: &&[u32]| entry[0] <= asked;
-    let last = entries.chunks_exact(ENTRY).filter(not_beyond).last();
+    let last = entries.chunks_exact(ENTRY).rfind(not_beyond);
     match last {
         Some(entry) if entry[1] <= MOST_MARKS && !list.is_empty() => {
             Ok((entry[0] as usize, Marks::of_sum(entry[1])))

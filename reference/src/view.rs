@@ -1,6 +1,6 @@
 //! Request #113: a finished image becomes RGBA rows.
 
-use crate::answer::{Ground, Refusal};
+use crate::answer::{write_front, Ground, Refusal};
 
 /// The widest and the highest image.
 const MOST: u32 = 1_024;
@@ -19,12 +19,17 @@ pub struct Image {
 }
 
 impl Image {
-    /// The bytes of a pixel, unless 27 holds: "width or height 0 or above 1,024, or a size
-    /// number not 1 to 3".
-    fn bytes_per_pixel(self) -> Option<usize> {
+    /// The bytes that the image has in memory, unless 27 holds: "width or height 0 or
+    /// above 1,024, or a size number not 1 to 3".
+    pub fn bytes(self) -> Option<usize> {
         let is_shown = |length| (1..=MOST).contains(&length);
+        let lengths_are_shown = is_shown(self.width) && is_shown(self.height);
+        let bytes_per_pixel = self.bytes_per_pixel().filter(|_| lengths_are_shown)?;
+        Some(self.pixels() * bytes_per_pixel)
+    }
+
+    fn bytes_per_pixel(self) -> Option<usize> {
         match self.size {
-            _ if !is_shown(self.width) || !is_shown(self.height) => None,
             1 => Some(1),
             2 => Some(2),
             3 => Some(4),
@@ -35,36 +40,18 @@ impl Image {
     fn pixels(self) -> usize {
         self.width as usize * self.height as usize
     }
-
-    /// The bytes that a view writes, unless 27 holds.
-    pub fn written_bytes(self) -> Option<usize> {
-        let is_shown = self.bytes_per_pixel().is_some();
-        is_shown.then(|| RGBA_BYTES * self.pixels())
-    }
-
-    /// The bytes that the image has in memory, unless 27 holds.
-    pub fn memory_bytes(self) -> Option<usize> {
-        Some(self.bytes_per_pixel()? * self.pixels())
-    }
 }
 
 /// Writes the rows of an image in memory that starts at a stated address; answers the
 /// bytes written. "27 at 0 ..; 12 at 0, image outside memory; 14, place the bytes needed."
 pub fn view(memory: &[u8], start: u64, image: Image, out: &mut [u8]) -> Result<usize, Refusal> {
-    let bytes_per_pixel = image.bytes_per_pixel();
-    let bytes_per_pixel = bytes_per_pixel.ok_or(Refusal::new(Ground::NotShown, 0))?;
-    let bytes = bytes_per_pixel * image.pixels();
-    let lent = part(memory, start, image.address, bytes);
-    let lent = lent.ok_or(Refusal::new(Ground::OutsideMemory, 0))?;
-    let needed = RGBA_BYTES * image.pixels();
-    if out.len() < needed {
-        return Err(Refusal::new(Ground::OutputTooShort, needed));
-    }
-    let pixels = lent.chunks_exact(bytes_per_pixel);
-    for (written, pixel) in out.chunks_exact_mut(RGBA_BYTES).zip(pixels) {
-        written.copy_from_slice(&rgba(pixel));
-    }
-    Ok(needed)
+    let refused = |ground| Refusal::new(ground, 0);
+    let bytes = image.bytes().ok_or(refused(Ground::NotShown))?;
+    let lent = part(memory, start, image.address, bytes).ok_or(refused(Ground::OutsideMemory))?;
+    let pixels = lent.chunks_exact(bytes / image.pixels());
+    let rows: Vec<u8> = pixels.flat_map(rgba).collect();
+    write_front(out, &rows, rows.len())?;
+    Ok(rows.len())
 }
 
 /// So many bytes of memory from an address on, if all are lent. No sum wraps.

@@ -26,7 +26,7 @@ impl Viewed {
             height,
             size,
         };
-        let bytes = image.memory_bytes().unwrap_or(40) as u64;
+        let bytes = image.bytes().unwrap_or(40) as u64;
         let (start, address, length) = memory(rng, bytes);
         Viewed {
             image: Image { address, ..image },
