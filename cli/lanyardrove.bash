@@ -6,7 +6,7 @@ _lanyardrove()
     local options input="--offset --length --swap --hex -h --help"
     COMPREPLY=()
     if [ "$COMP_CWORD" -eq 1 ]; then
-        mapfile -t COMPREPLY < <(compgen -W "check repair dump draw report diff translate help --help --version" -- "$current")
+        mapfile -t COMPREPLY < <(compgen -W "check repair dump draw report diff translate edit help --help --version" -- "$current")
         return
     fi
     case ${COMP_WORDS[1]} in
@@ -16,7 +16,8 @@ _lanyardrove()
     dump) options="--brief --from --to --around --f3dex2 $input" ;;
     diff) options="-q --quiet --format -o --output $input" ;;
     translate) options="--start -o --output -h --help" ;;
-    help) mapfile -t COMPREPLY < <(compgen -W "check repair dump draw report diff translate" -- "$current"); return ;;
+    edit) options="-i --in-place -o --output $input" ;;
+    help) mapfile -t COMPREPLY < <(compgen -W "check repair dump draw report diff translate edit" -- "$current"); return ;;
     draw) options="--f3dex2 --memory --start --texture --image -o --output $input" ;;
     *) return ;;
     esac

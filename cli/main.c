@@ -53,7 +53,14 @@ static const Entry entries[] = {
       "Writes the list that a game's display list (Fast3DEX2) stands for. FILE is the\n"
       "memory that it lies in; its addresses are offsets there. Prints 'number place'\n"
       "and what it means: number 0 and the words written, or the first refusal and\n"
-      "the offset of its command. Nothing is written at a refusal." }
+      "the offset of its command. Nothing is written at a refusal." },
+    { OF_EDIT, "edit", run_edit, INT_MAX, "list",
+      "edit FILE PLACE WORD.. [-o OUT|--in-place]\n"
+      "Replaces the command at a place by another that has as many words, each given\n"
+      "with sixteen hexadecimal digits. Prints 'number place' and what it means, the\n"
+      "hazards before the command, and what check says of the new list. Without -o\n"
+      "and --in-place the list goes to standard output and the text to standard error.\n"
+      "Nothing is written where the replacement is refused." }
 };
 
 static void print_version(void)

@@ -1,5 +1,5 @@
 -- Which fields of two commands differ: field after field, their bits below a bound, and a suffix. Assumes nothing.
-use Prim.Native.Nat.{ℕ, zero, suc, _+_, _*_, _%_, _^_, _≤_, _<_}
+use Prim.Native.Nat.{ℕ, zero, suc, _+_, _*_, _/_, _%_, _^_, _≤_, _<_}
 use mathlib.Core.Bool.{Bool, true, false, cond, not, _&&_}
 use mathlib.Core.List.{List, [], _∷_, _++_}
 use mathlib.Core.Path.{_≡_, refl, ap, sym, _∙_}
@@ -19,7 +19,7 @@ use Rattle.rdp_words.proofs.KindLaws.{words-pos}
 use Rattle.rdp_words.proofs.PlaceLaws.{number-small, words-there}
 use Rattle.rdp_words.proofs.OverwriteLaws.{take-overwrite, overwrite-none}
 use Rattle.rdp_command.specs.Layout.{layout}
-use Rattle.rdp_command.specs.Decode.{decodeOf}
+use Rattle.rdp_command.specs.Decode.{ownWord, commandIn, decodeOf, decodedFrom}
 use Rattle.rdp_command.specs.declared.Answer.{Answer}
 use Rattle.rdp_command.specs.declared.Command.{Command}
 use Rattle.rdp_command.specs.declared.Decoded.{Decoded}
@@ -175,6 +175,27 @@ module _ (c : List ℕ) (one : OneCommand c) where
 
 -- ---- its fields as the code takes them
 
+-- a word that is read is its own, or 0 where it has none
+own-word : (c : List ℕ) → OneCommand c → (k : ℕ) → ownWord c (wholeWords c) k ≡ wordAt c k
+unfolding wordAt
+own-word c one k =
+    let m = words-there c (omega (arith, one)) in
+    by-test (ltb k (wholeWords c)) (λ t. rw t)
+    (λ f. let h : length c / 8 ≤ k = omega (arith, one, m, ltb-false k (wholeWords c) f) in rw (f, le-ltb k (length c / 8) h))
+
+-- the base of a command gives what decoding does
+pub base-decodes :
+    (c : List ℕ) → OneCommand c → {n w₀ w₁ w₂ w₃ : ℕ} → n ≡ firstNumber c → w₀ ≡ wordAt c 0 → w₁ ≡ wordAt c 1 → w₂ ≡ wordAt c 2 → w₃ ≡ wordAt c 3 → {r : Decoded} →
+    r ≡ decodedFrom 3 (record { ok = true; number = n; w0 = w₀; w1 = w₁; w2 = w₂; w3 = w₃ }) → r ≡ decodeOf c
+unfolding decodedFrom
+base-decodes c one is-n e₀ e₁ e₂ e₃ e =
+    e ∙
+    (λ i.
+    Whole
+    (commandIn (is-n i)
+    (e₀ i ∷ (e₁ ∙ sym (own-word c one 1)) i ∷ (e₂ ∙ sym (own-word c one 2)) i ∷ (e₃ ∙ sym (own-word c one 3)) i ∷ []))) ∙
+    sym (decodes c (there c one))
+
 module _ (c numbers : List ℕ) (room : 37 ≤ length numbers) {r : Decoded} (is : r ≡ decodeOf c) where
   pub whole-numbers :
       {x : Command} → r ≡ Whole x → {a : Answer} {new : List ℕ} → a ≡ fieldsAnswer x numbers → new ≡ fieldsOut x numbers →
@@ -185,7 +206,8 @@ module _ (c numbers : List ℕ) (room : 37 ≤ length numbers) {r : Decoded} (is
       let e : fieldsIn c ≡ numbersOf x = ap numbersIn d in
       let p : a .place ≡ length (numbersOf x) = ap (λ (y : Answer). y .place) is-a ∙ fields-place x numbers in
       let l : length (numbersOf x) ≤ 37 = rw (fields-decoded c d) (lines-most (firstNumber c) (number-small (wordAt c 0))) in
-      ((p ∙ ap length (sym e), rw p l), is-new ∙ rw (le-ltb (length numbers) (length (numbersOf x)) (omega (arith, l, room))) (ap (λ (l : List ℕ). overwrite l numbers) (sym e)))
+      let fits = le-ltb (length numbers) (length (numbersOf x)) (omega (arith, l, room)) in
+      ((p ∙ ap length (sym e), rw p l), is-new ∙ rw fits (ap (λ (l : List ℕ). overwrite l numbers) (sym e)))
 
   pub no-numbers : {a : Answer} → r ≡ Refused a → ((0 ≡ length (fieldsIn c)) × (0 ≤ 37)) × (numbers ≡ overwrite (fieldsIn c) numbers)
   no-numbers {a} w =

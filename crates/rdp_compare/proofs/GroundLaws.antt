@@ -176,11 +176,17 @@ module _ (first second : List ℕ) where
 
   pub of-first : {r : Answer} → r ≡ decodeAnswer first → (r .number ≡ 0 → ⊥) → r ≡ bothAnswer
   of-first e ne =
-      e ∙ sym (refused (length first / 8) (decodeGrounds second) (answer 0 (length second / 8)) (decodeGrounds first) (λ z. ne (ap (λ (x : Answer). x .number) e ∙ z)))
+      e ∙
+      sym
+      (refused (length first / 8) (decodeGrounds second) (answer 0 (length second / 8)) (decodeGrounds first)
+      (λ z. ne (ap (λ (x : Answer). x .number) e ∙ z)))
 
   pub of-second : {one two : Answer} → one ≡ decodeAnswer first → one .number ≡ 0 → two ≡ decodeAnswer second → two ≡ bothAnswer
   of-second e z f =
-      f ∙ sym (passed (length first / 8) (decodeGrounds second) (answer 0 (length second / 8)) (decodeGrounds first) (numbered first) (ap (λ (x : Answer). x .number) (sym e) ∙ z))
+      f ∙
+      sym
+      (passed (length first / 8) (decodeGrounds second) (answer 0 (length second / 8)) (decodeGrounds first) (numbered first)
+      (ap (λ (x : Answer). x .number) (sym e) ∙ z))
 
   -- where none holds, both lists decode
   module _ {r : Answer} (is : r ≡ bothAnswer) (zero : r .number ≡ 0) where
@@ -208,7 +214,9 @@ module _ (first second : List ℕ) (room : ℕ) {r : Answer} (is : r ≡ bothAns
 
   joined : compareAnswer first second room ≡ firstOf (bothGrounds first second ++ roomGrounds room needed) (answer 0 needed)
   unfolding compareAnswer
-  joined = ap (λ (gs : List (Ground Answer)). firstOf gs (answer 0 needed)) (sym (append-assoc (decodeGrounds first) (decodeGrounds second) (roomGrounds room needed)))
+  joined =
+      ap (λ (gs : List (Ground Answer)). firstOf gs (answer 0 needed))
+      (sym (append-assoc (decodeGrounds first) (decodeGrounds second) (roomGrounds room needed)))
 
   pub not-decoded : (r .number ≡ 0 → ⊥) → compareAnswer first second room ≡ r
   not-decoded ne =

@@ -5,3 +5,4 @@ pub mod GroundLaws
 pub mod PairLaws
 pub mod SameLaws
 pub mod ExampleLaws
+pub mod BoundLaws

@@ -224,7 +224,8 @@ module _ {first second : List ℕ} {n m a b count : ℕ} (t : Counting first n s
     unfolding longerFrom
     turn-rest =
         (λ i. longerFrom (length first) a b (next (t .one) more-one is-x i) (next (t .two) more-two is-y i)) ∙
-        ap₂ (λ (u v : ℕ). longerFrom (length first) (a + u) (b + v) (left first (a + x)) (left second (b + y))) (next-words (t .one) more-one is-x) (next-words (t .two) more-two is-y)
+        ap₂ (λ (u v : ℕ). longerFrom (length first) (a + u) (b + v) (left first (a + x)) (left second (b + y)))
+        (next-words (t .one) more-one is-x) (next-words (t .two) more-two is-y)
 
     pub counting-next : Counting first n second m (a + x) (b + y) (count + k)
     counting-next =

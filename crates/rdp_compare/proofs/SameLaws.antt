@@ -108,7 +108,9 @@ module _ (c d : List ℕ) (one : OneCommand c) (two : OneCommand d) where
       rw (eq-eqb (firstNumber c) (firstNumber d) n, eq-eqb (differingFields c d) 0 z)
 
 -- commands that are the same are encoded the same, suffix and all
-pub same-encoding : (c d : List ℕ) {x y : Command} → decodeOf c ≡ Whole x → decodeOf d ≡ Whole y → SameCommand c d → (out : List ℕ) → encodeOut x (suffixOf c) out ≡ encodeOut y (suffixOf d) out
+pub same-encoding :
+    (c d : List ℕ) {x y : Command} → decodeOf c ≡ Whole x → decodeOf d ≡ Whole y → SameCommand c d → (out : List ℕ) →
+    encodeOut x (suffixOf c) out ≡ encodeOut y (suffixOf d) out
 same-encoding c d {x} {y} dx dy s out =
     let g : x ≡ y = ap (commandOr x) (sym dx ∙ s .0 ∙ dy) in
     λ i. encodeOut (g i) (s .1 i) out

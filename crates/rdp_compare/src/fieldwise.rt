@@ -6,7 +6,9 @@ ghost use lib.Dec.{eqb};
 ghost use lib.ListN.{length, drop};
 ghost use Rattle.rdp_words.specs.Words.{overwrite};
 ghost use Rattle.rdp_compare.specs.Differing.{fieldsIn, unlike, sameBytes, unnamedBefore, lineIndex, bitsFrom, differingFields};
-ghost use Rattle.rdp_compare.specs.Steps.{Alike};
+ghost use Rattle.rdp_compare.specs.Steps.{Alike, OneCommand};
+ghost use Rattle.rdp_words.specs.Lengths.{firstNumber};
+use rdp_command::Base;
 use rdp_command::Decoded;
 
 // Whether the words of two commands of one length are the same, from a word on.
@@ -27,13 +29,21 @@ pub fn same_from(first: &[u8], second: &[u8], from: usize) -> bool
     true
 }
 
-// Writes the numbers of a command's fields to the front, and answers their count.
-fn numbers_of(command: &[u8], numbers: &mut [u64]) -> usize
-    requires { ⌜ 37 ≤ length (now numbers) ⌝ }
+// Writes the numbers of a command's fields to the front, and answers their count. A command has no word beyond its own, so each reads as its base asks.
+fn numbers_of(number: u8, command: &[u8], numbers: &mut [u64]) -> usize
+    requires { ⌜ (OneCommand (now command) × (number ≡ firstNumber (now command))) × (37 ≤ length (now numbers)) ⌝ }
     ensures count { λ r. ⌜ (r ≡ length (fieldsIn (now (command .entry)))) × (r ≤ 37) ⌝ }
     ensures numbers { λ _. ⌜ now (numbers .exit) ≡ overwrite (fieldsIn (now (command .entry))) (now (numbers .entry)) ⌝ }
 {
-    let decoded = rdp_command::decode(command);
+    let base = Base {
+        ok: true,
+        number,
+        w0: rdp_words::word_at(command, 0),
+        w1: rdp_words::word_at(command, 1),
+        w2: rdp_words::word_at(command, 2),
+        w3: rdp_words::word_at(command, 3),
+    };
+    let decoded = rdp_command::command_or(base, 3);
     match decoded {
         Decoded::Whole(c) => {
             let written = rdp_encode::fields(c, numbers);
@@ -93,8 +103,8 @@ pub fn differing(number: u8, first: &[u8], second: &[u8]) -> u64
 {
     let mut one = [0u64; 37];
     let mut two = [0u64; 37];
-    let count = numbers_of(first, &mut one);
-    let other = numbers_of(second, &mut two);
+    let count = numbers_of(number, first, &mut one);
+    let other = numbers_of(number, second, &mut two);
     let bits = field_bits(number, &one[..count], &two[..other]);
     if same_from(first, second, 4) {
         return bits;

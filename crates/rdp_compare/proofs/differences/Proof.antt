@@ -33,7 +33,9 @@ returns-2 c =
     let one = now (s .first) in
     let two = now (s .second) in
     let old = now (s .entries) in
-    untouched one two old (no-room one two (length old) (c .before .before .before .before .of-both .ensures) (c .before .before .if1 .left) (c .before .count-pairs .ensures .count) (c .if2 .taken)) (suc-ne-zero 13)
+    untouched one two old
+    (no-room one two (length old) (c .before .before .before .before .of-both .ensures) (c .before .before .if1 .left)
+    (c .before .count-pairs .ensures .count) (c .if2 .taken)) (suc-ne-zero 13)
 
 write-entries-requires : tie.Need-write-entries-requires
 write-entries-requires c κs =
@@ -54,7 +56,8 @@ returns-3 c =
     let two = now (s .second) in
     let old = now (s .entries) in
     let p = c .before .before .before .before .before in
-    written one two old (enough one two (length old) (p .before .before .before .of-both .ensures) (p .before .if1 .left) (p .count-pairs .ensures .count) (c .before .before .before .before .if2 .left)) (c .before .before .write-entries .ensures)
+    written one two old (enough one two (length old) (p .before .before .before .of-both .ensures) (p .before .if1 .left) (p .count-pairs .ensures .count)
+    (c .before .before .before .before .if2 .left)) (c .before .before .write-entries .ensures)
 
 pub differences-spec : {M : Type 1} → statement M
 differences-spec =

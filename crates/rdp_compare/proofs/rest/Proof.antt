@@ -13,10 +13,14 @@ rest-start-requires c κs = search needs
 
 -- the rest begins inside its list
 inside-second : (c : tie.Then1) → let s = c .before .before .before .before .args in c .before .rest-start .result .start ≤ length (now (s .second))
-inside-second c = let s = c .before .before .before .before .args in start-inside (now (s .first)) (now (s .second)) (s .room) (c .before .rest-start .ensures) (c .if1 .taken)
+inside-second c =
+    let s = c .before .before .before .before .args in start-inside (now (s .first)) (now (s .second)) (s .room) (c .before .rest-start .ensures)
+    (c .if1 .taken)
 
 inside-first : (c : tie.Else1) → let s = c .before .before .before .before .args in c .before .rest-start .result .start ≤ length (now (s .first))
-inside-first c = let s = c .before .before .before .before .args in start-inside (now (s .first)) (now (s .second)) (s .room) (c .before .rest-start .ensures) (c .if1 .left)
+inside-first c =
+    let s = c .before .before .before .before .args in start-inside (now (s .first)) (now (s .second)) (s .room) (c .before .rest-start .ensures)
+    (c .if1 .left)
 
 sub-result : tie.Need-sub-result
 sub-result c = omega (arith, inside-second c)

@@ -27,7 +27,9 @@ returns-2 c =
     let s = c .before .before .before .before .before .before .before .before .args in
     let one = now (s .first) in
     let two = now (s .second) in
-    refused-end one two (s .room) (no-room one two (s .room) (c .before .before .before .before .before .of-both .ensures) (c .before .before .before .if1 .left) (c .before .before .count-pairs .ensures .count) (c .if2 .taken)) (suc-ne-zero 13)
+    refused-end one two (s .room)
+    (no-room one two (s .room) (c .before .before .before .before .before .of-both .ensures) (c .before .before .before .if1 .left)
+    (c .before .before .count-pairs .ensures .count) (c .if2 .taken)) (suc-ne-zero 13)
 
 longer-requires : tie.Need-longer-requires
 longer-requires c κs =
@@ -44,7 +46,8 @@ returns-3 c =
     let two = now (s .second) in
     let p = c .before .before .before .count-pairs .ensures in
     handed one two (s .room)
-    (enough one two (s .room) (c .before .before .before .before .before .before .of-both .ensures) (c .before .before .before .before .if1 .left) (p .count) (c .before .if2 .left))
+    (enough one two (s .room) (c .before .before .before .before .before .before .of-both .ensures) (c .before .before .before .before .if1 .left) (p .count)
+    (c .before .if2 .left))
     (c .longer .ensures ∙ p .rest)
 
 pub rest-start-spec : {M : Type 1} → statement M

@@ -22,7 +22,8 @@ returns : tie.Need-returns
 returns c =
     let a = c .before .before .args in
     let most : a .k + c .unnamed-before .result ≤ 40 = omega (arith, c .unnamed-before .ensures .1, c .before .before .pre) in
-    let e : lineIndex (a .number) (a .k) ≡ a .k + c .unnamed-before .result = rw (eq-eqb _ _ (c .before .if1 .taken)) (ap (λ (x : ℕ). a .k + x) (sym (c .unnamed-before .ensures .0))) in
+    let e : lineIndex (a .number) (a .k) ≡ a .k + c .unnamed-before .result = rw (eq-eqb _ _ (c .before .if1 .taken))
+    (ap (λ (x : ℕ). a .k + x) (sym (c .unnamed-before .ensures .0))) in
     bit-most e most
 
 shl-result-2 : tie.Need-shl-result-2

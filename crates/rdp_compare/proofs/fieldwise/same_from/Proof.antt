@@ -27,7 +27,8 @@ returns c =
     let s = at .before .before .before in
     let one = c .before .before .word-at .ensures in
     let two = c .before .word-at2 .ensures in
-    words-differ (now (s .args .first)) (now (s .args .second)) (s .pre .0) (at .loop .i) (c .before .before .before .loop-test .taken) (λ e. c .if1 .taken (one ∙ e ∙ sym two)) ∙
+    words-differ (now (s .args .first)) (now (s .args .second)) (s .pre .0) (at .loop .i) (c .before .before .before .loop-test .taken)
+    (λ e. c .if1 .taken (one ∙ e ∙ sym two)) ∙
     at .loop .inv
 
 add-i : tie.Need-add-i Inv-loop μ-loop

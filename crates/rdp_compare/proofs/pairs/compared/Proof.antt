@@ -22,14 +22,16 @@ returns c =
     let two = c .before in
     let one = two .before .before in
     let s = one .before .before .before .before in
-    of-other-numbers (now (s .args .first)) (now (s .args .second)) (one .before .word-at .ensures) (one .number-in .ensures) (two .before .word-at2 .ensures) (two .number-in2 .ensures) (c .if1 .taken)
+    of-other-numbers (now (s .args .first)) (now (s .args .second)) (one .before .word-at .ensures) (one .number-in .ensures) (two .before .word-at2 .ensures)
+    (two .number-in2 .ensures) (c .if1 .taken)
 
 same-from-requires : tie.Need-same-from-requires
 same-from-requires c κs =
     let two = c .before in
     let one = two .before .before in
     let s = one .before .before .before .before in
-    let a = alike (now (s .args .first)) (now (s .args .second)) (one .before .word-at .ensures) (one .number-in .ensures) (two .before .word-at2 .ensures) (two .number-in2 .ensures) (c .if1 .left) (s .pre) in
+    let a = alike (now (s .args .first)) (now (s .args .second)) (one .before .word-at .ensures) (one .number-in .ensures) (two .before .word-at2 .ensures)
+    (two .number-in2 .ensures) (c .if1 .left) (s .pre) in
     (as-long a, in-words a)
 
 returns-2 : tie.Need-returns-2
@@ -42,14 +44,16 @@ differing-requires c κs =
     let two = c .before .before .before in
     let one = two .before .before in
     let s = one .before .before .before .before in
-    alike (now (s .args .first)) (now (s .args .second)) (one .before .word-at .ensures) (one .number-in .ensures) (two .before .word-at2 .ensures) (two .number-in2 .ensures) (c .before .before .if1 .left) (s .pre)
+    alike (now (s .args .first)) (now (s .args .second)) (one .before .word-at .ensures) (one .number-in .ensures) (two .before .word-at2 .ensures)
+    (two .number-in2 .ensures) (c .before .before .if1 .left) (s .pre)
 
 returns-3 : tie.Need-returns-3
 returns-3 c =
     let two = c .before .before .before .before in
     let one = two .before .before in
     let s = one .before .before .before .before in
-    of-fields (now (s .args .first)) (now (s .args .second)) (one .before .word-at .ensures) (one .number-in .ensures) (two .before .word-at2 .ensures) (two .number-in2 .ensures) (c .before .before .before .if1 .left) (c .differing .ensures)
+    of-fields (now (s .args .first)) (now (s .args .second)) (one .before .word-at .ensures) (one .number-in .ensures) (two .before .word-at2 .ensures)
+    (two .number-in2 .ensures) (c .before .before .before .if1 .left) (c .differing .ensures)
 
 pub compared-spec : {M : Type 1} → statement M
 compared-spec =

@@ -36,19 +36,43 @@ entry-len-requires : tie.Need-entry-len-requires Inv-loop μ-loop
 entry-len-requires c κs = search needs
 
 add-count : tie.Need-add-count Inv-loop μ-loop
-add-count c = omega (arith, count-few (counting-next (c .before .before .before .before .before .before .loop .inv) (c .before .before .before .before .before .loop-test .taken) (c .before .before .before .before .if1 .left) (c .before .before .before .words-at .ensures) (c .before .before .words-at2 .ensures) (c .before .difference-at .ensures) (c .entry-len .ensures)))
+add-count c =
+    omega (
+      arith,
+      count-few
+          (counting-next (c .before .before .before .before .before .before .loop .inv) (c .before .before .before .before .before .loop-test .taken)
+          (c .before .before .before .before .if1 .left) (c .before .before .before .words-at .ensures) (c .before .before .words-at2 .ensures)
+          (c .before .difference-at .ensures) (c .entry-len .ensures)),
+    )
 
 add-a : tie.Need-add-a Inv-loop μ-loop
-add-a c = omega (arith, few (counting-next (c .before .before .before .before .before .before .loop .inv) (c .before .before .before .before .before .loop-test .taken) (c .before .before .before .before .if1 .left) (c .before .before .before .words-at .ensures) (c .before .before .words-at2 .ensures) (c .before .difference-at .ensures) (c .entry-len .ensures) .one))
+add-a c =
+    omega (
+      arith,
+      few (counting-next (c .before .before .before .before .before .before .loop .inv)
+          (c .before .before .before .before .before .loop-test .taken) (c .before .before .before .before .if1 .left)
+          (c .before .before .before .words-at .ensures) (c .before .before .words-at2 .ensures) (c .before .difference-at .ensures) (c .entry-len .ensures) .one),
+    )
 
 add-b : tie.Need-add-b Inv-loop μ-loop
-add-b c = omega (arith, few (counting-next (c .before .before .before .before .before .before .loop .inv) (c .before .before .before .before .before .loop-test .taken) (c .before .before .before .before .if1 .left) (c .before .before .before .words-at .ensures) (c .before .before .words-at2 .ensures) (c .before .difference-at .ensures) (c .entry-len .ensures) .two))
+add-b c =
+    omega (
+      arith,
+      few (counting-next (c .before .before .before .before .before .before .loop .inv)
+          (c .before .before .before .before .before .loop-test .taken) (c .before .before .before .before .if1 .left)
+          (c .before .before .before .words-at .ensures) (c .before .before .words-at2 .ensures) (c .before .difference-at .ensures) (c .entry-len .ensures) .two),
+    )
 
 loop-less : tie.Need-loop-less Inv-loop μ-loop
-loop-less c = falls ((c .before .before .before .before .before .before .loop .inv) .one) (c .before .before .before .before .before .loop-test .taken) (c .before .before .before .words-at .ensures)
+loop-less c =
+    falls ((c .before .before .before .before .before .before .loop .inv) .one) (c .before .before .before .before .before .loop-test .taken)
+    (c .before .before .before .words-at .ensures)
 
 loop-again : tie.Need-loop-again Inv-loop μ-loop
-loop-again c = counting-next (c .before .before .before .before .before .before .loop .inv) (c .before .before .before .before .before .loop-test .taken) (c .before .before .before .before .if1 .left) (c .before .before .before .words-at .ensures) (c .before .before .words-at2 .ensures) (c .before .difference-at .ensures) (c .entry-len .ensures)
+loop-again c =
+    counting-next (c .before .before .before .before .before .before .loop .inv) (c .before .before .before .before .before .loop-test .taken)
+    (c .before .before .before .before .if1 .left) (c .before .before .before .words-at .ensures) (c .before .before .words-at2 .ensures)
+    (c .before .difference-at .ensures) (c .entry-len .ensures)
 
 returns-2 : tie.Need-returns-2 Inv-loop μ-loop
 returns-2 c = counted-first (c .before .loop .inv) (c .loop-test .left)

@@ -60,7 +60,8 @@ returns c =
     let e : 8 * s .a + 8 * s .x - 8 * s .a ≡ 8 * s .x = omega arith in
     let f : 8 * s .b + 8 * s .y - 8 * s .b ≡ 8 * s .y = omega arith in
     subst (λ (k : ℕ). DifferenceIs (take k (drop (8 * s .a) (now (s .first)))) (wordsFrom (now (s .second)) (s .b) (s .y)) (c .compared .result)) e
-    (subst (λ (k : ℕ). DifferenceIs (take (8 * s .a + 8 * s .x - 8 * s .a) (drop (8 * s .a) (now (s .first)))) (take k (drop (8 * s .b) (now (s .second)))) (c .compared .result)) f (c .compared .ensures))
+    (subst (λ (k : ℕ). DifferenceIs (take (8 * s .a + 8 * s .x - 8 * s .a) (drop (8 * s .a) (now (s .first)))) (take k (drop (8 * s .b) (now (s .second))))
+    (c .compared .result)) f (c .compared .ensures))
 
 pub difference-at-spec : {M : Type 1} → statement M
 difference-at-spec =

@@ -15,7 +15,8 @@ use Rattle.rdp_compare.proofs.pairs.put_entry.Tie as tie
 put-four-requires : tie.Need-put-four-requires
 put-four-requires c κs =
     let s = c .before .before .before in
-    let e : entryWith (s .args .d .differs) (s .args .a) (s .args .b) (s .args .d .mask) ≡ entryWith true (s .args .a) (s .args .b) (s .args .d .mask) = ap (λ (b : Bool). entryWith b (s .args .a) (s .args .b) (s .args .d .mask)) (c .before .if1 .taken) in
+    let e : entryWith (s .args .d .differs) (s .args .a) (s .args .b) (s .args .d .mask) ≡ entryWith true (s .args .a) (s .args .b) (s .args .d .mask) = ap
+    (λ (b : Bool). entryWith b (s .args .a) (s .args .b) (s .args .d .mask)) (c .before .if1 .taken) in
     (omega (arith, s .pre .0, ap length e), (s .pre .1 .0, s .pre .1 .1))
 
 add-result : tie.Need-add-result
@@ -28,14 +29,20 @@ returns : tie.Need-returns
 returns c =
     let p = c .before .before in
     let s = p .before .before .before .before in
-    let e : entryWith (s .args .d .differs) (s .args .a) (s .args .b) (s .args .d .mask) ≡ entryWith true (s .args .a) (s .args .b) (s .args .d .mask) = ap (λ (b : Bool). entryWith b (s .args .a) (s .args .b) (s .args .d .mask)) (p .before .before .if1 .taken) in
+    let e : entryWith (s .args .d .differs) (s .args .a) (s .args .b) (s .args .d .mask) ≡ entryWith true (s .args .a) (s .args .b) (s .args .d .mask) = ap
+    (λ (b : Bool). entryWith b (s .args .a) (s .args .b) (s .args .d .mask)) (p .before .before .if1 .taken) in
     record { after = omega (arith, ap length e); output = p .put-four .ensures ∙ ap (λ (l : List ℕ). pasted (s .args .to) l (now (s .args .entries))) (sym e) }
 
 returns-2 : tie.Need-returns-2
 returns-2 c =
     let s = c .before .before in
-    let e : entryWith (s .args .d .differs) (s .args .a) (s .args .b) (s .args .d .mask) ≡ [] = ap (λ (b : Bool). entryWith b (s .args .a) (s .args .b) (s .args .d .mask)) (c .if1 .left) in
-    record { after = omega (arith, ap length e); output = sym (pasted-none (s .args .to) (now (s .args .entries))) ∙ ap (λ (l : List ℕ). pasted (s .args .to) l (now (s .args .entries))) (sym e) }
+    let e : entryWith (s .args .d .differs) (s .args .a) (s .args .b) (s .args .d .mask) ≡ [] = ap
+    (λ (b : Bool). entryWith b (s .args .a) (s .args .b) (s .args .d .mask)) (c .if1 .left) in
+    record {
+      after = omega (arith, ap length e);
+      output = sym (pasted-none (s .args .to) (now (s .args .entries))) ∙ ap
+          (λ (l : List ℕ). pasted (s .args .to) l (now (s .args .entries))) (sym e);
+    }
 
 pub put-entry-spec : {M : Type 1} → statement M
 put-entry-spec = tie.close (tie.spec put-four-requires add-result same-length returns returns-2)

@@ -39,20 +39,48 @@ difference-at-requires c κs =
 
 put-entry-requires : tie.Need-put-entry-requires Inv-loop μ-loop
 put-entry-requires c κs =
-    let t = c .before .before .before .before .before .before .loop .inv in
-    (turn-fits (c .before .before .before .before .before .before .loop .inv) (c .before .before .before .before .before .loop-test .taken) (c .before .before .before .before .if1 .left) (c .before .before .before .words-at .ensures) (c .before .before .words-at2 .ensures) (c .before .difference-at .ensures), (few (t .one), few (t .two)))
+    let t = c .before .before .before .before .before .before .loop .inv in (
+      turn-fits (c .before .before .before .before .before .before .loop .inv) (c .before .before .before .before .before .loop-test .taken)
+          (c .before .before .before .before .if1 .left) (c .before .before .before .words-at .ensures) (c .before .before .words-at2 .ensures)
+          (c .before .difference-at .ensures),
+      (few (t .one), few (t .two)),
+    )
 
 add-a : tie.Need-add-a Inv-loop μ-loop
-add-a c = omega (arith, few (writing-next (c .before .before .before .before .before .before .before .before .before .loop .inv) (c .before .before .before .before .before .before .before .before .loop-test .taken) (c .before .before .before .before .before .before .before .if1 .left) (c .before .before .before .before .before .before .words-at .ensures) (c .before .before .before .before .before .words-at2 .ensures) (c .before .before .before .before .difference-at .ensures) (c .before .before .put-entry .ensures) .one))
+add-a c =
+    omega (
+      arith,
+      few (writing-next (c .before .before .before .before .before .before .before .before .before .loop .inv)
+          (c .before .before .before .before .before .before .before .before .loop-test .taken)
+          (c .before .before .before .before .before .before .before .if1 .left) (c .before .before .before .before .before .before .words-at .ensures)
+          (c .before .before .before .before .before .words-at2 .ensures) (c .before .before .before .before .difference-at .ensures)
+          (c .before .before .put-entry .ensures) .one),
+    )
 
 add-b : tie.Need-add-b Inv-loop μ-loop
-add-b c = omega (arith, few (writing-next (c .before .before .before .before .before .before .before .before .before .loop .inv) (c .before .before .before .before .before .before .before .before .loop-test .taken) (c .before .before .before .before .before .before .before .if1 .left) (c .before .before .before .before .before .before .words-at .ensures) (c .before .before .before .before .before .words-at2 .ensures) (c .before .before .before .before .difference-at .ensures) (c .before .before .put-entry .ensures) .two))
+add-b c =
+    omega (
+      arith,
+      few (writing-next (c .before .before .before .before .before .before .before .before .before .loop .inv)
+          (c .before .before .before .before .before .before .before .before .loop-test .taken)
+          (c .before .before .before .before .before .before .before .if1 .left) (c .before .before .before .before .before .before .words-at .ensures)
+          (c .before .before .before .before .before .words-at2 .ensures) (c .before .before .before .before .difference-at .ensures)
+          (c .before .before .put-entry .ensures) .two),
+    )
 
 loop-less : tie.Need-loop-less Inv-loop μ-loop
-loop-less c = falls (c .before .before .before .before .before .before .before .before .before .loop .inv .one) (c .before .before .before .before .before .before .before .before .loop-test .taken) (c .before .before .before .before .before .before .words-at .ensures)
+loop-less c =
+    falls (c .before .before .before .before .before .before .before .before .before .loop .inv .one)
+    (c .before .before .before .before .before .before .before .before .loop-test .taken)
+    (c .before .before .before .before .before .before .words-at .ensures)
 
 loop-again : tie.Need-loop-again Inv-loop μ-loop
-loop-again c = writing-next (c .before .before .before .before .before .before .before .before .before .loop .inv) (c .before .before .before .before .before .before .before .before .loop-test .taken) (c .before .before .before .before .before .before .before .if1 .left) (c .before .before .before .before .before .before .words-at .ensures) (c .before .before .before .before .before .words-at2 .ensures) (c .before .before .before .before .difference-at .ensures) (c .before .before .put-entry .ensures)
+loop-again c =
+    writing-next (c .before .before .before .before .before .before .before .before .before .loop .inv)
+    (c .before .before .before .before .before .before .before .before .loop-test .taken)
+    (c .before .before .before .before .before .before .before .if1 .left) (c .before .before .before .before .before .before .words-at .ensures)
+    (c .before .before .before .before .before .words-at2 .ensures) (c .before .before .before .before .difference-at .ensures)
+    (c .before .before .put-entry .ensures)
 
 same-length-2 : tie.Need-same-length-2 Inv-loop μ-loop
 same-length-2 c = new-long (c .before .loop .inv)
