@@ -54,7 +54,7 @@ static const Entry entries[] = {
       "memory that it lies in; its addresses are offsets there. Prints 'number place'\n"
       "and what it means: number 0 and the words written, or the first refusal and\n"
       "the offset of its command. Nothing is written at a refusal." },
-    { OF_EDIT, "edit", run_edit, INT_MAX, "list",
+    { OF_EDIT, "edit", run_edit, 1, INT_MAX, "list",
       "edit FILE PLACE WORD.. [-o OUT|--in-place]\n"
       "Replaces the command at a place by another that has as many words, each given\n"
       "with sixteen hexadecimal digits. Prints 'number place' and what it means, the\n"
