@@ -125,6 +125,16 @@ def steps_keep_the_tile_that_a_load_leaves():
 
 
 @test
+def steps_keep_the_tile_that_a_block_leaves():
+    # texels 4 to 11 as two lines, so that the tile's left is 1 by the same bits; then column 1 is copied to column 0
+    memory = write("memory", bytes(range(256)))
+    given = [COPY, *S[1:], *TEXELS, 0x330040000000B800, LOAD, 0x2400800400000000, 0x0020000010000400]
+    page = stepped(words(*given), 0, "--memory", memory)
+    same(page.places, [5, 7])
+    same_as_prefixes(given, page, memory)
+
+
+@test
 def steps_on_several_images_and_scissors():
     random.seed(5)
     memory = write("memory", random.randbytes(8192))
