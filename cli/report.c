@@ -103,11 +103,10 @@ static bool add_page(Text *text, const Report *report)
 {
     Steps steps = { 0 };
     bool done = !report->arguments->steps || steps_of(report, &steps);
-    if (report->arguments->steps)
-        steps_page_add(text, report, &steps);
-    else
+    if (!report->arguments->steps)
         page_add(text, report);
-    text->failed |= steps.picture.shown.failed || steps.texture.shown.failed || steps.table.failed;
+    else if (done)
+        steps_page_add(text, report, &steps);
     steps_free(&steps);
     return done;
 }

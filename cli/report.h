@@ -15,6 +15,7 @@ typedef struct {
 void text_add(Text *text, const char *format, ...) __attribute__((format(printf, 2, 3)));
 void text_add_escaped(Text *text, const char *plain);
 void text_add_base64(Text *text, const uint8_t *bytes, size_t length);
+void text_append(Text *text, const Text *more);
 
 /* -- what the page is about --------------------------------------------- */
 

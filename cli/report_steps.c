@@ -61,7 +61,7 @@ static const char script[] =
     "    told.textContent = 'Step ' + now + ' of ' + steps.length + (row ? ': word ' + place + ', ' + name : ': before the first') +\n"
     "        (w > 0 && h > 0 ? ', columns ' + x + ' to ' + (x + w - 1) + ', rows ' + y + ' to ' + (y + h - 1) : '');\n"
     "    slider.value = now;\n"
-    "    (row || document.querySelector('tbody tr')).scrollIntoView({ block: 'center' });\n"
+    "    (row || document.querySelector('tbody tr'))?.scrollIntoView({ block: 'center' });\n"
     "    try { history.replaceState(null, '', '#s' + now); } catch (fault) { /* the address stays */ }\n"
     "}\n"
     "/* A pixel is as many of the window's as fit, a whole number where that is one or more: no seam shows. */\n"
@@ -110,7 +110,9 @@ static void add_told(Text *text, const Report *report, const Steps *steps)
 
 static void add_film(Text *text, const Film *film, const char *name, const char *caption)
 {
-    text_add(text, "<figure id=\"%s\">\n%s<figcaption>%s</figcaption></figure>\n", name, film->shown.length > 0 ? film->shown.bytes : "", caption);
+    text_add(text, "<figure id=\"%s\">\n", name);
+    text_append(text, &film->shown);
+    text_add(text, "<figcaption>%s</figcaption></figure>\n", caption);
 }
 
 static void add_stage(Text *text, const Report *report, const Steps *steps)
@@ -141,6 +143,7 @@ void steps_page_add(Text *text, const Report *report, const Steps *steps)
     add_stage(text, report, steps);
     text_add(text, "<section class=\"list\" aria-label=\"Commands\">\n");
     table_add(text, report);
-    text_add(text, "<footer>Made by lanyardrove %s</footer>\n</section>\n</main>\n<script>\n\"use strict\";\nconst steps = [%s];\n%s</script>\n</body>\n</html>\n",
-             version, steps->table.length > 0 ? steps->table.bytes : "", script);
+    text_add(text, "<footer>Made by lanyardrove %s</footer>\n</section>\n</main>\n<script>\n\"use strict\";\nconst steps = [", version);
+    text_append(text, &steps->table);
+    text_add(text, "];\n%s</script>\n</body>\n</html>\n", script);
 }

@@ -183,6 +183,14 @@ def steps_go_by_keys_and_slider():
 
 
 @browser_test
+def the_steps_of_an_empty_list_are_none():
+    write("list.rdp", b"")
+    same(run("report", "--steps", "list.rdp", "-o", "steps.html")[0], 0)
+    probe = "<script>document.body.dataset.parts = JSON.stringify([told.innerText, location.hash, slider.max]);</script>"
+    same(parts_of("steps.html", 800, 600, probe), ["Step 0 of 0: before the first", "#s0", "0"])
+
+
+@browser_test
 def a_step_is_seen_as_it_is():
     picture = stepped(OWN, 1200, 700, [])["seen"][0]["picture"]
     side = (picture[2] - picture[0]) / 8
