@@ -3,7 +3,7 @@
 
 What stands there between backticks, but for the list at its head, and has one of these forms is looked up:
     CRATE/specs/FILE.NAME, .{NAME, NAME}   a public definition, constructor or field
-    CRATE/proofs/FILE.NAME                 a public law, in a file that proofs/Lib.antt declares or that stands beside it
+    CRATE/proofs/FILE.NAME                 a public law; these two in a file that Lib.antt declares
     CRATE::FUNCTION                        a public function with a contract and no `requires`
     CRATE/must-fail/NAME                   a wrong version, whose old texts stand just once in their files
     Fault::NAME                            a fault of reference/tests/comparison.rs
@@ -11,7 +11,7 @@ What stands there between backticks, but for the list at its head, and has one o
     FILE::NAME                             a test: NAME is a function of FILE
     PATH                                   a file or a directory
 The line of the page that begins with "Awaited:" names, between backticks, what its request has on a branch; it may be missing.
-The rows of each table are numbered in order, and no cell is empty.
+The rows of each table are numbered in order, and no cell is empty. Every wrong version of the repository, cited or not, applies.
 """
 import pathlib
 import re
@@ -24,6 +24,10 @@ PAGE = ROOT / 'docs/TRACE.md'
 def text_of(path):
     path = ROOT / path
     return path.read_text() if path.is_file() else ''
+
+
+def declares(crate, part, file):
+    return re.search(rf'(?m)^pub mod {file}$', text_of(f'crates/{crate}/{part}/Lib.antt'))
 
 
 def is_defined(crate, file, name):
@@ -64,25 +68,26 @@ def is_function(file, name):
 
 
 def exists(cited):
+    """Whether what is cited is there; None where it has none of the forms."""
     crate = r'([a-z0-9_]+)'
     m = re.fullmatch(rf'{crate}/specs/(\w+)\.(\w+|\{{.*\}})', cited)
     if m:
-        return all(is_defined(m[1], m[2], name) for name in re.split(', *', m[3].strip('{}')))
+        return bool(declares(m[1], 'specs', m[2])) and all(is_defined(m[1], m[2], name) for name in re.split(', *', m[3].strip('{}')))
     m = re.fullmatch(rf'{crate}/proofs/(\w+)\.([\w-]+)', cited)
     if m:
-        return is_law(*m.groups())
+        return bool(declares(m[1], 'proofs', m[2]) and is_law(*m.groups()))
     m = re.fullmatch(rf'{crate}/must-fail/(\w+)', cited)
     if m:
         return applies(*m.groups())
     m = re.fullmatch(r'Fault::(\w+)', cited)
     if m:
-        return re.search(rf'(?m)^    {m[1]},$', text_of('reference/tests/comparison.rs'))
+        return bool(re.search(rf'(?m)^    {m[1]},$', text_of('reference/tests/comparison.rs')))
     m = re.fullmatch(r'([a-z_]+):(\d+)', cited)
     if m:
-        return re.search(rf'\b{cited}\b', text_of('fuzz/fuzz.mk')) and f'wrong({m[2]})' in text_of('fuzz/wrong.c')
+        return bool(re.search(rf'\b{cited}\b', text_of('fuzz/fuzz.mk'))) and f'wrong({m[2]})' in text_of('fuzz/wrong.c')
     m = re.fullmatch(r'([\w./]+/[\w.]+)::(\w+)', cited)
     if m:
-        return is_function(*m.groups())
+        return bool(is_function(*m.groups()))
     m = re.fullmatch(rf'{crate}::(\w+)', cited)
     if m:
         return is_promised(*m.groups())
@@ -92,9 +97,9 @@ def exists(cited):
 
 
 def faults(page):
-    """What is wrong with the page, line by line; and how many citations were looked up."""
+    """What is wrong with the page, line by line; how many names are there, and which of those awaited are not."""
     awaited = {name for line in page.splitlines() if line.startswith('Awaited:') for name in re.findall(r'`([^`]+)`', line)}
-    found, looked, last = [], 0, 0
+    found, there, missing, last = [], 0, set(), 0
     for number, line in enumerate(page.splitlines(), 1):
         cells = [cell.strip() for cell in line.strip('|').split('|')] if line.startswith('|') else []
         if cells and re.fullmatch(r'(\d+\.)?\d+', cells[0]):
@@ -104,22 +109,26 @@ def faults(page):
             if int(cells[0].rpartition('.')[2]) != last:
                 found.append(f'{number}: row {cells[0]} is not the next')
         for cited in re.findall(r'`([^`]+)`', '' if line.startswith('- ') else line):
-            there = exists(cited)
-            looked += there is not None
-            if there is not None and not there and cited not in awaited:
+            is_there = exists(cited)
+            there += is_there is True
+            if is_there is False and cited in awaited:
+                missing.add(cited)
+            elif is_there is False:
                 found.append(f'{number}: {cited}')
-    return found, looked
+    return found, there, missing
 
 
 def main():
     if sys.argv[1:] != ['--check']:
         sys.exit(__doc__)
-    found, looked = faults(PAGE.read_text())
-    for line in found:
-        print(f'docs/TRACE.md:{line}')
+    found, there, missing = faults(PAGE.read_text())
+    found = [f'docs/TRACE.md:{line}' for line in found]
+    for edit in sorted(ROOT.glob('crates/*/must-fail/*.edit')):
+        if not applies(edit.parts[-3], edit.stem):
+            found.append(f'{edit.relative_to(ROOT)}: an old text does not stand just once')
     if found:
-        sys.exit(1)
-    print(f'docs/TRACE.md: {looked} names are there')
+        sys.exit('\n'.join(found))
+    print(f'docs/TRACE.md: {there} names are there, {len(missing)} are awaited')
 
 
 main()
