@@ -39,7 +39,8 @@ static const Entry entries[] = {
       "waited, the hazards along the list, the syncs that a repair would insert, the\n"
       "picture if it can be drawn, and the commands, with links to the refused one and\n"
       "to the one that it has to wait for. It is written for a refused list too.\n"
-      "The list is drawn into zeros at every address, or into what --memory gives." },
+      "The list is drawn into zeros at every address, or into what --memory gives.\n"
+      "With --steps the page shows the picture after each draw, step by step." },
     { OF_DIFF, "diff", run_diff, 2, 2, "list",
       "diff [OPTION].. FIRST SECOND\n"
       "Compares two lists command by command, from the first on: both places of each\n"
@@ -53,7 +54,7 @@ static const Entry entries[] = {
       "memory that it lies in; its addresses are offsets there. Prints 'number place'\n"
       "and what it means: number 0 and the words written, or the first refusal and\n"
       "the offset of its command. Nothing is written at a refusal." },
-    { OF_EDIT, "edit", run_edit, INT_MAX, "list",
+    { OF_EDIT, "edit", run_edit, 1, INT_MAX, "list",
       "edit FILE PLACE WORD.. [-o OUT|--in-place]\n"
       "Replaces the command at a place by another that has as many words, each given\n"
       "with sixteen hexadecimal digits. Prints 'number place' and what it means, the\n"

@@ -1,6 +1,6 @@
 /*
  * Lanyardrove: checks, repairs, compares, indexes, draws, decodes and encodes command lists of the Nintendo 64's display
- * processor (RDP), and translates the display lists of games into them.
+ * processor (RDP), shows the images that they draw, and translates the display lists of games into them.
  *
  * Link with build/liblanyardrove.a (`make`) and the C library. The functions allocate nothing, keep no state between calls,
  * use less than 8 KiB of stack and touch only the bytes that they are lent, so calls on different buffers may run at the
@@ -56,7 +56,7 @@ enum lanyardrove_ground {
                                            in COPY mode; place its first word. */
     LANYARDROVE_MISALIGNED = 11,        /* Drawing: the colour image's address is no multiple of 64; the draw's first word. */
     LANYARDROVE_OUTSIDE_MEMORY = 12,    /* Drawing: a byte of a kept pixel or a loaded texel is outside the memory; the draw's
-                                           or load's first word. */
+                                           or load's first word. Viewing: a byte of the image is; place 0. */
     LANYARDROVE_WORK_TOO_SHORT = 13,    /* Repair: the work buffer is below 16 bytes a command; place the commands. */
     LANYARDROVE_OUTPUT_TOO_SHORT = 14,  /* The output is too short for all that would be written; place what is needed. */
     LANYARDROVE_NOT_ENCODABLE = 15,     /* Encoding: a field exceeds its bits, the number is none of 0 to 63, or the fields or
@@ -79,6 +79,8 @@ enum lanyardrove_ground {
     LANYARDROVE_LENGTHS_DIFFER = 25,    /* Index: the new command has not as many words as the one at the place; that place. */
     LANYARDROVE_NO_ENTRY = 26,          /* Index: no entry has a place that is not beyond the one asked, or that entry's hazards
                                            are none of 0 to 15; the place asked. */
+    LANYARDROVE_NOT_VIEWABLE = 27,      /* Viewing: the width or the height is 0 or above 1,024, or the size is none of 1 to 3;
+                                           place 0. */
     LANYARDROVE_RECORD_DAMAGED = 28     /* Stream: the record is none that feeding and closing leave; place 0. */
 };
 
@@ -89,7 +91,7 @@ static inline uint32_t lanyardrove_third(uint64_t answer) { return (uint32_t)(an
 
 /* The third number by its meaning: the cause that the check gives; the cycles, of a repair those that it inserted, of a repair
    afresh all that the written list waits, of a stream those that its syncs have waited; the number of a decoded command; the display list commands that translating has read.
-   Those of a repair and of decoding are 0 at a refusal. In the answers of drawing and encoding the third number is 0.
+   Those of a repair and of decoding are 0 at a refusal. In the answers of drawing, viewing and encoding the third number is 0.
    Of a step's answer the place is the hazards after it, and the third number's low two bits are the sync required. Of the
    answer of a question to an index the third number has the hazards, and above them the commands read; both are 0 at a
    refusal. */
@@ -221,8 +223,8 @@ uint64_t lanyardrove_repair_afresh(const uint8_t *list, size_t list_length,
 /* The bytes of texture memory. */
 #define LANYARDROVE_TEXTURE_BYTES 4096
 
-/* Draws a list into memory: its Fill Rectangles in FILL mode, its Load Tiles and its Texture Rectangles (0x24) in COPY mode, in
-   the list's order. memory[i] is the byte at address start + i of the console's memory, which the colour image's and the
+/* Draws a list into memory: its Fill Rectangles in FILL mode, its Load Tiles and Load Blocks, and its Texture Rectangles (0x24)
+   in COPY mode, in the list's order. memory[i] is the byte at address start + i of the console's memory, which the colour image's and the
    texture image's address count in. start is any number, and no sum of it wraps. Texture memory is LANYARDROVE_TEXTURE_BYTES
    bytes, which a load writes and a copy reads; what it holds at first is the caller's, and what it holds at last stays there.
    Answers 0 at the words of the list; or the first refusal of the check (1 to 9 and 19), then 16 at 0, then the first along
@@ -230,17 +232,39 @@ uint64_t lanyardrove_repair_afresh(const uint8_t *list, size_t list_length,
    before 18 is of any.
    Load Tile takes the texels from the floor of its upper left to the floor of its lower right, both included, row by row:
    that of row r and column c of this block to byte 8 * tmem + 8 * line * r + 2 * c, with the byte number's bit 2 turned over
-   in odd rows. It leaves its corners as the tile's size. A copied pixel (x, y) reads the texel of row t + y - top - tile top,
+   in odd rows. It leaves its corners as the tile's size.
+   Load Block takes s and t as whole texels: from upper left s in row upper left t, lower right s - upper left s + 1 texels, on
+   past the image's width too; texel k to byte 8 * tmem + 2 * k, with bit 2 turned over where k / 4 * dxt / 2048 is odd, each
+   quotient rounded down. Just these texels are loaded. It leaves its fields as the tile's size as they are, dxt as lower right t.
+   A copied pixel (x, y) reads the texel of row t + y - top - tile top,
    column likewise, top being the rectangle's own first row, turned over in odd rows too; rows and columns may be negative.
    Pixels are written row by row, each row from the left, and the later one stays.
-   17 is a Load TLUT or Load Block, a Load Tile without a texture image of 16-bit RGBA, either of Load Tile and copy without a
-   tile descriptor (Set Tile) of 16-bit RGBA, and a copy onto an image not of 16 bits, with dsdx other than 0x1000 or dtdy than
+   17 is a Load TLUT, a Load Tile or Load Block without a texture image of 16-bit RGBA, any of these two and copy without a tile
+   descriptor (Set Tile) of 16-bit RGBA, a Load Block of no texel or of more than 2,048, and a copy onto an image not of 16 bits, with dsdx other than 0x1000 or dtdy than
    0x0400, with s, t or the tile's upper left between texels (a size that was never set has (0, 0)), or with any of mask,
    shift and mirror of the tile or perspective, look-up and alpha compare on; also where no pixel is kept.
    A refusal leaves every byte of both memories as it was: nothing is drawn before all is tested. */
 uint64_t lanyardrove_draw(const uint8_t *list, size_t list_length,
                           uint8_t *memory, size_t memory_length, uint64_t start,
                           uint8_t *texture, size_t texture_length);
+
+/* The most pixels of a row, and the most rows, of an image that is viewed. */
+#define LANYARDROVE_MOST_SIDE 1024
+
+/* Views an image: writes its pixels as rows of red, green, blue and alpha, four bytes a pixel, to the front of out, the upper row
+   first. The image is width by height pixels, one row right after the other from address on; memory[i] is the byte at address
+   start + i, start and address are any numbers, and no sum of them wraps. size is that of Set Color Image: 1 for pixels of 8
+   bits, 2 for 16 and 3 for 32.
+   A value of 8 bits fills red, green and blue, with alpha 255. Of 16 bits, most significant byte first, red, green and blue are
+   the three times five bits from the highest on, of which v becomes 8 * v + v / 4, and the lowest bit is alpha, 0 or 255. Pixels
+   of 32 bits are copied.
+   Answers 0 at the bytes written; or 27 at 0 where width or height is 0 or above LANYARDROVE_MOST_SIDE, or size is none of 1 to
+   3; then 12 at 0 where a byte of the image is outside memory; then 14 at the bytes needed, 4 * width * height. The third
+   number is 0. memory is read only; a refusal leaves every byte of out as it was, and bytes beyond those written are not
+   touched. */
+uint64_t lanyardrove_view(const uint8_t *memory, size_t memory_length, uint64_t start,
+                          uint64_t address, uint32_t width, uint32_t height, uint32_t size,
+                          uint8_t *out, size_t out_length);
 
 /* Compares two lists command by command, by their index from the first on. Two commands differ where their numbers do, or a
    field; bits that belong to no field don't count, nor do bits 63:62 of a first word. Each pair that differs is an entry of
@@ -307,27 +331,6 @@ uint64_t lanyardrove_encode(uint32_t number,
                             const uint64_t *fields, size_t count,
                             const uint8_t *suffix, size_t suffix_length,
                             uint8_t *out, size_t out_length);
-
-/* Compares two lists, command by command from the first: writes four numbers to entries for each pair of commands that differ
-   in number or in a field, in their order: the place in the first list, the place in the second, and 64 bits, the high half
-   first. Bits of a command that belong to no field do not count.
-   Where the numbers differ, the 64 bits are zero. Else the bit of each field that differs is set: that of its index below,
-   but of Set Other Modes 1 higher from LANYARDROVE_OTHER_MODES_CYCLE_TYPE on, 2 from .._BL_M1A_0 and 3 from .._FORCE_BLEND, since
-   three bit lines there have an index and no name. A triangle's suffix, all that follows its first four words, is one field
-   more, bit LANYARDROVE_TRIANGLE_FIELDS.
-   Answers 0 and the numbers written as the place; or the first of refusals 1, 2 and 3 of the first list, then of the second, at
-   its place in that list; and then 14 at the numbers needed where count is too small. 16,384 numbers always suffice.
-   Numbers beyond those written are not touched. Commands that only one list has are the rest, which lanyardrove_rest finds. */
-uint64_t lanyardrove_compare(const uint8_t *first, size_t first_length,
-                             const uint8_t *second, size_t second_length, uint32_t *entries, size_t count);
-
-/* The rest of the list that has more commands than the other: from its first command without a partner to its end.
-   The number is that of lanyardrove_compare of the same lists with room for as many numbers as count says. lanyardrove_list is
-   the list, 0 for the first and 1 for the second, and the place is the first byte of the rest in that list. With as many
-   commands in both lists, and at every refusal, also 14, it is the empty end of the first list: its length, where this is over
-   4,294,967,295 that number. */
-uint64_t lanyardrove_rest(const uint8_t *first, size_t first_length,
-                          const uint8_t *second, size_t second_length, size_t count);
 
 /* The numbers of commands; every other from 0 to 63 is unassigned: decoded and encoded as a command of one word without fields,
    and refused in lists by 19. Of a triangle's number bit 2 says that it has shade, bit 1 texture, bit 0 depth. */
