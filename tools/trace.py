@@ -10,7 +10,6 @@ What stands there between backticks, but for the list at its head, and has one o
     DRIVER:NUMBER                          a wrong version of fuzz/wrong.c that `make fuzz-wrong` tries with that driver
     FILE::NAME                             a test: NAME is a function of FILE
     PATH                                   a file or a directory
-The line of the page that begins with "Awaited:" names, between backticks, what its request has on a branch; it may be missing.
 The rows of each table are numbered in order, and no cell is empty. Every wrong version of the repository, cited or not, applies.
 """
 import pathlib
@@ -97,9 +96,8 @@ def exists(cited):
 
 
 def faults(page):
-    """What is wrong with the page, line by line; how many names are there, and which of those awaited are not."""
-    awaited = {name for line in page.splitlines() if line.startswith('Awaited:') for name in re.findall(r'`([^`]+)`', line)}
-    found, there, missing, last = [], 0, set(), 0
+    """What is wrong with the page, line by line, and how many names are there."""
+    found, there, last = [], 0, 0
     for number, line in enumerate(page.splitlines(), 1):
         cells = [cell.strip() for cell in line.strip('|').split('|')] if line.startswith('|') else []
         if cells and re.fullmatch(r'(\d+\.)?\d+', cells[0]):
@@ -111,24 +109,22 @@ def faults(page):
         for cited in re.findall(r'`([^`]+)`', '' if line.startswith('- ') else line):
             is_there = exists(cited)
             there += is_there is True
-            if is_there is False and cited in awaited:
-                missing.add(cited)
-            elif is_there is False:
+            if is_there is False:
                 found.append(f'{number}: {cited}')
-    return found, there, missing
+    return found, there
 
 
 def main():
     if sys.argv[1:] != ['--check']:
         sys.exit(__doc__)
-    found, there, missing = faults(PAGE.read_text())
+    found, there = faults(PAGE.read_text())
     found = [f'docs/TRACE.md:{line}' for line in found]
     for edit in sorted(ROOT.glob('crates/*/must-fail/*.edit')):
         if not applies(edit.parts[-3], edit.stem):
             found.append(f'{edit.relative_to(ROOT)}: an old text does not stand just once')
     if found:
         sys.exit('\n'.join(found))
-    print(f'docs/TRACE.md: {there} names are there, {len(missing)} are awaited')
+    print(f'docs/TRACE.md: {there} names are there')
 
 
 main()
