@@ -27,7 +27,7 @@ use Rattle.rdp_check.proofs.BoundLaws.{checkNumbers, check-numbers, among-below
 use Rattle.rdp_repair.proofs.BoundLaws.{repairNumbers, Bounds, repair-bounds, afresh-bounds}
 use Rattle.rdp_index.proofs.BoundLaws as index
 use Rattle.rdp_draw.proofs.BoundLaws.{drawNumbers, draw-numbers, draw-place}
-use Rattle.rdp_view.specs.View.{Image}
+use Rattle.rdp_view.specs.View.{Framebuffer}
 use Rattle.rdp_view.proofs.ViewLaws.{view-bounds}
 use Rattle.rdp_stream.proofs.StreamLaws.{Near, fed-near, closed-near, fed-told, closed-told}
 use Rattle.rdp_stream.specs.declared.Fed.{Fed}
@@ -114,7 +114,7 @@ encode-small number fields suffix out = made-small number fields suffix out (fro
 told-small : (x : Fed) → Near (x .answer) → toldReply x .third ≤ 409600 → Small (toldReply x)
 told-small x k most = record { number = omega (arith, k .number); third = omega (arith, most); place = k .place }
 
-view-small : (start len : ℕ) (i : Image) (room : ℕ) → Small (viewReply start len i room)
+view-small : (start len : ℕ) (i : Framebuffer) (room : ℕ) → Small (viewReply start len i room)
 view-small start len i room =
     let b = view-bounds start len i room in
     record { number = omega (arith, b .number); third = omega arith; place = omega (arith, b .place) }

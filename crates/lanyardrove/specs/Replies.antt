@@ -21,7 +21,7 @@ use Rattle.rdp_repair.specs.declared.Repaired.{Repaired}
 use Rattle.rdp_index.specs.Index.{buildAnswer, askOf, replaceAnswer, ReplaceIs}
 use Rattle.rdp_index.specs.declared.Asked.{Asked}
 use Rattle.rdp_draw.specs.Draw.{drawAnswer}
-use Rattle.rdp_view.specs.View.{Image, viewAnswer}
+use Rattle.rdp_view.specs.View.{Framebuffer, viewAnswer}
 use Rattle.rdp_stream.specs.Records.{fedOf, closedOf}
 use Rattle.rdp_stream.specs.declared.Stream.{Stream}
 use Rattle.rdp_stream.specs.declared.Fed.{Fed}
@@ -102,7 +102,7 @@ abbrev pub drawReply : List ℕ → ℕ → ℕ → ℕ → Reply
 drawReply list start len size = plain (drawAnswer list start len size)
 
 -- an image of memory of `len` bytes that starts at address `start`, as RGBA rows in an output of `room` bytes (#113)
-abbrev pub viewReply : ℕ → ℕ → Image → ℕ → Reply
+abbrev pub viewReply : ℕ → ℕ → Framebuffer → ℕ → Reply
 viewReply start len i room = plain (viewAnswer start len i room)
 
 -- a decoded command of number n: the third number is n where its fields are written; the place is their count
@@ -195,7 +195,7 @@ pub data Occurs : Reply → Type 0 where
   ofAsk : (list entries : List ℕ) (place : ℕ) → place < 2 ^ 32 → Occurs (askReply list entries place)
   ofReplace : (list entries : List ℕ) (place : ℕ) (new : List ℕ) → place < 2 ^ 32 → Occurs (replaceReply list entries place new)
   ofDraw : (list : List ℕ) (start len size : ℕ) → Occurs (drawReply list start len size)
-  ofView : (start len : ℕ) (i : Image) (room : ℕ) → Occurs (viewReply start len i room)
+  ofView : (start len : ℕ) (i : Framebuffer) (room : ℕ) → Occurs (viewReply start len i room)
   ofDecode : (list fields : List ℕ) → Occurs (decodeReply list fields)
   ofEncode : (number : ℕ) (fields suffix out : List ℕ) → Occurs (encodeReply number fields suffix out)
   ofFeed : (r : Stream) → length (r .held) ≡ 176 → r .place < 2 ^ 32 → (portion : List ℕ) → Occurs (feedReply r portion)

@@ -8,7 +8,7 @@ ghost use Rattle.lanyardrove.specs.Replies.{mostLent, translateReply, tr
 ghost use Rattle.rdp_words.specs.Lengths.{commandWords};
 ghost use Rattle.rdp_index.specs.Index.{buildOut};
 ghost use Rattle.rdp_draw.specs.Draw.{drawn, memories};
-ghost use Rattle.rdp_view.specs.View.{imageAt, viewOut};
+ghost use Rattle.rdp_view.specs.View.{framebufferAt, viewOut};
 ghost use Rattle.rdp_compare.specs.Entries.{entriesAfter};
 use rdp_command::Decoded;
 use rdp_stream::Stream;
@@ -78,7 +78,7 @@ pub extern "C" fn lanyardrove_step(hazards: u32, number: u32) -> u64
     pack(0, third, step.next as u32)
 }
 
-// The check of a list: the first of refusals 1 to 9, or 0 and the words of the list. The third number is the cause.
+// The check of a list: the first of refusals 1 to 9 and 19, or 0 and the words of the list. The third number is the cause.
 #[no_mangle]
 pub extern "C" fn lanyardrove_check(list: &[u8]) -> u64
     ensures { λ r. ⌜ r ≡ packed (checkReply (now (list .entry))) ⌝ }
@@ -87,7 +87,7 @@ pub extern "C" fn lanyardrove_check(list: &[u8]) -> u64
     pack(checked.number, third_of(checked.cause), checked.place)
 }
 
-// The repair of a list: the first of refusals 1 to 6, 13 and 14, or 0, the cycles and the words written.
+// The repair of a list: the first of refusals 1 to 6, 19, 13 and 14, or 0, the cycles and the words written.
 #[no_mangle]
 pub extern "C" fn lanyardrove_repair(list: &[u8], work: &mut [u8], out: &mut [u8]) -> u64
     ensures { λ r. ⌜ RepairReplies (now (list .entry)) (now (work .entry)) (now (out .entry)) r (now (work .exit)) (now (out .exit)) ⌝ }
@@ -142,7 +142,7 @@ pub extern "C" fn lanyardrove_index_replace(
     pack(replaced.number, 0, replaced.place)
 }
 
-// Drawing a list into memory that starts at an address, with texture memory: the first of refusals 1 to 9, 16, and 10, 11, 17, 12 and 18, or 0 and the words of
+// Drawing a list into memory that starts at an address, with texture memory: the first of refusals 1 to 9, 19, 16, and 10, 11, 17, 12 and 18, or 0 and the words of
 // the list.
 #[no_mangle]
 pub extern "C" fn lanyardrove_draw(
@@ -170,8 +170,8 @@ pub extern "C" fn lanyardrove_view(
     size: u32,
     out: &mut [u8],
 ) -> u64
-    ensures reply { λ r. ⌜ r ≡ packed (viewReply start (length (now (memory .entry))) (imageAt address width height size) (length (now (out .entry)))) ⌝ }
-    ensures output { λ _. ⌜ now (out .exit) ≡ viewOut (now (memory .entry)) start (imageAt address width height size) (now (out .entry)) ⌝ }
+    ensures reply { λ r. ⌜ r ≡ packed (viewReply start (length (now (memory .entry))) (framebufferAt address width height size) (length (now (out .entry)))) ⌝ }
+    ensures output { λ _. ⌜ now (out .exit) ≡ viewOut (now (memory .entry)) start (framebufferAt address width height size) (now (out .entry)) ⌝ }
 {
     let viewed = rdp_view::view(memory, start, address, width, height, size, out);
     pack(viewed.number, 0, viewed.place)
@@ -254,7 +254,7 @@ fn close_packed(before: Stream) -> Packed
 }
 
 // Takes a portion of a list into the caller's record, where it stands: 0 and the words of the commands accepted so far, or the refusal that the record
-// remembers from then on, 1, or 4 to 9 at a command; 28 at 0 where these calls cannot have left the record. The third number is the cycles that the
+// remembers from then on, 1, or 4 to 9 or 19 at a command; 28 at 0 where these calls cannot have left the record. The third number is the cycles that the
 // commands accepted have waited.
 #[no_mangle]
 pub extern "C" fn lanyardrove_stream_feed(lent: &mut Stream, portion: &[u8]) -> u64

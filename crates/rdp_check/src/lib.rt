@@ -174,7 +174,7 @@ pub struct Registers {
     pub tiles: [Tile; 8],
 }
 
-// The first refusal of a list, with the hazards there and its cause: 1 and 2 of the list, then 3 to 9 of its commands in order; 0 at the number of words
+// The first refusal of a list, with the hazards there and its cause: 1 and 2 of the list, then 3 to 9 and 19 of its commands in order; 0 at the number of words
 // where none holds.
 pub fn check(list: &[u8]) -> Checked
     ensures { λ r. ⌜ r ≡ checkOf (now (list .entry)) ⌝ }

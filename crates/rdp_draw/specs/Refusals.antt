@@ -11,7 +11,7 @@ use Rattle.rdp_draw.specs.Draw.{Placed, actsOf, actRefusals, drawGrounds
 
 -- a refusal of a list, and its place
 pub data Holds (list : List ℕ) (start len size : ℕ) : ℕ → ℕ → Type 0 where
-  -- 1 to 9: a refusal of the check
+  -- 1 to 9 and 19: a refusal of the check
   atCheck : (n p : ℕ) → check.Holds 4096 checkRefusals list n p → Holds list start len size n p
   -- 16: texture memory has not 4,096 bytes
   atTexture : (size ≡ 4096 → ⊥) → Holds list start len size 16 0

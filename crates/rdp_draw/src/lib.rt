@@ -9,7 +9,7 @@ mod walk;
 
 use rdp_command::Answer;
 
-// Draws a list into memory that starts at address `start`, with texture memory: the refusals 1 to 9 of the check, then 16, then 10, 11, 17, 12 and 18 of its
+// Draws a list into memory that starts at address `start`, with texture memory: the refusals 1 to 9 and 19 of the check, then 16, then 10, 11, 17, 12 and 18 of its
 // acts, and only then the acts. Answers 0 at the number of words where none holds. A refusal leaves every byte of memory and texture memory as it was.
 pub fn draw(list: &[u8], memory: &mut [u8], start: u64, texture: &mut [u8]) -> Answer
     ensures answer { λ r. ⌜ r ≡ drawAnswer (now (list .entry)) start (length (now (memory .entry))) (length (now (texture .entry))) ⌝ }

@@ -20,10 +20,11 @@ pub record Hazards : Type 0 where
   -- G: a load since the last sync of any kind
   pub loaded : Bool
 
--- the hazards as a number: P 1, T 2, D 4, G 8, summed
+-- the hazards of a number: P 1, T 2, D 4, G 8, summed
 abbrev pub hazardsOf : ℕ → Hazards
 hazardsOf m = record { pipe = hasBit 1 m; tile = hasBit 2 m; drawn = hasBit 4 m; loaded = hasBit 8 m }
 
+-- and the number of hazards
 abbrev pub codeOf : Hazards → ℕ
 codeOf h = cond (h .pipe) 1 0 + cond (h .tile) 2 0 + cond (h .drawn) 4 0 + cond (h .loaded) 8 0
 

@@ -1,4 +1,4 @@
--- Document 01, "Repair" and refusals 1 to 6, 13, 14: what a least repair is, what the repair answers and what it writes.
+-- Document 01, "Repair" and refusals 1 to 6, 19, 13, 14: what a least repair is, what the repair answers and what it writes.
 use Prim.Native.Nat.{ℕ, _*_, _/_, _<_, _≤_}
 use mathlib.Core.Bool.{cond, _||_}
 use mathlib.Core.List.{List, [], _∷_, _++_}
@@ -21,8 +21,8 @@ use Rattle.rdp_repair.specs.declared.Repaired.{Repaired}
 unfoldable pub Makes : List ℕ → List ℕ → List ℕ → Type 0
 Makes s p t = (length p ≡ length (commandsOf s)) × (joined (applied p (commandsOf s)) ≡ t)
 
--- list t is made from list s by inserting, and the check accepts it (all of refusals 1 to 9).
--- Least: any list made by inserting that has none of refusals 3 to 9 has at least as many cycles; such a list may be longer than the check allows.
+-- list t is made from list s by inserting, and the check accepts it (all of refusals 1 to 9 and 19).
+-- Least: any list made by inserting that has none of refusals 3 to 9 and 19 has at least as many cycles; such a list may be longer than the check allows.
 -- Planned: one with as many cycles has at most one sync before each command and none at the end. First: of the plans of such lists, that of t is the
 -- first in the order of ties. There is at most one least repair (`least-unique`)
 pub record LeastRepair (s t : List ℕ) (cycles : ℕ) : Type 0 where
@@ -34,7 +34,7 @@ pub record LeastRepair (s t : List ℕ) (cycles : ℕ) : Type 0 where
       (p : List ℕ) × Makes s p t × (cyclesOf p ≡ cycles) ×
       ((q u : List ℕ) → Makes s q u → Free checkRefusals u → cyclesOf q ≡ cycles → FirstOf p q)
 
--- a list that none of 1 to 6 holds for
+-- a list that none of 1 to 6 and 19 holds for
 abbrev pub Repairable : List ℕ → Type 0
 Repairable list = (n p : ℕ) → Holds 2048 repairRefusals list n p → ⊥
 
@@ -42,7 +42,7 @@ Repairable list = (n p : ℕ) → Holds 2048 repairRefusals list n p → ⊥
 
 -- a refusal of the repair, and its place, by the lengths of the work buffer and the output
 pub data RepairHolds (list : List ℕ) (bytes work out : ℕ) : ℕ → ℕ → Type 0 where
-  -- 1 to 6: of the list, which may have 2,048 words; 7 to 9 are passed over
+  -- 1 to 6 and 19: of the list, which may have 2,048 words; 7 to 9 are passed over
   ofList : (n p : ℕ) → Holds 2048 repairRefusals list n p → RepairHolds list bytes work out n p
   -- 13: the work buffer is below 16 bytes a command
   littleWork : work < 16 * length (commandsOf list) → RepairHolds list bytes work out 13 (length (commandsOf list))
@@ -85,7 +85,7 @@ workAfter r list work =
     cond (eqb (r .number) 0 || eqb (r .number) 14) (overwrite (replicate (16 * length (commandsOf list)) 0) work) work
 
 -- what a repair ensures of its answer, of the work buffer and of the output, by what it is to be the least list: that of 01, or that of #109 (`Afresh`).
--- Where none of 1 to 6 holds, `least` is the least list for the given one, of so many cycles; where one of them holds, nothing depends on these two
+-- Where none of 1 to 6 and 19 holds, `least` is the least list for the given one, of so many cycles; where one of them holds, nothing depends on these two
 pub record RepairsBy (Least : List ℕ → List ℕ → ℕ → Type 0) (list work out : List ℕ) (r : Repaired) (work′ out′ : List ℕ) : Type 0 where
   pub least : List ℕ
   pub cycles : ℕ

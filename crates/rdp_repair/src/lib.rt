@@ -14,7 +14,7 @@ pub struct Repaired {
     pub cycles: u32,
 }
 
-// Either repair: of the list as given, or afresh, of the list without its Load, Tile and Pipe syncs. Refusals 1 to 6 of the list as given, where 7 to 9
+// Either repair: of the list as given, or afresh, of the list without its Load, Tile and Pipe syncs. Refusals 1 to 6 and 19 of the list as given, where 7 to 9
 // are passed over, then 13 by its commands and 14; else 0, the words written and the cycles of the plan.
 fn repair_by(list: &[u8], work: &mut [u8], out: &mut [u8], afresh: bool) -> Repaired
     ensures { λ r. ⌜ Repairs (basisOf afresh (now (list .entry))) (now (list .entry)) (now (work .entry)) (now (out .entry)) r (now (work .exit)) (now (out .exit)) ⌝ }
@@ -45,7 +45,7 @@ fn repair_by(list: &[u8], work: &mut [u8], out: &mut [u8], afresh: bool) -> Repa
     repairing::repair_whole(list, words, work, out, afresh)
 }
 
-// Writes to out the list with the syncs that it misses inserted, at the least cycles. The work buffer lends sixteen bytes a command. Refusals 1 to 6 of
+// Writes to out the list with the syncs that it misses inserted, at the least cycles. The work buffer lends sixteen bytes a command. Refusals 1 to 6 and 19 of
 // the list, where 7 to 9 are passed over, then 13 and 14 of the room; else 0, the words written and the cycles inserted.
 pub fn repair(list: &[u8], work: &mut [u8], out: &mut [u8]) -> Repaired
     ensures { λ r. ⌜ RepairIs (now (list .entry)) (now (work .entry)) (now (out .entry)) r (now (work .exit)) (now (out .exit)) ⌝ }

@@ -247,7 +247,7 @@ fn plan_list(list: &[u8], words: usize, work: &mut [u8], afresh: bool) -> Planne
     }
 }
 
-// Repairs a list that none of refusals 1 to 6 holds for, where the work buffer has sixteen bytes for each command.
+// Repairs a list that none of refusals 1 to 6 and 19 holds for, where the work buffer has sixteen bytes for each command.
 pub fn repair_whole(
     list: &[u8],
     words: usize,

@@ -18,7 +18,7 @@ complete list = joined (commandsOf (take 32768 list))
 
 -- a refusal of a list, and its place
 pub data ArrivedHolds (list : List ℕ) : ℕ → ℕ → Type 0 where
-  -- 4 to 9, of a command that is complete
+  -- 4 to 9 and 19, of a command that is complete
   ofComplete : (n p : ℕ) → CommandHolds checkRefusals (complete list) n p → ArrivedHolds list n p
   -- 1: over 32,768 bytes
   tooLong : 32768 < length list → ArrivedHolds list 1 4096

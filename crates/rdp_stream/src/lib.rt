@@ -98,7 +98,7 @@ pub fn close_value(before: Stream) -> Fed
 }
 
 // Takes a portion of a list into the record, where it stands. It answers 0 and the words of the commands accepted so far, or the refusal that the
-// record remembers from then on: 1, or 4 to 9 at a command; 28 at 0 where these calls cannot have left the record.
+// record remembers from then on: 1, or 4 to 9 or 19 at a command; 28 at 0 where these calls cannot have left the record.
 pub fn feed(lent: &mut Stream, portion: &[u8]) -> Answer
     ensures { λ r. ⌜ (r ≡ fedOf (now (lent .entry)) (now (portion .entry)) .answer) × (now (lent .exit) ≡ fedOf (now (lent .entry)) (now (portion .entry)) .after) ⌝ }
 {

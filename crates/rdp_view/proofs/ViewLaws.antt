@@ -13,7 +13,7 @@ use Rattle.rdp_words.specs.Words.{overwrite}
 use Rattle.rdp_words.proofs.Tests.{by-test, neither}
 use Rattle.rdp_command.specs.declared.Answer.{Answer}
 use Rattle.rdp_check.specs.Order.{answer}
-use Rattle.rdp_view.specs.View.{pixelBytes, pixels, unfit, unviewable, outsideMemory, Image, pixelCount, viewGrounds, viewAnswer, viewOut}
+use Rattle.rdp_view.specs.View.{pixelBytes, pixels, unfit, unviewable, outsideMemory, Framebuffer, pixelCount, viewGrounds, viewAnswer, viewOut}
 use Rattle.rdp_view.specs.Steps.{Enough}
 use Rattle.rdp_view.proofs.PixelLaws.{enough}
 
@@ -71,7 +71,7 @@ from-part a xs = take-all (length xs - a) (drop a xs) (omega (arith, length-drop
 
 -- ---- the answers
 
-module _ (memory : List ℕ) (start : ℕ) (i : Image) (out : List ℕ) where
+module _ (memory : List ℕ) (start : ℕ) (i : Framebuffer) (out : List ℕ) where
   abbrev len : ℕ
   len = length memory
 
@@ -120,7 +120,7 @@ pub record Bounds (r : Answer) : Type 0 where
   pub number : r .number ≤ 27
   pub place : r .place ≤ 0x400000
 
-pub view-bounds : (start len : ℕ) (i : Image) (out : ℕ) → Bounds (viewAnswer start len i out)
+pub view-bounds : (start len : ℕ) (i : Framebuffer) (out : ℕ) → Bounds (viewAnswer start len i out)
 unfolding viewGrounds
 view-bounds start len i out =
     by-test (unviewable (i .width) (i .height) (i .size)) (λ t. rw t (record { number = lit≤ tt; place = lit≤ tt }))

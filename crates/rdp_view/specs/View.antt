@@ -51,21 +51,21 @@ unviewable width height size = (unfit width || unfit height) || (eqb size 0 || l
 abbrev pub outsideMemory : ℕ → ℕ → ℕ → ℕ → Bool
 outsideMemory start len address bytes = ltb address start || ltb (start + len) (address + bytes)
 
--- an image: its address, width, height and size number
-pub record Image : Type 0 where
+-- a framebuffer: its address, its width and height in pixels, and its size number
+pub record Framebuffer : Type 0 where
   pub address : ℕ
   pub width : ℕ
   pub height : ℕ
   pub size : ℕ
 
-abbrev pub imageAt : ℕ → ℕ → ℕ → ℕ → Image
-imageAt address width height size = record { address = address; width = width; height = height; size = size }
+abbrev pub framebufferAt : ℕ → ℕ → ℕ → ℕ → Framebuffer
+framebufferAt address width height size = record { address = address; width = width; height = height; size = size }
 
-abbrev pub pixelCount : Image → ℕ
+abbrev pub pixelCount : Framebuffer → ℕ
 pixelCount i = i .width * i .height
 
 -- the refusals in their order: 27, 12, then "14, place the bytes needed"; `out` is the length of the output
-unfoldable pub viewGrounds : ℕ → ℕ → Image → ℕ → List (Ground Answer)
+unfoldable pub viewGrounds : ℕ → ℕ → Framebuffer → ℕ → List (Ground Answer)
 viewGrounds start len i out =
     ground (answer 27 0) (unviewable (i .width) (i .height) (i .size))
     ∷ ground (answer 12 0) (outsideMemory start len (i .address) (pixelCount i * pixelBytes (i .size)))
@@ -73,11 +73,11 @@ viewGrounds start len i out =
     ∷ []
 
 -- "Success gives 0 and the bytes written."
-abbrev pub viewAnswer : ℕ → ℕ → Image → ℕ → Answer
+abbrev pub viewAnswer : ℕ → ℕ → Framebuffer → ℕ → Answer
 viewAnswer start len i out = firstOf (viewGrounds start len i out) (answer 0 (4 * pixelCount i))
 
 -- the output: the image's pixels, and what it held beyond them; at a refusal it is as it was
-unfoldable pub viewOut : List ℕ → ℕ → Image → List ℕ → List ℕ
+unfoldable pub viewOut : List ℕ → ℕ → Framebuffer → List ℕ → List ℕ
 viewOut memory start i out =
     cond (eqb (viewAnswer start (length memory) i (length out) .number) 0)
     (overwrite (pixels (i .size) (pixelCount i) (drop (i .address - start) memory)) out) out

@@ -1,7 +1,7 @@
 // A finished image in memory as RGBA rows.
 ghost use mathlib.Core.Path.{_≡_};
 ghost use lib.ListN.{length};
-ghost use Rattle.rdp_view.specs.View.{imageAt, viewAnswer, viewOut};
+ghost use Rattle.rdp_view.specs.View.{framebufferAt, viewAnswer, viewOut};
 
 mod pixels;
 mod tests;
@@ -19,8 +19,8 @@ pub fn view(
     size: u32,
     out: &mut [u8],
 ) -> Answer
-    ensures answer { λ r. ⌜ r ≡ viewAnswer start (length (now (memory .entry))) (imageAt address width height size) (length (now (out .entry))) ⌝ }
-    ensures output { λ _. ⌜ now (out .exit) ≡ viewOut (now (memory .entry)) start (imageAt address width height size) (now (out .entry)) ⌝ }
+    ensures answer { λ r. ⌜ r ≡ viewAnswer start (length (now (memory .entry))) (framebufferAt address width height size) (length (now (out .entry))) ⌝ }
+    ensures output { λ _. ⌜ now (out .exit) ≡ viewOut (now (memory .entry)) start (framebufferAt address width height size) (now (out .entry)) ⌝ }
 {
     if tests::is_unviewable(width, height, size) {
         return Answer {

@@ -3,7 +3,7 @@ use mathlib.Core.Path.{_≡_, ap, _∙_}
 use native.Mathlib.Omega.{arith}
 use borrow.Author.Needs.{needs}
 use lib.ListN.{length}
-use Rattle.rdp_view.specs.View.{imageAt}
+use Rattle.rdp_view.specs.View.{framebufferAt}
 use Rattle.lanyardrove.specs.Replies.{packed, plain, viewReply, ofView}
 use Rattle.lanyardrove.proofs.BoundLaws.{packs}
 use Rattle.lanyardrove.proofs.lanyardrove_view.Statement.{statement}
@@ -14,7 +14,7 @@ view-requires c κs = search needs
 
 answers : (c : tie.After-view) →
     let s = c .before .before .before .before .args in
-    plain (c .view .result) ≡ viewReply (s .start) (length (s .memory .now)) (imageAt (s .address) (s .width) (s .height) (s .size)) (length (s .out .now))
+    plain (c .view .result) ≡ viewReply (s .start) (length (s .memory .now)) (framebufferAt (s .address) (s .width) (s .height) (s .size)) (length (s .out .now))
 answers c = ap plain (c .view .ensures .0)
 
 pack-requires : tie.Need-pack-requires

@@ -8,15 +8,15 @@ use borrow.Author.Needs.{needs}
 use lib.ListN.{length, take, drop}
 use Rattle.rdp_words.specs.Words.{overwrite}
 use Rattle.rdp_check.specs.Order.{answer}
-use Rattle.rdp_view.specs.View.{pixelBytes, pixels, unviewable, outsideMemory, Image, pixelCount}
+use Rattle.rdp_view.specs.View.{pixelBytes, pixels, unviewable, outsideMemory, Framebuffer, pixelCount}
 use Rattle.rdp_view.specs.Steps.{Enough}
 use Rattle.rdp_view.proofs.ViewLaws.{sides-fit, from-part, inside-start, inside-end, refused-27, refused-12, refused-14, viewed, pixels-there}
 use Rattle.rdp_view.proofs.view.Statement.{statement}
 use Rattle.rdp_view.proofs.view.Tie as tie
 
 -- the image that is asked for
-abbrev imageOf : tie.Start → Image
-imageOf s = record { address = s .args .address; width = s .args .width; height = s .args .height; size = s .args .size }
+abbrev framebufferOf : tie.Start → Framebuffer
+framebufferOf s = record { address = s .args .address; width = s .args .width; height = s .args .height; size = s .args .size }
 
 is-unviewable-requires : tie.Need-is-unviewable-requires
 is-unviewable-requires c κs = search needs
@@ -24,7 +24,7 @@ is-unviewable-requires c κs = search needs
 returns : tie.Need-returns
 returns c =
     let s = c .before .before .before .before in
-    let r = refused-27 (s .args .memory .now) (s .args .start) (imageOf s) (s .args .out .now) (sym (c .before .is-unviewable .ensures) ∙ c .if1 .taken) in
+    let r = refused-27 (s .args .memory .now) (s .args .start) (framebufferOf s) (s .args .out .now) (sym (c .before .is-unviewable .ensures) ∙ c .if1 .taken) in
     (r .answers, r .leaves)
 
 pixel-count-requires : tie.Need-pixel-count-requires
@@ -46,8 +46,8 @@ module _ (o : tie.After-is-outside) where
   abbrev memory : List ℕ
   memory = s .args .memory .now
 
-  abbrev image : Image
-  image = imageOf s
+  abbrev image : Framebuffer
+  image = framebufferOf s
 
   fit : unviewable (s .args .width) (s .args .height) (s .args .size) ≡ false
   fit = sym (o .before .before .before .before .is-unviewable .ensures) ∙ o .before .before .before .if1 .left
