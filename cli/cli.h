@@ -279,11 +279,11 @@ bool take_image(const char *text, Image *image);
 
 typedef struct {
     const char *command;
-    char **paths; /* the lists, or the memory to translate */
+    char **paths; /* the lists, the memory to translate, or the text of a list */
     int count;
     Input input;
     const char *output; /* NULL where -o is not given */
-    bool help, brief, quiet, verbose, failures, all, afresh, dry, in_place, json, has_memory, has_image;
+    bool help, brief, text, quiet, verbose, failures, all, afresh, dry, in_place, json, has_memory, has_image;
     const struct Format *format; /* of what check tells */
     Number from, to, around; /* places that dump shows */
     const char *memory_file, *texture; /* files of memory and of texture memory; NULL where they are zeros */
@@ -293,8 +293,8 @@ typedef struct {
 
 /* The commands of the tool, a bit each. */
 enum {
-    OF_CHECK = 1, OF_REPAIR = 2, OF_DUMP = 4, OF_DRAW = 8, OF_REPORT = 16, OF_DIFF = 32, OF_TRANSLATE = 64,
-    OF_LISTS = OF_CHECK | OF_REPAIR | OF_DUMP | OF_DRAW | OF_REPORT | OF_DIFF, OF_ALL = OF_LISTS | OF_TRANSLATE
+    OF_CHECK = 1, OF_REPAIR = 2, OF_DUMP = 4, OF_DRAW = 8, OF_REPORT = 16, OF_DIFF = 32, OF_TRANSLATE = 64, OF_ASM = 128,
+    OF_LISTS = OF_CHECK | OF_REPAIR | OF_DUMP | OF_DRAW | OF_REPORT | OF_DIFF, OF_ALL = OF_LISTS | OF_TRANSLATE | OF_ASM
 };
 
 /* A command of the tool. */
@@ -348,5 +348,6 @@ int run_draw(const Arguments *arguments);
 int run_report(const Arguments *arguments);
 int run_diff(const Arguments *arguments);
 int run_translate(const Arguments *arguments);
+int run_asm(const Arguments *arguments);
 
 #endif

@@ -6,17 +6,18 @@ _lanyardrove()
     local options input="--offset --length --swap --hex -h --help"
     COMPREPLY=()
     if [ "$COMP_CWORD" -eq 1 ]; then
-        mapfile -t COMPREPLY < <(compgen -W "check repair dump draw report diff translate help --help --version" -- "$current")
+        mapfile -t COMPREPLY < <(compgen -W "check repair dump draw report diff translate asm help --help --version" -- "$current")
         return
     fi
     case ${COMP_WORDS[1]} in
     check) options="-q --quiet -v --verbose --failures --all --format --f3dex2 $input" ;;
     repair) options="--afresh --check -i --in-place -o --output $input" ;;
     report) options="--f3dex2 --memory --start --texture -o --output $input" ;;
-    dump) options="--brief --from --to --around --f3dex2 $input" ;;
+    dump) options="--brief --asm --from --to --around --f3dex2 $input" ;;
     diff) options="-q --quiet --format -o --output $input" ;;
     translate) options="--start -o --output -h --help" ;;
-    help) mapfile -t COMPREPLY < <(compgen -W "check repair dump draw report diff translate" -- "$current"); return ;;
+    asm) options="-o --output -h --help" ;;
+    help) mapfile -t COMPREPLY < <(compgen -W "check repair dump draw report diff translate asm" -- "$current"); return ;;
     draw) options="--f3dex2 --memory --start --texture --image -o --output $input" ;;
     *) return ;;
     esac

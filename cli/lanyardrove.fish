@@ -1,7 +1,7 @@
 # fish completion for lanyardrove
 
 set -l lists check repair dump draw report diff
-set -l commands $lists translate
+set -l commands $lists translate asm
 
 complete -c lanyardrove -n "not __fish_seen_subcommand_from $commands help" -f
 complete -c lanyardrove -n "not __fish_seen_subcommand_from $commands help" -a "$commands help"
@@ -22,6 +22,7 @@ complete -c lanyardrove -n "__fish_seen_subcommand_from repair" -l check -d "wri
 complete -c lanyardrove -n "__fish_seen_subcommand_from repair" -s i -l in-place -d "write each list over itself"
 
 complete -c lanyardrove -n "__fish_seen_subcommand_from dump" -l brief -d "leave out fields that are 0"
+complete -c lanyardrove -n "__fish_seen_subcommand_from dump" -l asm -d "the text that asm reads"
 complete -c lanyardrove -n "__fish_seen_subcommand_from dump" -l from -x
 complete -c lanyardrove -n "__fish_seen_subcommand_from dump" -l to -x
 complete -c lanyardrove -n "__fish_seen_subcommand_from dump" -l around -x
@@ -31,7 +32,7 @@ complete -c lanyardrove -n "__fish_seen_subcommand_from draw report translate" -
 complete -c lanyardrove -n "__fish_seen_subcommand_from draw report" -l texture -r -F
 complete -c lanyardrove -n "__fish_seen_subcommand_from draw" -l image -x
 
-complete -c lanyardrove -n "__fish_seen_subcommand_from repair draw report diff translate" -s o -l output -r -F
+complete -c lanyardrove -n "__fish_seen_subcommand_from repair draw report diff translate asm" -s o -l output -r -F
 
 complete -c lanyardrove -n "__fish_seen_subcommand_from check dump draw report" -l f3dex2 -x
 complete -c lanyardrove -n "__fish_seen_subcommand_from $lists" -l offset -x

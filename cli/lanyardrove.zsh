@@ -4,7 +4,7 @@
 _lanyardrove()
 {
     local -a commands input options memory display
-    commands=(check repair dump draw report diff translate)
+    commands=(check repair dump draw report diff translate asm)
     input=('--offset=:byte:' '--length=:bytes:' --swap --hex -h --help '*:list:_files')
     display='--f3dex2=:offset:'
     memory=($display '--memory=:memory:{compadd 64K 1M 4M 8M; _files}' '--start=:address:' '--texture=:texture:_files')
@@ -15,13 +15,16 @@ _lanyardrove()
     case $words[2] in
     check) options=($display -q --quiet -v --verbose --failures --all '--format=:form:(text gcc github json sarif)') ;;
     repair) options=(--afresh --check -i --in-place '-o:output:_files' '--output=:output:_files') ;;
-    dump) options=($display --brief '--from=:place:' '--to=:place:' '--around=:place:') ;;
+    dump) options=($display --brief --asm '--from=:place:' '--to=:place:' '--around=:place:') ;;
     draw) options=($memory '--image=:image:' '-o:output:_files' '--output=:output:_files') ;;
     report) options=($memory '-o:output:_files' '--output=:output:_files') ;;
     diff) options=(-q --quiet '--format=:form:(text json)' '-o:output:_files' '--output=:output:_files') ;;
     translate)
         options=('--start=:offset:' '-o:output:_files' '--output=:output:_files')
         input=(-h --help '*:memory:_files') ;;
+    asm)
+        options=('-o:output:_files' '--output=:output:_files')
+        input=(-h --help '*:text:_files') ;;
     help) compadd -- $commands; return ;;
     *) return ;;
     esac

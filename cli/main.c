@@ -52,7 +52,15 @@ static const Entry entries[] = {
       "Writes the list that a game's display list (Fast3DEX2) stands for. FILE is the\n"
       "memory that it lies in; its addresses are offsets there. Prints 'number place'\n"
       "and what it means: number 0 and the words written, or the first refusal and\n"
-      "the offset of its command. Nothing is written at a refusal." }
+      "the offset of its command. Nothing is written at a refusal." },
+    { OF_ASM, "asm", run_asm, 1, 1, "text of a list",
+      "asm FILE [-o OUT]\n"
+      "Writes the list that a text stands for, as 'dump --asm' prints it: the name of\n"
+      "a command, its fields as NAME=VALUE in any order, those that are 0 may be left\n"
+      "out, and of a triangle the words after them. Spaces, lines and commas separate,\n"
+      "# begins a comment. Errors are told as compilers do, FILE:LINE:COLUMN: error:,\n"
+      "and nothing is written then: status 1. Without -o the list goes to standard\n"
+      "output." }
 };
 
 static void print_version(void)
