@@ -279,7 +279,7 @@ bool take_image(const char *text, Image *image);
 
 typedef struct {
     const char *command;
-    char **paths; /* the lists, the memory to translate, or the text of a list */
+    char **paths; /* the lists, the memory to translate, or the text of a list; of edit the list, a place and words */
     int count;
     Input input;
     const char *output; /* NULL where -o is not given */
@@ -293,8 +293,8 @@ typedef struct {
 
 /* The commands of the tool, a bit each. */
 enum {
-    OF_CHECK = 1, OF_REPAIR = 2, OF_DUMP = 4, OF_DRAW = 8, OF_REPORT = 16, OF_DIFF = 32, OF_TRANSLATE = 64, OF_ASM = 128,
-    OF_LISTS = OF_CHECK | OF_REPAIR | OF_DUMP | OF_DRAW | OF_REPORT | OF_DIFF, OF_ALL = OF_LISTS | OF_TRANSLATE | OF_ASM
+    OF_CHECK = 1, OF_REPAIR = 2, OF_DUMP = 4, OF_DRAW = 8, OF_REPORT = 16, OF_DIFF = 32, OF_TRANSLATE = 64, OF_EDIT = 128, OF_ASM = 256,
+    OF_LISTS = OF_CHECK | OF_REPAIR | OF_DUMP | OF_DRAW | OF_REPORT | OF_DIFF | OF_EDIT, OF_ALL = OF_LISTS | OF_TRANSLATE | OF_ASM
 };
 
 /* A command of the tool. */
@@ -348,6 +348,7 @@ int run_draw(const Arguments *arguments);
 int run_report(const Arguments *arguments);
 int run_diff(const Arguments *arguments);
 int run_translate(const Arguments *arguments);
+int run_edit(const Arguments *arguments);
 int run_asm(const Arguments *arguments);
 
 #endif

@@ -16,6 +16,7 @@ static const char overview[] =
     "  report     write a page about a list, for a browser\n"
     "  diff       compare two lists command by command\n"
     "  translate  write the list that a game's display list stands for\n"
+    "  edit       replace one command of a list by another of equal length\n"
     "  asm        write the list of a text, as dump --asm prints it\n\n"
     "'lanyardrove help COMMAND' or 'lanyardrove COMMAND --help' tells more of a\n"
     "command; 'lanyardrove -V' or '--version' prints the version. A FILE of - is\n"

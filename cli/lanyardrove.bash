@@ -6,7 +6,7 @@ _lanyardrove()
     local options input="--offset --length --swap --hex -h --help"
     COMPREPLY=()
     if [ "$COMP_CWORD" -eq 1 ]; then
-        mapfile -t COMPREPLY < <(compgen -W "check repair dump draw report diff translate asm help --help --version" -- "$current")
+        mapfile -t COMPREPLY < <(compgen -W "check repair dump draw report diff translate edit asm help --help --version" -- "$current")
         return
     fi
     case ${COMP_WORDS[1]} in
@@ -16,8 +16,9 @@ _lanyardrove()
     dump) options="--brief --asm --from --to --around --f3dex2 $input" ;;
     diff) options="-q --quiet --format -o --output $input" ;;
     translate) options="--start -o --output -h --help" ;;
+    edit) options="-i --in-place -o --output $input" ;;
     asm) options="-o --output -h --help" ;;
-    help) mapfile -t COMPREPLY < <(compgen -W "check repair dump draw report diff translate asm" -- "$current"); return ;;
+    help) mapfile -t COMPREPLY < <(compgen -W "check repair dump draw report diff translate edit asm" -- "$current"); return ;;
     draw) options="--f3dex2 --memory --start --texture --image -o --output $input" ;;
     *) return ;;
     esac

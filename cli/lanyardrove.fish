@@ -1,6 +1,6 @@
 # fish completion for lanyardrove
 
-set -l lists check repair dump draw report diff
+set -l lists check repair dump draw report diff edit
 set -l commands $lists translate asm
 
 complete -c lanyardrove -n "not __fish_seen_subcommand_from $commands help" -f
@@ -19,7 +19,7 @@ complete -c lanyardrove -n "__fish_seen_subcommand_from check" -l format -x -a "
 
 complete -c lanyardrove -n "__fish_seen_subcommand_from repair" -l afresh -d "choose all syncs afresh"
 complete -c lanyardrove -n "__fish_seen_subcommand_from repair" -l check -d "write nothing"
-complete -c lanyardrove -n "__fish_seen_subcommand_from repair" -s i -l in-place -d "write each list over itself"
+complete -c lanyardrove -n "__fish_seen_subcommand_from repair edit" -s i -l in-place -d "write each list over itself"
 
 complete -c lanyardrove -n "__fish_seen_subcommand_from dump" -l brief -d "leave out fields that are 0"
 complete -c lanyardrove -n "__fish_seen_subcommand_from dump" -l asm -d "the text that asm reads"
@@ -32,7 +32,7 @@ complete -c lanyardrove -n "__fish_seen_subcommand_from draw report translate" -
 complete -c lanyardrove -n "__fish_seen_subcommand_from draw report" -l texture -r -F
 complete -c lanyardrove -n "__fish_seen_subcommand_from draw" -l image -x
 
-complete -c lanyardrove -n "__fish_seen_subcommand_from repair draw report diff translate asm" -s o -l output -r -F
+complete -c lanyardrove -n "__fish_seen_subcommand_from repair draw report diff translate edit asm" -s o -l output -r -F
 
 complete -c lanyardrove -n "__fish_seen_subcommand_from check dump draw report" -l f3dex2 -x
 complete -c lanyardrove -n "__fish_seen_subcommand_from $lists" -l offset -x

@@ -4,7 +4,7 @@
 _lanyardrove()
 {
     local -a commands input options memory display
-    commands=(check repair dump draw report diff translate asm)
+    commands=(check repair dump draw report diff translate edit asm)
     input=('--offset=:byte:' '--length=:bytes:' --swap --hex -h --help '*:list:_files')
     display='--f3dex2=:offset:'
     memory=($display '--memory=:memory:{compadd 64K 1M 4M 8M; _files}' '--start=:address:' '--texture=:texture:_files')
@@ -22,6 +22,7 @@ _lanyardrove()
     translate)
         options=('--start=:offset:' '-o:output:_files' '--output=:output:_files')
         input=(-h --help '*:memory:_files') ;;
+    edit) options=(-i --in-place '-o:output:_files' '--output=:output:_files') ;;
     asm)
         options=('-o:output:_files' '--output=:output:_files')
         input=(-h --help '*:text:_files') ;;

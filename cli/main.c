@@ -53,6 +53,13 @@ static const Entry entries[] = {
       "memory that it lies in; its addresses are offsets there. Prints 'number place'\n"
       "and what it means: number 0 and the words written, or the first refusal and\n"
       "the offset of its command. Nothing is written at a refusal." },
+    { OF_EDIT, "edit", run_edit, 1, INT_MAX, "list",
+      "edit FILE PLACE WORD.. [-o OUT|--in-place]\n"
+      "Replaces the command at a place by another that has as many words, each given\n"
+      "with sixteen hexadecimal digits. Prints 'number place' and what it means, the\n"
+      "hazards before the command, and what check says of the new list. Without -o\n"
+      "and --in-place the list goes to standard output and the text to standard error.\n"
+      "Nothing is written where the replacement is refused." },
     { OF_ASM, "asm", run_asm, 1, 1, "text of a list",
       "asm FILE [-o OUT]\n"
       "Writes the list that a text stands for, as 'dump --asm' prints it: the name of\n"

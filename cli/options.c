@@ -122,7 +122,8 @@ static const Option options[] = {
       "choose all afresh, so that it waits as little as it can" },
     { OF_REPAIR, "check", 0, FLAG(dry), "write nothing; status 1 where the list would change" },
     { OF_REPAIR, "in-place", 'i', FLAG(in_place), "write each list over itself, where it changes" },
-    { OF_REPAIR, "output", 'o', OUTPUT, "the file to write; it may be FILE itself" },
+    { OF_EDIT, "in-place", 'i', FLAG(in_place), "write the list over itself" },
+    { OF_REPAIR | OF_EDIT, "output", 'o', OUTPUT, "the file to write; it may be FILE itself" },
     { OF_DRAW, "output", 'o', OUTPUT,
       "the file to write: .png or .ppm for the picture, .bin for\n"
       "all of memory, or with --image for the picture's bytes" },

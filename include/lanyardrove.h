@@ -36,7 +36,7 @@ extern "C" {
    A release steps the major number where a function of the last release is gone, takes other parameters, or answers or
    writes anything else for some input; else the minor number where a function is added; else the patch number. The numbers
    after the one that steps become 0. */
-#define LANYARDROVE_VERSION 0x060100
+#define LANYARDROVE_VERSION 0x070100
 
 uint32_t lanyardrove_version(void);
 

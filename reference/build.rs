@@ -27,6 +27,9 @@ const FUNCTIONS: &[&str] = &[
     "lanyardrove_repair_afresh",
     "lanyardrove_compare",
     "lanyardrove_rest",
+    "lanyardrove_index_build",
+    "lanyardrove_index_ask",
+    "lanyardrove_index_replace",
 ];
 const BENCH_FUNCTIONS: &[&str] = &["lanyardrove_bench_registers"];
 

@@ -24,7 +24,7 @@ UNASSIGNED = (*range(0x01, 0x08), *range(0x10, 0x24), 0x31)  # 02, #107
 TEXTURE_RECTANGLES = (0x24, 0x25)
 FILL_RECTANGLE = 0x36
 LOADS = (0x30, 0x33, 0x34)
-TEXTURE_RECTANGLE, LOAD_TILE, SET_TILE_SIZE, SET_TEXTURE_IMAGE = 0x24, 0x34, 0x32, 0x3D
+TEXTURE_RECTANGLE, LOAD_TILE, LOAD_BLOCK, SET_TILE_SIZE, SET_TEXTURE_IMAGE = 0x24, 0x34, 0x33, 0x32, 0x3D
 SET_TILE = 0x35
 ATTRIBUTES = (0x2A, 0x2B, 0x2C, 0x2F, 0x37, 0x38, 0x39, 0x3B, 0x3C, 0x3E, 0x3F)
 SET_SCISSOR, SET_OTHER_MODES, SET_FILL_COLOR, SET_COLOR_IMAGE = 0x2D, 0x2F, 0x37, 0x3F
@@ -200,14 +200,30 @@ def moves(texels, memory, start):
     return [(address - start, byte) for address, byte in texels]
 
 
-def load(word, seen, memory, start, texture):
-    image, tile = last(seen, SET_TEXTURE_IMAGE), of_tile(seen, (SET_TILE,), bits(word, 26, 24))
-    demand(number_of(word) == LOAD_TILE and is_rgba16(image) and is_rgba16(tile), 17)
+def texel_address(image, x, y):
+    return bits(image, 23, 0) + (y * (bits(image, 41, 32) + 1) + x) * 2
+
+
+def tile_texels(word, image, tile):
+    """The texels of a Load Tile, whose corners are in quarters."""
     left, top = bits(word, 55, 44) // 4, bits(word, 43, 32) // 4
     right, bottom = bits(word, 23, 12) // 4, bits(word, 11, 0) // 4
-    texels = [(bits(image, 23, 0) + (y * (bits(image, 41, 32) + 1) + x) * 2, texture_byte(tile, y - top, x - left))
-              for y in range(top, bottom + 1) for x in range(left, right + 1)]
-    for index, byte in moves(texels, memory, start):
+    return [(texel_address(image, x, y), texture_byte(tile, y - top, x - left)) for y in range(top, bottom + 1) for x in range(left, right + 1)]
+
+
+def block_texels(word, image, tile):
+    """The texels of a Load Block (02, #112), whose s and t are whole texels; ground 17 by their number."""
+    first, row, end, dxt = bits(word, 55, 44), bits(word, 43, 32), bits(word, 23, 12) + 1, bits(word, 11, 0)
+    demand(1 <= end - first <= 2048, 17)
+    turns = [4 if k // 4 * dxt // 2048 % 2 else 0 for k in range(end - first)]
+    return [(texel_address(image, first + k, row), 8 * bits(tile, 40, 32) + 2 * k ^ turn) for k, turn in enumerate(turns)]
+
+
+def load(word, seen, memory, start, texture):
+    image, tile = last(seen, SET_TEXTURE_IMAGE), of_tile(seen, (SET_TILE,), bits(word, 26, 24))
+    texels_of = {LOAD_TILE: tile_texels, LOAD_BLOCK: block_texels}.get(number_of(word))
+    demand(texels_of and is_rgba16(image) and is_rgba16(tile), 17)
+    for index, byte in moves(texels_of(word, image, tile), memory, start):
         texture[byte:byte + 2] = memory[index:index + 2]
 
 

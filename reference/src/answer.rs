@@ -27,6 +27,9 @@ pub enum Ground {
     TooManyRead = 21,
     NotTranslated = 22,
     WrongParameter = 23,
+    NothingStartsThere = 24,
+    LengthsDiffer = 25,
+    NoEntry = 26,
 }
 
 /// A refusal: its ground and its place.

@@ -80,7 +80,7 @@ fn cause_of_need(list: &[u8], place: usize) -> usize {
 }
 
 /// Grounds 1 and 2.
-fn length_test(list: &[u8], limit: usize) -> Result<(), Refusal> {
+pub fn length_test(list: &[u8], limit: usize) -> Result<(), Refusal> {
     let length = list.len();
     if length > limit {
         Err(Refusal::new(Ground::ListTooLong, limit / WORD_BYTES))

@@ -1,15 +1,17 @@
-//! Drawing: Fill Rectangle in FILL mode (01, "Fill"), and by request #106 Load Tile and
-//! texture rectangles in COPY mode. A whole list is judged before a byte is written.
+//! Drawing: Fill Rectangle in FILL mode (01, "Fill"), by request #106 Load Tile and
+//! texture rectangles in COPY mode, and by request #112 Load Block. A whole list is
+//! judged before a byte is written.
 
 use crate::answer::{Ground, Refusal};
 use crate::area::Area;
 use crate::check::check;
 use crate::kinds::{commands, is_draw, kind, Command, Kind};
 use crate::registers::Registers;
-use crate::texture::{CopyRectangle, LoadTile, Move, TEXTURE_BYTES};
+use crate::texture::{CopyRectangle, LoadBlock, LoadTile, Move, TEXTURE_BYTES};
 use crate::words::word_at;
 
 const TEXTURE_RECTANGLE: u8 = 0x24;
+const LOAD_BLOCK: u8 = 0x33;
 const LOAD_TILE: u8 = 0x34;
 
 /// Where the lent memory lies: `start`, `start + 1`, .. No sum of it wraps.
@@ -102,11 +104,15 @@ fn draw_of(registers: &Registers, list: &[u8], command: Command) -> Result<Work,
     copied.map(Work::Copy).ok_or(Ground::NotCopied)
 }
 
-/// A load: ground 17, of "Load TLUT or Load Block in any drawn list" too.
+/// A load: ground 17, of "Load TLUT .. in any drawn list" too.
 fn load_of(registers: &Registers, command: Command) -> Result<Work, Ground> {
-    let is_load_tile = command.number() == LOAD_TILE;
-    let load = is_load_tile.then(|| LoadTile::of(registers, command.word));
-    load.flatten().map(Work::Load).ok_or(Ground::NotCopied)
+    let word = command.word;
+    let load = match command.number() {
+        LOAD_TILE => LoadTile::of(registers, word).map(Work::Load),
+        LOAD_BLOCK => LoadBlock::of(registers, word).map(Work::Block),
+        _ => None,
+    };
+    load.ok_or(Ground::NotCopied)
 }
 
 /// What one command does, with the registers that it does it with.
@@ -114,6 +120,7 @@ fn load_of(registers: &Registers, command: Command) -> Result<Work, Ground> {
 pub enum Work {
     Fill(Fill),
     Load(LoadTile),
+    Block(LoadBlock),
     Copy(CopyRectangle),
 }
 
@@ -138,6 +145,7 @@ impl Work {
         match self {
             Work::Fill(_) => Box::new(std::iter::empty()),
             Work::Load(load) => Box::new(load.moves()),
+            Work::Block(block) => Box::new(block.moves()),
             Work::Copy(copy) => Box::new(copy.moves()),
         }
     }
@@ -160,7 +168,7 @@ impl Work {
     fn perform(&self, memory: &mut [u8], lent: Lent, texture: &mut [u8]) {
         match self {
             Work::Fill(fill) => fill.paint(memory, lent),
-            Work::Load(_) => self.moves().for_each(|Move { address, byte }| {
+            Work::Load(_) | Work::Block(_) => self.moves().for_each(|Move { address, byte }| {
                 texture[byte as usize] = memory[lent.tested(address)];
             }),
             Work::Copy(_) => self.moves().for_each(|Move { address, byte }| {

@@ -13,6 +13,7 @@ pub mod display;
 pub mod draw;
 pub mod encode;
 pub mod fields;
+pub mod index;
 pub mod kinds;
 pub mod marks;
 pub mod packed;

@@ -2,7 +2,8 @@
 //! 63:56 the number, bits 31:0 the place (words written, at 0), bits 55:32 the
 //! third number (cause for check, cycles for repairs, command number for decode,
 //! sync for step, total waiting for streams, commands read for translate, the list for
-//! rest, else 0). Only the words of a command are a plain count.
+//! rest, marks and commands read for a question, else 0). Only the words of a command
+//! are a plain count.
 
 use crate::answer::{Ground, Refusal};
 use crate::kinds::{words_from, Sync};
@@ -10,7 +11,7 @@ use crate::marks::Marks;
 use crate::record::{self, Record};
 use crate::repair::Repaired;
 use crate::stream::{Stream, Told, DAMAGED};
-use crate::{check, decode, differences, display, draw, encode, repair};
+use crate::{check, decode, differences, display, draw, encode, index, repair};
 
 /// An answer in its three parts.
 #[derive(Clone, Copy, Debug, PartialEq, Eq)]
@@ -196,4 +197,28 @@ pub fn rest(first: &[u8], second: &[u8], count: usize) -> u64 {
     let (rest, outcome) = differences::rest(first, second, count);
     let number = outcome.map_or_else(|refusal| refusal.ground as u8, |()| 0);
     packed(number, rest.first_byte, rest.of_second.into())
+}
+
+/// `lanyardrove_index_build`: the place is the entries, also those needed at 14.
+pub fn index_build(list: &[u8], entries: &mut [u32]) -> u64 {
+    match index::build(list, entries) {
+        Ok(count) => accepted(count, 0),
+        Err(refusal) => refused(refusal),
+    }
+}
+
+/// `lanyardrove_index_ask`: the third number is the marks and 16 times the commands read.
+pub fn index_ask(list: &[u8], entries: &[u32], place: u32) -> u64 {
+    match index::ask(list, entries, place) {
+        Ok(asked) => accepted(place as usize, asked.marks.sum() + 16 * asked.read as u32),
+        Err(refusal) => refused(refusal),
+    }
+}
+
+/// `lanyardrove_index_replace`.
+pub fn index_replace(list: &mut [u8], entries: &mut [u32], place: u32, new: &[u8]) -> u64 {
+    match index::replace(list, entries, place, new) {
+        Ok(()) => accepted(place as usize, 0),
+        Err(refusal) => refused(refusal),
+    }
 }

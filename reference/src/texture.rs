@@ -1,5 +1,5 @@
 //! Request #106: Load Tile into texture memory, and texture rectangles in COPY mode,
-//! byte by byte.
+//! byte by byte. Request #112: Load Block.
 
 use crate::area::{covered, Area};
 use crate::registers::{is_16_bit_rgba, size_of, Registers, TextureImage, TileSize};
@@ -48,11 +48,16 @@ impl Tile {
     /// bit 2 turned over in odd rows".
     fn byte_of_texel(self, row: i64, column: i64) -> i64 {
         let byte = 8 * self.tmem + 8 * self.line * row + 2 * column;
-        if row % 2 != 0 {
-            byte ^ 4
-        } else {
-            byte
-        }
+        turned(byte, row % 2 != 0)
+    }
+}
+
+/// A byte number, with "bit 2 turned over" where that is due.
+fn turned(byte: i64, is_due: bool) -> i64 {
+    if is_due {
+        byte ^ 4
+    } else {
+        byte
     }
 }
 
@@ -95,7 +100,7 @@ impl LoadTile {
         });
         texels.flat_map(|(r, row, c, column)| {
             let byte = self.tile.byte_of_texel(r, c);
-            moves_of_texel(self.source(row, column), byte)
+            moves_of_texel(source(self.image, row, column), byte)
         })
     }
 
@@ -107,10 +112,53 @@ impl LoadTile {
     fn columns(&self) -> impl Iterator<Item = (i64, u64)> {
         (0..).zip(covered(self.block.upper_left_s, self.block.lower_right_s))
     }
+}
 
-    /// "Texture image address + (row·width + column)·2."
-    fn source(&self, row: u64, column: u64) -> u64 {
-        self.image.address + (row * self.image.width + column) * 2
+/// "Texture image address + (row·width + column)·2."
+fn source(image: TextureImage, row: u64, column: u64) -> u64 {
+    image.address + (row * image.width + column) * 2
+}
+
+/// The most texels of a Load Block.
+const MOST_TEXELS: u64 = 2_048;
+
+/// One Load Block with the registers that it reads.
+#[derive(Clone, Copy, Debug, PartialEq, Eq)]
+pub struct LoadBlock {
+    /// The address of the first texel.
+    first: u64,
+    texels: u64,
+    dxt: u64,
+    tile: Tile,
+}
+
+impl LoadBlock {
+    /// Nothing, where ground 17 holds, which "refuses one of no texel or over 2,048". "S
+    /// and t are whole texels here."
+    pub fn of(registers: &Registers, word: u64) -> Option<LoadBlock> {
+        let fields = size_of(word);
+        let image = registers.texture_image()?;
+        let texels = (fields.lower_right_s + 1).checked_sub(fields.upper_left_s)?;
+        let block = LoadBlock {
+            first: source(image, fields.upper_left_t, fields.upper_left_s),
+            texels,
+            dxt: fields.lower_right_t,
+            tile: Tile::of(descriptor(registers, tile_of(word))?),
+        };
+        (1..=MOST_TEXELS).contains(&texels).then_some(block)
+    }
+
+    /// From lent memory to texture memory: the texels "are read on" from the first, also
+    /// past the end of its row.
+    pub fn moves(&self) -> impl Iterator<Item = Move> + '_ {
+        (0..self.texels).flat_map(|k| moves_of_texel(self.first + 2 * k, self.byte_of_texel(k)))
+    }
+
+    /// "Texel k goes to byte 8·tmem + 2·k, with bit 2 turned over when
+    /// floor(floor(k/4)·dxt / 2048) is odd."
+    fn byte_of_texel(&self, k: u64) -> i64 {
+        let byte = 8 * self.tile.tmem + 2 * k as i64;
+        turned(byte, k / 4 * self.dxt / 2_048 % 2 == 1)
     }
 }
 

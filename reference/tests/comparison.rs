@@ -14,12 +14,14 @@ use reference::comparison::side::{Reference, Side};
 use reference::decode::suffix;
 use reference::differences::ENTRY;
 use reference::display::{walk, MOST_CALLS};
-use reference::kinds::{base_words, commands, is_draw, is_textured_draw, is_unassigned};
+use reference::kinds::{
+    base_words, commands, is_draw, is_textured_draw, is_unassigned, Command,
+};
 use reference::record::{pack, unpack, Record, NUMBERS};
 use reference::repair::without_syncs;
 use reference::stream::{MOST_TOTAL, ROOM};
 use reference::texture::TEXTURE_BYTES;
-use reference::words::{command_number, word_at};
+use reference::words::{bits, command_number, word_at, write_word};
 
 const SEED: u64 = 7;
 const CASES: u64 = 4_000;
@@ -73,6 +75,12 @@ enum Fault {
     TextureAtRefusal,
     /// A byte too many of texture memory is taken for right.
     TextureLonger,
+    /// A Load Block turns no word.
+    DxtIgnored,
+    /// A Load Block's row is in quarters.
+    BlockQuarters,
+    /// A Load Block of no texel or too many loads nothing.
+    BlockUnjudged,
     /// The work buffer is not cleared.
     WorkKept,
     /// At ground 14 the output is written as far as it goes.
@@ -167,6 +175,24 @@ enum Fault {
     RestOfFirst,
     /// At 14 the rest is that of a success.
     RestAtGround14,
+    /// An entry has the marks after its command.
+    MarksAfter,
+    /// The asked command is not counted as read.
+    AskedUncounted,
+    /// A question starts at the first entry.
+    FirstEntry,
+    /// The search for an entry stops at the first one beyond.
+    SearchStops,
+    /// Of an entry's marks the low four bits count.
+    MarksUnjudged,
+    /// Later entries are not renewed.
+    EntriesKept,
+    /// The entry of the replaced command is renewed too.
+    OwnEntryRenewed,
+    /// The list keeps its command.
+    CommandKept,
+    /// 25 comes before 3 of the new command.
+    LengthFirst,
 }
 
 /// The reference with one fault.
@@ -242,7 +268,8 @@ impl Side for Faulty {
             Fault::TextureLonger => texture.len().min(TEXTURE_BYTES),
             _ => texture.len(),
         };
-        let answer = Reference.draw(list, memory, start, &mut texture[..taken]);
+        let list = with_other_blocks(self.0, list);
+        let answer = Reference.draw(&list, memory, start, &mut texture[..taken]);
         match (self.0, ground(answer)) {
             (Fault::TextureByte, 0) | (Fault::TextureAtRefusal, 18) => flip_last(texture),
             (Fault::MemoryByte, 0) | (Fault::MemoryAtRefusal, 12) => flip_last(memory),
@@ -344,6 +371,69 @@ impl Side for Faulty {
             _ => answer,
         }
     }
+
+    fn index_build(&self, list: &[u8], entries: &mut [u32]) -> u64 {
+        let answer = Reference.index_build(list, entries);
+        if self.0 == Fault::MarksAfter && ground(answer) == 0 {
+            for entry in entries.chunks_exact_mut(2).take(answer as usize) {
+                let number = command_number(word_at(list, entry[0] as usize));
+                entry[1] = Reference.step(entry[1], number.into()) as u32;
+            }
+        }
+        answer
+    }
+
+    fn index_ask(&self, list: &[u8], entries: &[u32], place: u32) -> u64 {
+        let entries = with_other_entries(self.0, entries, place);
+        let answer = Reference.index_ask(list, &entries, place);
+        match (self.0, ground(answer)) {
+            (Fault::AskedUncounted, 0) => answer - (16 << 32),
+            _ => answer,
+        }
+    }
+
+    fn index_replace(&self, list: &mut [u8], entries: &mut [u32], place: u32, new: &[u8]) -> u64 {
+        faulty_replace(self.0, list, entries, place, new)
+    }
+}
+
+/// Entries as a question with one fault sees them.
+fn with_other_entries(fault: Fault, entries: &[u32], place: u32) -> Vec<u32> {
+    let mut seen: Vec<[u32; 2]> = entries.as_chunks().0.to_vec();
+    match fault {
+        Fault::FirstEntry => seen.truncate(1),
+        Fault::SearchStops => {
+            let beyond = seen.iter().position(|entry| entry[0] > place);
+            seen.truncate(beyond.unwrap_or(seen.len()));
+        }
+        Fault::MarksUnjudged => seen.iter_mut().for_each(|entry| entry[1] &= 15),
+        _ => {}
+    }
+    seen.as_flattened().to_vec()
+}
+
+/// A command replaced with one fault.
+fn faulty_replace(
+    fault: Fault,
+    list: &mut [u8],
+    entries: &mut [u32],
+    place: u32,
+    new: &[u8],
+) -> u64 {
+    let (list_before, entries_before) = (list.to_vec(), entries.to_vec());
+    let answer = Reference.index_replace(list, entries, place, new);
+    let is_own = |entry: &&mut [u32]| entry[0] == place;
+    match (fault, ground(answer)) {
+        (Fault::EntriesKept, 0) => entries.copy_from_slice(&entries_before),
+        (Fault::OwnEntryRenewed, 0) => {
+            let own = entries.chunks_exact_mut(2).find(is_own);
+            own.into_iter().for_each(|entry| entry[1] ^= 1);
+        }
+        (Fault::CommandKept, 0) => list.copy_from_slice(&list_before),
+        (Fault::LengthFirst, 3) if new.len() < 8 => return 25 << 56 | u64::from(place),
+        _ => {}
+    }
+    answer
 }
 
 /// Two lists compared with one fault.
@@ -388,6 +478,23 @@ fn told_added(list: &[u8], answer: u64) -> u64 {
     let cycles = (answer >> 32) as u32 & 0xFF_FFFF;
     let added = cycles.saturating_sub(sync_cycles(list));
     with_third(answer, added as usize)
+}
+
+/// A list as a side with a fault in its Load Blocks draws it.
+fn with_other_blocks(fault: Fault, list: &[u8]) -> Vec<u8> {
+    let mut other = list.to_vec();
+    let is_block = |command: &Command| command.number() == 0x33;
+    for Command { place, word } in commands(list).filter(is_block) {
+        let texels = bits(word, 23, 12) as i64 + 1 - bits(word, 55, 44) as i64;
+        let word = match fault {
+            Fault::DxtIgnored => word & !0xFFF,
+            Fault::BlockQuarters => word & !(0xFFF << 32) | bits(word, 43, 34) << 32,
+            Fault::BlockUnjudged if !(1..=2_048).contains(&texels) => word ^ 1 << 56,
+            _ => word,
+        };
+        write_word(&mut other, place, word);
+    }
+    other
 }
 
 /// A display list translated with one fault.
@@ -522,6 +629,9 @@ fn every_fault_is_found_in_its_function() {
         (Fault::TextureByte, Function::Draw),
         (Fault::TextureAtRefusal, Function::Draw),
         (Fault::TextureLonger, Function::Draw),
+        (Fault::DxtIgnored, Function::Draw),
+        (Fault::BlockQuarters, Function::Draw),
+        (Fault::BlockUnjudged, Function::Draw),
         (Fault::WorkKept, Function::Repair),
         (Fault::OutputAtGround14, Function::Repair),
         (Fault::OutputBeyond, Function::Repair),
@@ -564,6 +674,15 @@ fn every_fault_is_found_in_its_function() {
         (Fault::SecondFirst, Function::Compare),
         (Fault::RestOfFirst, Function::Rest),
         (Fault::RestAtGround14, Function::Rest),
+        (Fault::MarksAfter, Function::IndexBuild),
+        (Fault::AskedUncounted, Function::IndexAsk),
+        (Fault::FirstEntry, Function::IndexAsk),
+        (Fault::SearchStops, Function::IndexAsk),
+        (Fault::MarksUnjudged, Function::IndexAsk),
+        (Fault::EntriesKept, Function::IndexReplace),
+        (Fault::OwnEntryRenewed, Function::IndexReplace),
+        (Fault::CommandKept, Function::IndexReplace),
+        (Fault::LengthFirst, Function::IndexReplace),
     ];
     for (fault, function) in faults {
         assert_eq!(found(fault).call.function, function, "{fault:?}");

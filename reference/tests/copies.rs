@@ -17,6 +17,8 @@ const TEXTURE: u64 = 0x3D10_0003_0000_0040;
 const TILE: u64 = 0x3510_0200_0000_0000;
 /// Columns 0 to 3 and rows 0 to 1.
 const LOAD: u64 = 0x3400_0000_0000_C004;
+/// Eight texels from the first on, a new line after each word.
+const BLOCK: u64 = 0x3300_0000_0000_7800;
 /// Pixels (1,1) to (2,2).
 const CORNERS: u64 = 0x2400_8008_0000_4004;
 /// From texel (0,0), a texel each pixel.
@@ -231,22 +233,96 @@ fn texture_memory_of_another_length() {
 
 #[test]
 fn loads_that_are_not_drawn() {
-    for number in [0x30, 0x33] {
-        refuses(&[command(number)], lent(), 17, 0);
-        let list = copying(&[TILE, command(number)]);
-        refuses(&list, lent(), 17, 5);
-        refuses(&after_setup(&[C, command(number)]), lent(), 17, 4);
-    }
-    refuses(&[TILE, LOAD], lent(), 17, 1);
-    refuses(&[TEXTURE, LOAD], lent(), 17, 1);
-    refuses(&[TEXTURE, TILE | 1 << 24, LOAD], lent(), 17, 2);
-    for other in [1 << 51, 3 << 51, 1 << 53, 4 << 53] {
-        refuses(&[TEXTURE ^ other, TILE, LOAD], lent(), 17, 2);
-        refuses(&[TEXTURE, TILE ^ other, LOAD], lent(), 17, 2);
+    let load_tlut = command(0x30);
+    refuses(&[load_tlut], lent(), 17, 0);
+    refuses(&copying(&[TILE, load_tlut]), lent(), 17, 5);
+    refuses(&after_setup(&[C, load_tlut]), lent(), 17, 4);
+    for load in [LOAD, BLOCK] {
+        refuses(&[TILE, load], lent(), 17, 1);
+        refuses(&[TEXTURE, load], lent(), 17, 1);
+        refuses(&[TEXTURE, TILE | 1 << 24, load], lent(), 17, 2);
+        for other in [1 << 51, 3 << 51, 1 << 53, 4 << 53] {
+            refuses(&[TEXTURE ^ other, TILE, load], lent(), 17, 2);
+            refuses(&[TEXTURE, TILE ^ other, load], lent(), 17, 2);
+        }
     }
     leaves(&[TEXTURE, TILE ^ 3 << 51, TILE, LOAD & !0xFFFF], {
         lent().with_texture(0, &[64, 65])
     });
+}
+
+/// Request #112: the second word's halves change places, and the lines can be copied.
+#[test]
+fn a_block_and_a_copy() {
+    let list = copying(&[TILE, BLOCK, SYNC_LOAD, CORNERS, STEPS]);
+    let expected = lent()
+        .with_texture(0, &[64, 65, 66, 67, 68, 69, 70, 71])
+        .with_texture(8, &[76, 77, 78, 79, 72, 73, 74, 75])
+        .with(18, &[64, 65, 66, 67])
+        .with(34, &[72, 73, 74, 75]);
+    leaves(&list, expected);
+}
+
+/// From texel 3 of row 2, ten texels, which run past the end of their row of four.
+#[test]
+fn a_block_inside_the_texture_image_is_read_on() {
+    let block = 0x3300_3002_0000_C000;
+    let texels: Vec<u8> = (86..106).collect();
+    leaves(
+        &copying(&[TILE + TMEM, block]),
+        lent().with_texture(8, &texels),
+    );
+}
+
+/// Dxt 1,024: a new line after two words. 1,023 is a word late, and stays behind.
+#[test]
+fn the_line_of_a_texel_in_a_block() {
+    let turned_words = |dxt: u64| {
+        let list = copying(&[TILE, 0x3300_0000_0003_F000 | dxt]);
+        let mut lent = Lent::new(256, TEXTURE_BYTES);
+        assert_eq!(lent.draw(&list), (0, list.len()));
+        let is_turned = |word: &usize| lent.texture[8 * word] != 64 + 8 * *word as u8;
+        (0..16).filter(is_turned).collect::<Vec<usize>>()
+    };
+    assert_eq!(turned_words(0), []);
+    assert_eq!(turned_words(128), []);
+    assert_eq!(turned_words(1_024), [2, 3, 6, 7, 10, 11, 14, 15]);
+    assert_eq!(turned_words(1_023), [3, 4, 7, 8, 11, 12, 15]);
+    assert_eq!(turned_words(2_048), [1, 3, 5, 7, 9, 11, 13, 15]);
+    assert_eq!(turned_words(4_095), (1..16).collect::<Vec<usize>>());
+}
+
+/// A block is refused by its texels before memory and texture memory are looked at.
+#[test]
+fn a_block_of_no_texel_or_too_many() {
+    let block = |first: u64, last: u64| copying(&[TILE, command(0x33) | first << 44 | last << 12]);
+    let no_memory = || Lent::new(0, TEXTURE_BYTES);
+    refuses(&block(1, 0), no_memory(), 17, 5);
+    refuses(&block(4_095, 0), no_memory(), 17, 5);
+    refuses(&block(0, 2_048), no_memory(), 17, 5);
+    refuses(&block(2_047, 4_095), no_memory(), 17, 5);
+    refuses(&block(0, 2_047), no_memory(), 12, 5);
+    refuses(&block(0, 2_047), Lent::new(4_159, TEXTURE_BYTES), 12, 5);
+    let mut whole = Lent::new(4_160, TEXTURE_BYTES);
+    assert_eq!(whole.draw(&block(0, 2_047)), (0, 6));
+    assert!(whole.texture == whole.memory[64..]);
+    let mut late = Lent::new(16_000, TEXTURE_BYTES);
+    assert_eq!(late.draw(&block(2_048, 4_095)), (0, 6));
+    let beyond = copying(&[TILE + TMEM, command(0x33) | 2_047 << 12]);
+    refuses(&beyond, Lent::new(4_160, TEXTURE_BYTES), 18, 5);
+}
+
+/// The tile's size takes the fields as they are: texel 4 is column 1 for a copy.
+#[test]
+fn a_block_sets_the_size() {
+    let block = 0x3300_4008_0000_4000;
+    let at_its_start = STEPS + S_TEXEL + 2 * T_TEXEL;
+    let list = copying(&[TILE, block, SYNC_LOAD, CORNERS, at_its_start]);
+    let mut lent = Lent::new(256, TEXTURE_BYTES);
+    assert_eq!(lent.draw(&list), (0, list.len()));
+    assert_eq!(lent.memory[18..20], [136, 137]);
+    let uneven = copying(&[TILE, BLOCK | 1 << 44, SYNC_LOAD, CORNERS, STEPS]);
+    refuses(&uneven, Lent::new(256, TEXTURE_BYTES), 17, 7);
 }
 
 /// Each need broken alone, also where no pixel is kept.
@@ -343,6 +419,7 @@ fn the_comparison_reaches_what_matters() {
         negative_columns,
         last_words,
         read_after_drawn,
+        blocks_turned,
     } = seen;
     assert!(texels_shared > 100, "{texels_shared}");
     assert!(pixels_shared > 100, "{pixels_shared}");
@@ -350,6 +427,7 @@ fn the_comparison_reaches_what_matters() {
     assert!(negative_columns > 50, "{negative_columns}");
     assert!(last_words > 20, "{last_words}");
     assert!(read_after_drawn > 100, "{read_after_drawn}");
+    assert!(blocks_turned > 100, "{blocks_turned}");
 }
 
 /// How many draws and loads inside texture memory have a property.
@@ -361,6 +439,7 @@ struct Seen {
     negative_columns: u32,
     last_words: u32,
     read_after_drawn: u32,
+    blocks_turned: u32,
 }
 
 impl Seen {
@@ -372,7 +451,10 @@ impl Seen {
             let addresses: Vec<u64> = work.addresses().collect();
             self.last_words += u32::from(bytes.iter().any(|byte| *byte >= 4_088));
             match work {
-                Work::Load(_) => {
+                Work::Load(_) | Work::Block(_) => {
+                    let rises = bytes.windows(2).all(|pair| pair[0] < pair[1]);
+                    let is_block = matches!(work, Work::Block(_));
+                    self.blocks_turned += u32::from(is_block && !rises);
                     self.texels_shared += u32::from(has_doubles(&bytes));
                     let is_drawn = |address| drawn.contains(address);
                     self.read_after_drawn += u32::from(addresses.iter().any(is_drawn));
@@ -384,7 +466,7 @@ impl Seen {
                 }
                 _ => {}
             }
-            if !matches!(work, Work::Load(_)) {
+            if !matches!(work, Work::Load(_) | Work::Block(_)) {
                 drawn.extend(addresses);
             }
         }

@@ -32,8 +32,11 @@ use Rattle.rdp_view.proofs.ViewLaws.{view-bounds}
 use Rattle.rdp_stream.proofs.StreamLaws.{Near, fed-near, closed-near, fed-told, closed-told}
 use Rattle.rdp_stream.specs.declared.Fed.{Fed}
 use Rattle.rdp_stream.specs.Records.{fedOf, closedOf}
-use Rattle.lanyardrove.specs.Replies.{Reply, reply, packed, unpacked, plain, stepReply, checkReply, repairReply, drawReply, viewReply, decodedReply, decodeReply, madeReply, encodeReply, toldReply, Occurs, ofStep, ofCheck, ofRepair, ofAfresh, ofDraw, ofView, ofDecode, ofEncode, ofFeed, ofClose, lentPart, translateReply, ofTranslate, askReply, ofBuild, ofAsk, ofReplace}
+use Rattle.lanyardrove.specs.Replies.{Reply, reply, packed, unpacked, plain, stepReply, checkReply, repairReply, drawReply, viewReply, decodedReply, decodeReply, madeReply, encodeReply, toldReply, Occurs, ofStep, ofCheck, ofRepair, ofAfresh, ofDraw, ofView, ofDecode, ofEncode, ofFeed, ofClose, lentPart, translateReply, ofTranslate, askReply, ofBuild, ofAsk, ofReplace, compareReply, ofCompare, restReply, ofRest}
 use Rattle.f3dex2.proofs.BoundLaws.{answer-bounds}
+use Rattle.rdp_compare.specs.Part.{restStart}
+use Rattle.rdp_compare.proofs.BoundLaws.{compare-bounds, rest-number}
+use Rattle.rdp_command.proofs.Signed.{bool-le}
 use Rattle.lanyardrove.proofs.PackLaws.{Small, unpacked-packed, packed-fits}
 
 step-small : (hazards number : ℕ) → Small (stepReply hazards number)
@@ -124,6 +127,20 @@ translate-small memory start room h =
     let b = answer-bounds (lentPart memory) start 0xFFFFFFFF room (omega arith) (omega (arith, lent-short memory)) (omega arith) in
     record { number = omega (arith, b .number); third = omega (arith, b .read); place = omega (arith, b .place) }
 
+compare-small : (first second : List ℕ) (room : ℕ) → Small (compareReply first second room)
+compare-small first second room =
+    let b = compare-bounds first second room in
+    record { number = omega (arith, b .0); third = omega arith; place = omega (arith, b .1) }
+
+rest-small : (first second : List ℕ) (room : ℕ) → Small (restReply first second room)
+rest-small first second room =
+    let b = compare-bounds first second room in
+    record {
+      number = omega (arith, b .0, rest-number first second room);
+      third = omega (arith, bool-le (restStart first second room .second));
+      place = omega arith;
+    }
+
 -- every answer that occurs fits its bits
 pub small : {r : Reply} → Occurs r → Small r
 small (ofStep hazards number) = step-small hazards number
@@ -141,6 +158,8 @@ small (ofEncode number fields suffix out) = encode-small number fields suffix ou
 small (ofFeed r long near portion) = told-small (fedOf r portion) (fed-near r long near portion) (fed-told r long near portion)
 small (ofClose r long near) = told-small (closedOf r) (closed-near r long near) (closed-told r long near)
 small (ofTranslate memory start room h) = translate-small memory start room h
+small (ofCompare first second room) = compare-small first second room
+small (ofRest first second room) = rest-small first second room
 
 -- and so the parts that are read back are the answer's, and the packed number is one of 64 bits
 pub replies-kept : {r : Reply} → Occurs r → (unpacked (packed r) ≡ r) × (packed r < 2 ^ 64)

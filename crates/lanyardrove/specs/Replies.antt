@@ -5,6 +5,7 @@ use mathlib.Core.List.{List}
 use mathlib.Core.Path.{_≡_}
 use lib.Dec.{eqb}
 use lib.ListN.{length, take}
+use mir.Val.{boolByte}
 use Rattle.rdp_words.specs.Lengths.{firstNumber}
 use Rattle.rdp_command.specs.Decode.{decodeOf}
 use Rattle.rdp_encode.specs.Encode.{encodeAnswer, encodeOut}
@@ -26,6 +27,8 @@ use Rattle.rdp_stream.specs.declared.Stream.{Stream}
 use Rattle.rdp_stream.specs.declared.Fed.{Fed}
 use Rattle.lanyardrove.specs.declared.Packed.{Packed}
 use Rattle.f3dex2.specs.Translate.{translateAnswer, translateOut}
+use Rattle.rdp_compare.specs.Entries.{compareAnswer}
+use Rattle.rdp_compare.specs.Part.{restStart}
 use Rattle.f3dex2.specs.declared.Translated.{Translated}
 
 -- the number of the refusal, 0 for acceptance; a third number; and the place
@@ -170,6 +173,18 @@ translateReply memory start room = translatedReply (translateAnswer (lentPart me
 abbrev pub translateBytes : List ℕ → ℕ → List ℕ → List ℕ
 translateBytes memory start out = translateOut (lentPart memory) start out
 
+-- two lists compared (#110): no third number
+abbrev pub compareReply : List ℕ → List ℕ → ℕ → Reply
+compareReply first second room = plain (compareAnswer first second room)
+
+-- the most that a place can be; where it stands for a byte of a list, it stands for that and more
+abbrev pub mostPlace : ℕ
+mostPlace = 0xFFFFFFFF
+
+-- where the rest of the longer list begins: the comparison's number; the third number is the list, 0 the first and 1 the second; the place is the byte
+abbrev pub restReply : List ℕ → List ℕ → ℕ → Reply
+restReply first second room = let r = restStart first second room in reply (r .number) (boolByte (r .second)) (min (r .start) mostPlace)
+
 -- the answers that there are; of a record, its held bytes are 176 and its place is a 32-bit number, as is a place that is asked
 pub data Occurs : Reply → Type 0 where
   ofStep : (hazards number : ℕ) → Occurs (stepReply hazards number)
@@ -186,3 +201,5 @@ pub data Occurs : Reply → Type 0 where
   ofFeed : (r : Stream) → length (r .held) ≡ 176 → r .place < 2 ^ 32 → (portion : List ℕ) → Occurs (feedReply r portion)
   ofClose : (r : Stream) → length (r .held) ≡ 176 → r .place < 2 ^ 32 → Occurs (closeReply r)
   ofTranslate : (memory : List ℕ) (start room : ℕ) → start < 2 ^ 32 → Occurs (translateReply memory start room)
+  ofCompare : (first second : List ℕ) (room : ℕ) → Occurs (compareReply first second room)
+  ofRest : (first second : List ℕ) (room : ℕ) → Occurs (restReply first second room)

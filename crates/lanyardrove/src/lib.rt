@@ -4,12 +4,12 @@ ghost use mathlib.Core.Path.{_≡_};
 ghost use Prim.Native.Nat.{_+_, _<_, _^_, min};
 ghost use lib.Dec.{eqb};
 ghost use lib.ListN.{length};
-ghost use Rattle.lanyardrove.specs.Replies.{mostLent, translateReply, translateBytes};
+ghost use Rattle.lanyardrove.specs.Replies.{mostLent, translateReply, translateBytes, mostPlace, compareReply, restReply, reply, mostThird, packed, stepReply, checkReply, RepairReplies, AfreshReplies, buildReply, askReply, ReplaceReplies, drawReply, viewReply, decodeReply, decodeFields, encodeReply, encodeBytes, fedPacked, closedPacked};
 ghost use Rattle.rdp_words.specs.Lengths.{commandWords};
 ghost use Rattle.rdp_index.specs.Index.{buildOut};
 ghost use Rattle.rdp_draw.specs.Draw.{drawn, memories};
 ghost use Rattle.rdp_view.specs.View.{imageAt, viewOut};
-ghost use Rattle.lanyardrove.specs.Replies.{reply, mostThird, packed, stepReply, checkReply, RepairReplies, AfreshReplies, drawReply, viewReply, decodeReply, decodeFields, encodeReply, encodeBytes, fedPacked, closedPacked, buildReply, askReply, ReplaceReplies};
+ghost use Rattle.rdp_compare.specs.Entries.{entriesAfter};
 use rdp_command::Decoded;
 use rdp_stream::Stream;
 
@@ -54,9 +54,9 @@ fn third_of_record(number: u32, waited: u32) -> u32
 // The version of this library: major, minor and patch number, eight bits each. The header has the same number.
 #[no_mangle]
 pub extern "C" fn lanyardrove_version() -> u32
-    ensures { λ r. ⌜ r ≡ 0x060100 ⌝ }
+    ensures { λ r. ⌜ r ≡ 0x070100 ⌝ }
 {
-    0x060100
+    0x070100
 }
 
 // The words of the command that begins with a word: a plain count.
@@ -300,4 +300,37 @@ pub extern "C" fn lanyardrove_translate(memory: &[u8], start: u32, out: &mut [u8
     let read = translated.read as u32;
     let offset = translated.place as u32;
     pack(translated.number, read, offset)
+}
+
+// Compares two lists, command by command: the first of refusals 1, 2 and 3 of the first list, then of the second, then 14 at the numbers needed, or 0 and the
+// numbers written, four for each pair of commands that differ in number or a field.
+#[no_mangle]
+pub extern "C" fn lanyardrove_compare(first: &[u8], second: &[u8], entries: &mut [u32]) -> u64
+    ensures reply { λ r. ⌜ r ≡ packed (compareReply (now (first .entry)) (now (second .entry)) (length (now (entries .entry)))) ⌝ }
+    ensures entries { λ _. ⌜ now (entries .exit) ≡ entriesAfter (now (first .entry)) (now (second .entry)) (now (entries .entry)) ⌝ }
+{
+    let compared = rdp_compare::differences(first, second, entries);
+    pack(compared.number, 0, compared.place)
+}
+
+// A byte of a list as a place: at most 4,294,967,295, which stands for that and more.
+fn place_of(byte: usize) -> u32
+    ensures { λ r. ⌜ r ≡ min byte mostPlace ⌝ }
+{
+    if byte < 0xFFFF_FFFF {
+        return byte as u32;
+    }
+    0xFFFF_FFFF
+}
+
+// Where the rest begins of the list that has more commands, where so many numbers are lent to a comparison: the comparison's number, the list (0 or 1) as the
+// third number, and the byte.
+#[no_mangle]
+pub extern "C" fn lanyardrove_rest(first: &[u8], second: &[u8], count: usize) -> u64
+    ensures { λ r. ⌜ r ≡ packed (restReply (now (first .entry)) (now (second .entry)) count) ⌝ }
+{
+    let rest = rdp_compare::rest_start(first, second, count);
+    let list = rest.second as u32;
+    let byte = place_of(rest.start);
+    pack(rest.number, list, byte)
 }

@@ -23,7 +23,7 @@ use Rattle.rdp_check.specs.Check.{outcomeOf}
 use Rattle.rdp_check.specs.declared.Registers.{Registers}
 use Rattle.rdp_check.proofs.OrderLaws.{then-accepted}
 use Rattle.rdp_check.proofs.FirstLaws.{check-first}
-use Rattle.rdp_draw.specs.Draw.{Act, nothing, otherDraw, otherLoad, filling, copying, loading, Placed, actOf, actOfDecoded, withAct, actsFrom, actsOf, actRefusals, actGrounds, textureGround, drawAnswer, Memories, acted, actedAll, drawn}
+use Rattle.rdp_draw.specs.Draw.{Act, nothing, otherDraw, otherLoad, filling, copying, loading, blocking, Placed, actOf, actOfDecoded, withAct, actsFrom, actsOf, actRefusals, actGrounds, textureGround, drawAnswer, Memories, acted, actedAll, drawn}
 
 -- ---- acts without their places
 
@@ -39,6 +39,7 @@ withAlone otherLoad acts = otherLoad ∷ acts
 withAlone (filling f) acts = filling f ∷ acts
 withAlone (copying c) acts = copying c ∷ acts
 withAlone (loading l) acts = loading l ∷ acts
+withAlone (blocking l) acts = blocking l ∷ acts
 
 abbrev pub actsAmong : Registers → List (List ℕ) → List Act
 actsAmong r [] = []
@@ -51,6 +52,7 @@ with-alone at otherLoad acts = refl
 with-alone at (filling f) acts = refl
 with-alone at (copying c) acts = refl
 with-alone at (loading l) acts = refl
+with-alone at (blocking l) acts = refl
 
 among-from : (r : Registers) (at : ℕ) (cs : List (List ℕ)) → actsAlone (actsFrom r at cs) ≡ actsAmong r cs
 unfolding actsFrom

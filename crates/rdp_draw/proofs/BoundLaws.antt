@@ -20,7 +20,7 @@ use Rattle.rdp_check.proofs.OrderLaws.{allGive, among-gives, refusedAt, then-re
 use Rattle.rdp_check.proofs.FirstLaws.{check-first}
 use Rattle.rdp_check.proofs.JoinLaws.{words-inside}
 use Rattle.rdp_check.proofs.BoundLaws.{checkNumbers, check-holds, place-most}
-use Rattle.rdp_draw.specs.Draw.{Act, nothing, otherDraw, otherLoad, filling, copying, loading, actOfDecoded, Placed, withAct, actsFrom, actsOf, actRefusals, actGrounds, textureGround, drawAnswer}
+use Rattle.rdp_draw.specs.Draw.{Act, nothing, otherDraw, otherLoad, filling, copying, loading, blocking, actOfDecoded, Placed, withAct, actsFrom, actsOf, actRefusals, actGrounds, textureGround, drawAnswer}
 use Rattle.rdp_draw.specs.Seen.{firstRefusal}
 use Rattle.rdp_draw.specs.Refusals.{Holds, atCheck, atTexture, atAct}
 use Rattle.rdp_draw.proofs.DrawLaws.{first-next}
@@ -62,6 +62,7 @@ within-act words at otherLoad ds h w = (h, w)
 within-act words at (filling f) ds h w = (h, w)
 within-act words at (copying c) ds h w = (h, w)
 within-act words at (loading l) ds h w = (h, w)
+within-act words at (blocking l) ds h w = (h, w)
 
 acts-within : (words : ℕ) (r : Registers) (at : ℕ) (cs : List (List ℕ)) → at + wordsIn cs ≤ words → Within words (actsFrom r at cs)
 unfolding actsFrom

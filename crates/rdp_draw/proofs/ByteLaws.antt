@@ -1,6 +1,6 @@
 -- Each byte of memory and of texture memory after drawing: that of the last act that writes it, else what it was.
 --     memory-free, memory-filled, memory-copied     a byte of memory
---     texture-free, texture-loaded                  a byte of texture memory
+--     texture-free, texture-loaded, texture-blocked a byte of texture memory
 --     last-act, and last-move of rdp_texels         where a byte is written, there is a last act that does, and a last texel of it
 -- Assumes nothing.
 use mathlib.Core.Bool.{Bool, true, false, cond, not, false≢true, or-false}
@@ -16,13 +16,14 @@ use Rattle.rdp_command.specs.declared.LoadFields.{LoadFields}
 use Rattle.rdp_words.proofs.Tests.{by-test, true-of, false-of, neither}
 use Rattle.rdp_check.proofs.OrderLaws.{first-none, refused-none}
 use Rattle.rdp_pixels.proofs.OverlayLaws.{length-overlay, getD-overlay}
-use Rattle.rdp_texels.specs.Texels.{Move, some, textureByte, outsideMemory, outsideTexture}
+use Rattle.rdp_texels.specs.Texels.{Move, some, textureByte, outsideMemory, outsideTexture, loaded}
 use Rattle.rdp_texels.specs.Load.{loadMoves}
 use Rattle.rdp_texels.specs.Copy.{copyMoves}
 use Rattle.rdp_texels.specs.Written.{standsAt, goesTo, LastMove}
 use Rattle.rdp_texels.proofs.ExactLaws.{none-split, length-loaded, length-copied, loaded-free, loaded-last, copied-free, copied-last, texture-inside}
+use Rattle.rdp_block.specs.Block.{blockMoves}
 use Rattle.rdp_fill.specs.Fill.{colorByte, covers}
-use Rattle.rdp_draw.specs.Draw.{Act, nothing, otherDraw, otherLoad, filling, copying, loading, Placed, actsOf, isOutside, isBeyond, actRefusals, drawAnswer, Memories, acted, actedAll, drawn}
+use Rattle.rdp_draw.specs.Draw.{Act, nothing, otherDraw, otherLoad, filling, copying, loading, blocking, Placed, actsOf, isOutside, isBeyond, actRefusals, drawAnswer, Memories, acted, actedAll, drawn}
 use Rattle.rdp_draw.specs.Seen.{actRefusal, firstRefusal}
 use Rattle.rdp_draw.specs.Written.{actWrites, actLoads, someAct, LastAct}
 use Rattle.rdp_draw.proofs.DrawLaws.{accepted-all, drawn-kept, drawn-acted, act-numbered, first-next}
@@ -66,6 +67,7 @@ module _ (start : ℕ) where
   acted-long (filling f) m = length-overlay (covers f) (colorByte (f .color)) start (m .memory)
   acted-long (copying c) m = length-copied start (m .texture) (copyMoves c) (m .memory)
   acted-long (loading l) m = refl
+  acted-long (blocking l) m = refl
 
   all-long : (acts : List Placed) (m : Memories) → length (actedAll start acts m .memory) ≡ length (m .memory)
   unfolding actedAll
@@ -79,6 +81,7 @@ module _ (start : ℕ) where
   acted-size (filling f) m = refl
   acted-size (copying c) m = refl
   acted-size (loading l) m = length-loaded start (m .memory) (loadMoves l) (m .texture)
+  acted-size (blocking l) m = length-loaded start (m .memory) (blockMoves l) (m .texture)
 
   all-size : (acts : List Placed) (m : Memories) → length (actedAll start acts m .texture) ≡ length (m .texture)
   unfolding actedAll
@@ -100,6 +103,7 @@ module _ (start : ℕ) where
   acted-free (copying x) m i h c e =
       copied-free start (m .texture) (copyMoves x) (m .memory) (inside-memory start (length (m .memory)) (copying x) c) i e
   acted-free (loading l) m i h c e = refl
+  acted-free (blocking l) m i h c e = refl
 
   all-free :
       (words : ℕ) (acts : List Placed) (m : Memories) (i : ℕ) → i < length (m .memory) → Clear start words (length (m .memory)) acts →
@@ -134,6 +138,7 @@ module _ (start : ℕ) where
   loaded-none (filling f) m b e = refl
   loaded-none (copying c) m b e = refl
   loaded-none (loading l) m b e = loaded-free start (m .memory) (loadMoves l) (m .texture) b e
+  loaded-none (blocking l) m b e = loaded-free start (m .memory) (blockMoves l) (m .texture) b e
 
   all-unloaded : (acts : List Placed) (m : Memories) (b : ℕ) → someAct (actLoads b) acts ≡ false →
       getD (actedAll start acts m .texture) b 0 ≡ getD (m .texture) b 0
@@ -231,19 +236,34 @@ module _ (list : List ℕ) (start : ℕ) (m : Memories) where
       pub texture-free : T (not (someAct (actLoads b) (actsOf list))) → getD (drawn list start m .texture) b 0 ≡ getD (m .texture) b 0
       texture-free t = ap (λ (x : Memories). getD (x .texture) b 0) all ∙ all-unloaded start (actsOf list) m b (false-of _ t)
 
-      -- the byte of the last texel that goes there, out of memory as drawn before
+      -- the byte of the last texel that goes there, out of memory as drawn before, where an act loads some moves
+      by-load :
+          (x : Act) (ms : List Move) → ((z : Memories) → acted start x z .texture ≡ loaded start (z .memory) ms (z .texture)) → isBeyond x ≡ some outsideTexture ms →
+          (l : LastAct (actLoads b) list x) (t : Move) → LastMove (goesTo b) ms t →
+          getD (drawn list start m .texture) b 0 ≡
+          cond (eqb b (textureByte t)) (getD (before l .memory) (t .address - start) 0) (getD (before l .memory) (t .address - start + 1) 0)
+      unfolding actedAll
+      by-load x ms does tests l t last =
+          let p : Placed = record { place = l .place; act = x } in
+          let parted : Clear start (length list / 8) (length (m .memory)) (l .before ++ p ∷ l .after) = rw (l .split) at clear in
+          let here = clear-split start (length list / 8) (length (m .memory)) (l .before) p (l .after) parted .0 in
+          let beyond = none-split outsideTexture (last .before) t (last .after) (last .split) (sym tests ∙ inside-texture start (length (m .memory)) x here) in
+          let size : length (before l .texture) ≡ 4096 = all-size start (l .before) m ∙ accepted-all list start m accepted .0 in
+          ap (λ (z : Memories). getD (z .texture) b 0) (all ∙ ap (λ (acts : List Placed). actedAll start acts m) (l .split)) ∙
+          ap (λ (z : Memories). getD (z .texture) b 0) (acted-join start (l .before) (p ∷ l .after) m) ∙
+          all-unloaded start (l .after) (acted start x (before l)) b (false-of _ (l .staying)) ∙
+          ap (λ (z : List ℕ). getD z b 0) (does (before l)) ∙
+          loaded-last start (before l .memory) ms t (before l .texture) b last (rw size (texture-inside t (beyond .0)))
+
+      -- of a Load Tile, and of a Load Block
       pub texture-loaded :
           (x : LoadFields) (l : LastAct (actLoads b) list (loading x)) (t : Move) → LastMove (goesTo b) (loadMoves x) t →
           getD (drawn list start m .texture) b 0 ≡
           cond (eqb b (textureByte t)) (getD (before l .memory) (t .address - start) 0) (getD (before l .memory) (t .address - start + 1) 0)
-      unfolding actedAll
-      texture-loaded x l t last =
-          let p : Placed = record { place = l .place; act = loading x } in
-          let parted : Clear start (length list / 8) (length (m .memory)) (l .before ++ p ∷ l .after) = rw (l .split) at clear in
-          let here = clear-split start (length list / 8) (length (m .memory)) (l .before) p (l .after) parted .0 in
-          let beyond = none-split outsideTexture (last .before) t (last .after) (last .split) (inside-texture start (length (m .memory)) (loading x) here) in
-          let size : length (before l .texture) ≡ 4096 = all-size start (l .before) m ∙ accepted-all list start m accepted .0 in
-          ap (λ (z : Memories). getD (z .texture) b 0) (all ∙ ap (λ (acts : List Placed). actedAll start acts m) (l .split)) ∙
-          ap (λ (z : Memories). getD (z .texture) b 0) (acted-join start (l .before) (p ∷ l .after) m) ∙
-          all-unloaded start (l .after) (acted start (loading x) (before l)) b (false-of _ (l .staying)) ∙
-          loaded-last start (before l .memory) (loadMoves x) t (before l .texture) b last (rw size (texture-inside t (beyond .0)))
+      texture-loaded x = by-load (loading x) (loadMoves x) (λ _. refl) refl
+
+      pub texture-blocked :
+          (x : LoadFields) (l : LastAct (actLoads b) list (blocking x)) (t : Move) → LastMove (goesTo b) (blockMoves x) t →
+          getD (drawn list start m .texture) b 0 ≡
+          cond (eqb b (textureByte t)) (getD (before l .memory) (t .address - start) 0) (getD (before l .memory) (t .address - start + 1) 0)
+      texture-blocked x = by-load (blocking x) (blockMoves x) (λ _. refl) refl

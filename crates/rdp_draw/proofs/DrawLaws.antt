@@ -1,5 +1,5 @@
 -- The answer and the memories of drawing, as its two loops over the acts meet them. Assumes nothing.
-use mathlib.Core.Bool.{Bool, true, false, cond, not, _||_, Bool·not-not}
+use mathlib.Core.Bool.{Bool, true, false, cond, not, Bool·not-not}
 use mathlib.Core.List.{List, [], _∷_}
 use mathlib.Core.Path.{_≡_, refl, sym, _∙_, ap, subst}
 use Prim.Native.Nat.{ℕ, _+_, _/_, _%_, _≤_, _<_}
@@ -7,12 +7,12 @@ use native.Mathlib.Omega.{arith}
 use borrow.Author.Tests.{eq-eqb, ne-eqb, eqb-true, eqb-false, ltb-true, ltb-false}
 use lib.Dec.{eqb, ltb}
 use lib.ListN.{length, replicate}
-use Rattle.rdp_words.specs.Kinds.{among, wordsOf}
+use Rattle.rdp_words.specs.Kinds.{wordsOf}
 use Rattle.rdp_command.specs.declared.Answer.{Answer}
 use Rattle.rdp_command.specs.declared.FillFields.{FillFields}
 use Rattle.rdp_command.specs.declared.CopyFields.{CopyFields}
 use Rattle.rdp_command.specs.declared.LoadFields.{LoadFields}
-use Rattle.rdp_words.proofs.Tests.{by-test, false-of, neither}
+use Rattle.rdp_words.proofs.Tests.{by-test, false-of}
 use Rattle.rdp_check.specs.Commands.{restOf}
 use Rattle.rdp_check.specs.Check.{checkOf}
 use Rattle.rdp_check.specs.Order.{Ground, firstOf, answer, Among}
@@ -20,10 +20,12 @@ use Rattle.rdp_check.specs.Refusals.{pastEnd, tooLong, ofCommands}
 use Rattle.rdp_check.proofs.OrderLaws.{first-none, among-gives, refusedAt, refused-some, refused-none, placed-first, then-refused, then-accepted}
 use Rattle.rdp_check.proofs.FirstLaws.{no-bytes, check-first}
 use Rattle.rdp_texels.specs.Refusals.{copyRefusals, loadRefusal, copyRefusal, loadTexture, copyMemory}
+use Rattle.rdp_block.specs.Block.{blockRefusal, blockTexture}
+use Rattle.rdp_block.proofs.BlockLaws.{block-first, block-leaves}
 use Rattle.rdp_texels.proofs.ActLaws.{never, load-first, copy-first, load-leaves, copy-leaves}
 use Rattle.rdp_draw.specs.declared.walk.Reached.{Reached}
 use Rattle.rdp_fill.specs.Fill.{outside, painted, fillMemory}
-use Rattle.rdp_draw.specs.Draw.{Act, otherDraw, filling, copying, loading, fillAct, copyAct, Placed, actsOf, misaligned, actRefusals, actGrounds, textureGround, drawAnswer, Memories, memories, acted, actedAll, drawn}
+use Rattle.rdp_draw.specs.Draw.{Act, otherDraw, filling, copying, loading, blocking, fillAct, copyAct, Placed, actsOf, misaligned, actRefusals, actGrounds, textureGround, drawAnswer, Memories, memories, acted, actedAll, drawn}
 use Rattle.rdp_draw.specs.Seen.{fillAt, copyAt, loadAt, actBy, actWith, placedWith, actRefusal, Next, ReachedIs, Reaches, firstRefusal}
 use Rattle.rdp_draw.proofs.SeenLaws.{start-due}
 
@@ -153,19 +155,17 @@ module _ (start len : ℕ) where
     unfolding actBy actRefusals
     refusal-load e r l is h = h ∙ load-first l start len ∙ ap (λ (x : LoadFields). actRefusal start len (loading x)) is ∙ rw e
 
-    module _ (not-fill : n ≡ 0x36 → ⊥) (not-copy : n ≡ 0x24 → ⊥) (not-load : n ≡ 0x34 → ⊥) where
-      pub refusal-17 : eqb n 0x30 || eqb n 0x33 ≡ true → 17 ≡ refusal
-      unfolding actBy actRefusals
-      refusal-17 e =
-          by-test (eqb n 0x30)
-          (λ t. let is : n ≡ 0x30 = eqb-true n 0x30 t in rw is)
-          (λ t. let is : n ≡ 0x33 = eqb-true n 0x33 (rw t at e) in rw is)
+    pub refusal-block : n ≡ 0x33 → (r : ℕ) (l : LoadFields) → l ≡ loadAt file list at → r ≡ blockRefusal l start len → r ≡ refusal
+    unfolding actBy actRefusals
+    refusal-block e r l is h = h ∙ block-first l start len ∙ ap (λ (x : LoadFields). actRefusal start len (blocking x)) is ∙ rw e
 
-      pub refusal-10 : eqb n 0x30 || eqb n 0x33 ≡ false → 10 ≡ refusal
-      unfolding actBy actRefusals
-      refusal-10 e =
-          let parts = neither (eqb n 0x30) (eqb n 0x33) e in
-          rw (ne-eqb _ _ not-fill, ne-eqb _ _ not-copy, ne-eqb _ _ not-load, parts .0, parts .1)
+    pub refusal-17 : n ≡ 0x30 → 17 ≡ refusal
+    unfolding actBy actRefusals
+    refusal-17 e = rw e
+
+    pub refusal-10 : (n ≡ 0x36 → ⊥) → (n ≡ 0x24 → ⊥) → (n ≡ 0x34 → ⊥) → (n ≡ 0x33 → ⊥) → (n ≡ 0x30 → ⊥) → 10 ≡ refusal
+    unfolding actBy actRefusals
+    refusal-10 a b c d e = rw (ne-eqb _ _ a, ne-eqb _ _ b, ne-eqb _ _ c, ne-eqb _ _ d, ne-eqb _ _ e)
 
 -- ---- an act that is not refused
 
@@ -218,24 +218,34 @@ module _ (start : ℕ) (memory texture file list : List ℕ) (at n : ℕ) (clear
           (h ∙ ap (λ (x : CopyFields). copyMemory x start texture memory) is ∙ copy-leaves start memory texture size (copyAt file list at) (parts .1)) ∙
           rw (e, mode)
 
-    module _ (not-fill : n ≡ 0x36 → ⊥) (not-copy : n ≡ 0x24 → ⊥) (l : LoadFields) (is : l ≡ loadAt file list at) where
-      is-load : n ≡ 0x34
+    module _ (l : LoadFields) (is : l ≡ loadAt file list at) where
+      pub load-left : n ≡ 0x34 → (t : List ℕ) → t ≡ loadTexture l start memory texture → memories memory t ≡ left
       unfolding actBy actRefusals
-      is-load =
-          by-test (eqb n 0x34) (λ t. eqb-true n 0x34 t)
-          (λ f. other f (among n (0x30 ∷ 0x33 ∷ [])) refl)
-        where
-          other : eqb n 0x34 ≡ false → (b : Bool) → among n (0x30 ∷ 0x33 ∷ []) ≡ b → n ≡ 0x34
-          other f true t = never 17 (omega arith) (rw (ne-eqb _ _ not-fill, ne-eqb _ _ not-copy, f, t) at clear)
-          other f false t = never 10 (omega arith) (rw (ne-eqb _ _ not-fill, ne-eqb _ _ not-copy, f, t) at clear)
-
-      pub load-left : (t : List ℕ) → t ≡ loadTexture l start memory texture → memories memory t ≡ left
-      unfolding actBy actRefusals
-      load-left t h =
+      load-left is-load t h =
           ap (memories memory)
           (h ∙ ap (λ (x : LoadFields). loadTexture x start memory texture) is ∙
           load-leaves start memory texture size (loadAt file list at) (load-first (loadAt file list at) start (length memory) ∙ rw is-load at clear)) ∙
           rw is-load
+
+      -- the number that is left is that of a Load Block
+      module _ (not-fill : n ≡ 0x36 → ⊥) (not-copy : n ≡ 0x24 → ⊥) (not-load : n ≡ 0x34 → ⊥) where
+        is-block : n ≡ 0x33
+        unfolding actBy actRefusals
+        is-block =
+            by-test (eqb n 0x33) (λ t. eqb-true n 0x33 t)
+            (λ f.
+            by-test (eqb n 0x30)
+            (λ t. never 17 (omega arith) (rw (ne-eqb _ _ not-fill, ne-eqb _ _ not-copy, ne-eqb _ _ not-load, f, t) at clear))
+            (λ g. never 10 (omega arith) (rw (ne-eqb _ _ not-fill, ne-eqb _ _ not-copy, ne-eqb _ _ not-load, f, g) at clear)))
+
+        pub block-left : (t : List ℕ) → t ≡ blockTexture l start memory texture → memories memory t ≡ left
+        unfolding actBy actRefusals
+        block-left t h =
+            ap (memories memory)
+            (h ∙ ap (λ (x : LoadFields). blockTexture x start memory texture) is ∙
+            block-leaves start memory texture size (loadAt file list at)
+            (block-first (loadAt file list at) start (length memory) ∙ rw is-block at clear)) ∙
+            rw is-block
 
 -- the acts after the first
 pub first-next :

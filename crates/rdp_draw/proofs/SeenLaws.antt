@@ -35,7 +35,7 @@ use Rattle.rdp_hazards.specs.Marks.{draws, loads}
 use Rattle.rdp_check.specs.declared.Registers.{Registers}
 use Rattle.rdp_state.proofs.RegisterLaws.{none-set, length-stored, words-kept, registers-stored, tile-small, word-other, FillReads, fill-reads, TextureReads, texture-reads, tile-reads}
 use Rattle.rdp_check.proofs.ListLaws.{commandAt, commands-at, rest-at, commands-past, rest-past, split-at, command-word, command-number, command-whole, command-there}
-use Rattle.rdp_draw.specs.Draw.{Act, nothing, otherDraw, otherLoad, filling, copying, loading, fillOf, copyOf, loadOf, fillAct, copyAct, actOf, actOfDecoded, Placed, withAct, actsFrom, actsOf}
+use Rattle.rdp_draw.specs.Draw.{Act, nothing, otherDraw, otherLoad, filling, copying, loading, blocking, fillOf, copyOf, loadOf, fillAct, copyAct, actOf, actOfDecoded, Placed, withAct, actsFrom, actsOf}
 use Rattle.rdp_draw.specs.Seen.{fillWords, copyWords, loadWords, actBy, actWith, Due, Next, Reaches}
 
 -- ---- the kinds of steps
@@ -123,7 +123,7 @@ other-by :
     (file : List ℕ) (n w v : ℕ) → (n ≡ 0x36 → ⊥) → (n ≡ 0x24 → ⊥) → (n ≡ 0x34 → ⊥) → (n ≡ 0x30 → ⊥) → (n ≡ 0x33 → ⊥) →
     actBy file n w v ≡ otherDraw (colorImageIn (word file 14))
 unfolding actBy
-other-by file n w v a b c d e = rw (ne-eqb _ _ a, ne-eqb _ _ b, ne-eqb _ _ c, ne-eqb _ _ d, ne-eqb _ _ e)
+other-by file n w v a b c d e = rw (ne-eqb _ _ a, ne-eqb _ _ b, ne-eqb _ _ c, ne-eqb _ _ e, ne-eqb _ _ d)
 
 module _ (file c : List ℕ) (there : wholeWords c ≡ 0 → ⊥) where
   abbrev n : ℕ
@@ -231,20 +231,21 @@ module _ (file c : List ℕ) (there : wholeWords c ≡ 0 → ⊥) where
         area = tileAreaIn w;
       }
 
-  load-words : n ≡ 0x34 → loadWords file (tileIn w) ≡ loadWords after (tileIn w)
-  unfolding slotOf
-  load-words e =
+  load-words : after ≡ storedAt (23 + tileIn w) file w → loadWords file (tileIn w) ≡ loadWords after (tileIn w)
+  load-words stored =
       let small = tile-small w in
-      let stored : after ≡ storedAt (23 + tileIn w) file w = ap (λ (k : ℕ). wordsAfter file k w) e in
       let other : (k : ℕ) → (k ≡ 23 + tileIn w → ⊥) → word file k ≡ word after k =
       λ k ne. sym (ap (λ (f : List ℕ). word f k) stored ∙ word-other (23 + tileIn w) file w k ne) in
       λ i. record { image = other 12 (λ z. omega arith) i; tile = other (15 + tileIn w) (λ z. omega arith) i }
 
+  load-after : after ≡ storedAt (23 + tileIn w) file w → loadOf r (tileAreaIn w) ≡ loadFields (loadWords after (tileIn w)) w
+  load-after stored = load-is ∙ ap (λ (s : LoadWords). loadFields s w) (load-words stored)
+
   of-load : (v : ℕ) → n ≡ 0x34 → actOf r (decoded c there) ≡ actBy after n w v
-  unfolding actOf actBy
+  unfolding actOf actBy slotOf
   of-load v e =
       ap (actOf r) (reads-load-tile c (decodes c there) e) ∙
-      ap loading (load-is ∙ ap (λ (s : LoadWords). loadFields s w) (load-words e)) ∙
+      ap loading (load-after (ap (λ (k : ℕ). wordsAfter file k w) e)) ∙
       rw e
 
   of-tlut : (v : ℕ) → n ≡ 0x30 → actOf r (decoded c there) ≡ actBy after n w v
@@ -252,8 +253,11 @@ module _ (file c : List ℕ) (there : wholeWords c ≡ 0 → ⊥) where
   of-tlut v e = ap (actOf r) (reads-load-tlut c (decodes c there) e) ∙ rw e
 
   of-block : (v : ℕ) → n ≡ 0x33 → actOf r (decoded c there) ≡ actBy after n w v
-  unfolding actOf actBy
-  of-block v e = ap (actOf r) (reads-load-block c (decodes c there) e) ∙ rw e
+  unfolding actOf actBy slotOf
+  of-block v e =
+      ap (actOf r) (reads-load-block c (decodes c there) e) ∙
+      ap blocking (load-after (ap (λ (k : ℕ). wordsAfter file k w) e)) ∙
+      rw e
 
   pub loads-act : (v : ℕ) → loads n ≡ true → actOfDecoded r (decodeOf c) ≡ actBy after n w v
   loads-act v e =
@@ -266,7 +270,7 @@ module _ (file c : List ℕ) (there : wholeWords c ≡ 0 → ⊥) where
 with-act : (file : List ℕ) (n w v at : ℕ) (acts : List Placed) → withAct at (actBy file n w v) acts ≡ record { place = at; act = actBy file n w v } ∷ acts
 unfolding actBy
 with-act file n w v at acts =
-    any (eqb n 0x36) (eqb n 0x24) (eqb n 0x34) (among n (0x30 ∷ 0x33 ∷ [])) (eqb (f .«cycle_type») 3) (eqb (c .«cycle_type») 2)
+    any (eqb n 0x36) (eqb n 0x24) (eqb n 0x34) (eqb n 0x33) (eqb n 0x30) (eqb (f .«cycle_type») 3) (eqb (c .«cycle_type») 2)
   where
     f : FillFields
     f = fillFields (fillWords file) w
@@ -280,18 +284,19 @@ with-act file n w v at acts =
     o : Image
     o = colorImageIn (word file 14)
 
-    any : (a b d e p q : Bool) →
+    any : (a b d e g p q : Bool) →
         let x =
         cond a (cond p (filling f) (otherDraw (f .image)))
-        (cond b (cond q (copying c) (otherDraw (c .image))) (cond d (loading l) (cond e otherLoad (otherDraw o)))) in
+        (cond b (cond q (copying c) (otherDraw (c .image))) (cond d (loading l) (cond e (blocking l) (cond g otherLoad (otherDraw o))))) in
         withAct at x acts ≡ record { place = at; act = x } ∷ acts
-    any true b d e true q = refl
-    any true b d e false q = refl
-    any false true d e p true = refl
-    any false true d e p false = refl
-    any false false true e p q = refl
-    any false false false true p q = refl
-    any false false false false p q = refl
+    any true b d e g true q = refl
+    any true b d e g false q = refl
+    any false true d e g p true = refl
+    any false true d e g p false = refl
+    any false false true e g p q = refl
+    any false false false true g p q = refl
+    any false false false false true p q = refl
+    any false false false false false p q = refl
 
 -- ---- from act to act
 

@@ -1,4 +1,4 @@
--- Documents 01 and 02 (#106), refusals 10 to 12 and 16 to 18: the acts of a list, what drawing answers, and what it leaves in memory and texture memory.
+-- Documents 01 and 02 (#106, #112), refusals 10 to 12 and 16 to 18: the acts of a list, what drawing answers, and what it leaves in memory and texture memory.
 use Prim.Native.Nat.{ℕ, _+_, _/_, _%_}
 use mathlib.Core.Bool.{Bool, true, false, cond, not}
 use mathlib.Core.List.{List, [], _∷_, _++_}
@@ -16,6 +16,7 @@ use Rattle.rdp_command.specs.declared.Image.{Image}
 use Rattle.rdp_command.specs.declared.Rectangle.{Rectangle}
 use Rattle.rdp_command.specs.declared.TexturedRectangle.{TexturedRectangle}
 use Rattle.rdp_command.specs.declared.TileArea.{TileArea}
+use Rattle.rdp_command.specs.declared.Block.{Block}
 use Rattle.rdp_command.specs.declared.FillFields.{FillFields}
 use Rattle.rdp_command.specs.declared.CopyFields.{CopyFields}
 use Rattle.rdp_command.specs.declared.LoadFields.{LoadFields}
@@ -28,6 +29,7 @@ use Rattle.rdp_check.specs.declared.Registers.{Registers}
 use Rattle.rdp_texels.specs.Texels.{some, outsideMemory, outsideTexture, loaded, copied}
 use Rattle.rdp_texels.specs.Load.{loadNeeds, loadMoves}
 use Rattle.rdp_texels.specs.Copy.{copyNeeds, copyMoves}
+use Rattle.rdp_block.specs.Block.{blockNeeds, blockMoves}
 use Rattle.rdp_fill.specs.Fill.{outside, painted}
 
 -- ---- the acts of a list
@@ -38,7 +40,7 @@ pub data Act : Type 0 where
   nothing : Act
   -- a draw that 10 refuses, of which the colour image counts
   otherDraw : Image → Act
-  -- Load TLUT or Load Block, which 17 refuses
+  -- Load TLUT, which 17 refuses
   otherLoad : Act
   -- Fill Rectangle in FILL mode
   filling : FillFields → Act
@@ -46,6 +48,8 @@ pub data Act : Type 0 where
   copying : CopyFields → Act
   -- Load Tile
   loading : LoadFields → Act
+  -- Load Block
+  blocking : LoadFields → Act
 
 -- a fill rectangle, a texture rectangle and a Load Tile, each with the registers that it is done under
 abbrev pub fillOf : Registers → Rectangle → FillFields
@@ -86,6 +90,11 @@ loadOf r g =
       area = g;
     }
 
+-- the fields of a Load Block as those of the area that it leaves as its tile's size: dxt stands there as lower right t
+abbrev pub blockArea : Block → TileArea
+blockArea g =
+    record { «upper_left» = g .«upper_left»; tile = g .tile; «lower_right» = record { s = g .«lower_right_s»; t = g .dxt } }
+
 -- a fill rectangle in FILL mode, which is cycle type 3, and a texture rectangle in COPY mode, which is 2; in every other mode 10 refuses them
 abbrev pub fillAct : FillFields → Act
 fillAct f = cond (eqb (f .«cycle_type») 3) (filling f) (otherDraw (f .image))
@@ -111,7 +120,7 @@ actOf r (SetPrimitiveDepth g) = nothing
 actOf r (SetOtherModes g) = nothing
 actOf r (LoadTlut g) = otherLoad
 actOf r (SetTileSize g) = nothing
-actOf r (LoadBlock g) = otherLoad
+actOf r (LoadBlock g) = blocking (loadOf r (blockArea g))
 actOf r (LoadTile g) = loading (loadOf r g)
 actOf r (SetTile g) = nothing
 actOf r (FillRectangle g) = fillAct (fillOf r g)
@@ -143,6 +152,7 @@ withAct at otherLoad acts = record { place = at; act = otherLoad } ∷ acts
 withAct at (filling f) acts = record { place = at; act = filling f } ∷ acts
 withAct at (copying c) acts = record { place = at; act = copying c } ∷ acts
 withAct at (loading l) acts = record { place = at; act = loading l } ∷ acts
+withAct at (blocking l) acts = record { place = at; act = blocking l } ∷ acts
 
 -- the acts of the commands from a place on
 unfoldable pub actsFrom : Registers → ℕ → List (List ℕ) → List Placed
@@ -163,6 +173,7 @@ isOther otherLoad = false
 isOther (filling f) = false
 isOther (copying c) = false
 isOther (loading l) = false
+isOther (blocking l) = false
 
 -- 11, at a draw: the colour image's address is no multiple of 64
 abbrev pub misaligned : Image → Bool
@@ -175,8 +186,9 @@ isMisaligned otherLoad = false
 isMisaligned (filling f) = misaligned (f .image)
 isMisaligned (copying c) = misaligned (c .image)
 isMisaligned (loading l) = false
+isMisaligned (blocking l) = false
 
--- 17: "Load TLUT or Load Block in any drawn list", or a load or COPY rectangle that breaks a need
+-- 17: Load TLUT "in any drawn list", or a load or COPY rectangle that breaks a need; #112: it "judges Load Block as it does Load Tile"
 abbrev pub isUnready : Act → Bool
 isUnready nothing = false
 isUnready (otherDraw i) = false
@@ -184,6 +196,7 @@ isUnready otherLoad = true
 isUnready (filling f) = false
 isUnready (copying c) = not (copyNeeds c)
 isUnready (loading l) = not (loadNeeds l)
+isUnready (blocking l) = not (blockNeeds l)
 
 -- 12: a byte of a kept pixel, or of a texel loaded, is outside the memory of `len` bytes that starts at address `start`
 abbrev pub isOutside : ℕ → ℕ → Act → Bool
@@ -193,6 +206,7 @@ isOutside start len otherLoad = false
 isOutside start len (filling f) = outside f start len
 isOutside start len (copying c) = some (outsideMemory start len) (copyMoves c)
 isOutside start len (loading l) = some (outsideMemory start len) (loadMoves l)
+isOutside start len (blocking l) = some (outsideMemory start len) (blockMoves l)
 
 -- 18: "a texture byte, loaded to or read for a kept pixel, below 0 or at 4,096 or above"
 abbrev pub isBeyond : Act → Bool
@@ -202,6 +216,7 @@ isBeyond otherLoad = false
 isBeyond (filling f) = false
 isBeyond (copying c) = some outsideTexture (copyMoves c)
 isBeyond (loading l) = some outsideTexture (loadMoves l)
+isBeyond (blocking l) = some outsideTexture (blockMoves l)
 
 -- the refusals of an act, in their order: "at a command, after 10 and 11, 17 ..; then 12 ..; then 18"
 unfoldable pub actRefusals : ℕ → ℕ → Act → List (Ground ℕ)
@@ -243,6 +258,7 @@ acted start otherLoad m = m
 acted start (filling f) m = memories (painted f start (m .memory)) (m .texture)
 acted start (copying c) m = memories (copied start (m .texture) (copyMoves c) (m .memory)) (m .texture)
 acted start (loading l) m = memories (m .memory) (loaded start (m .memory) (loadMoves l) (m .texture))
+acted start (blocking l) m = memories (m .memory) (loaded start (m .memory) (blockMoves l) (m .texture))
 
 -- after acts, each over what the earlier ones left: "commands act in list order"
 unfoldable pub actedAll : ℕ → List Placed → Memories → Memories

@@ -6,7 +6,7 @@ use mathlib.Core.Path.{_≡_}
 use lib.Dec.{eqb}
 use lib.ListN.{length, drop}
 use Rattle.rdp_words.specs.Words.{wordAt}
-use Rattle.rdp_words.specs.Kinds.{among, wordsOf}
+use Rattle.rdp_words.specs.Kinds.{wordsOf}
 use Rattle.rdp_command.specs.Reads.{colorImageIn, fillFields, copyFields, loadFields}
 use Rattle.rdp_command.specs.declared.FillWords.{FillWords}
 use Rattle.rdp_command.specs.declared.CopyWords.{CopyWords}
@@ -19,7 +19,7 @@ use Rattle.rdp_check.specs.Order.{firstOf, answer}
 use Rattle.rdp_check.specs.Commands.{commandsOf, restOf}
 use Rattle.rdp_state.specs.RegisterWords.{tileIn, word, registersIn}
 use Rattle.rdp_draw.specs.declared.walk.Reached.{Reached}
-use Rattle.rdp_draw.specs.Draw.{Act, otherDraw, otherLoad, loading, fillAct, copyAct, Placed, actsFrom, actGrounds, actRefusals}
+use Rattle.rdp_draw.specs.Draw.{Act, otherDraw, otherLoad, loading, blocking, fillAct, copyAct, Placed, actsFrom, actGrounds, actRefusals}
 
 -- ---- an act by the words of the register file
 
@@ -50,8 +50,9 @@ actBy file n w v =
     cond (eqb n 0x36) (fillAct (fillFields (fillWords file) w))
     (cond (eqb n 0x24) (copyAct (copyFields (copyWords file (tileIn w)) w v))
     (cond (eqb n 0x34) (loading (loadFields (loadWords file (tileIn w)) w))
-    (cond (among n (0x30 ∷ 0x33 ∷ [])) otherLoad
-    (otherDraw (colorImageIn (word file 14))))))
+    (cond (eqb n 0x33) (blocking (loadFields (loadWords file (tileIn w)) w))
+    (cond (eqb n 0x30) otherLoad
+    (otherDraw (colorImageIn (word file 14)))))))
 
 -- the act at a place
 abbrev pub actWith : List ℕ → List ℕ → ℕ → ℕ → Act

@@ -8,8 +8,9 @@ use Rattle.rdp_texels.specs.Texels.{some}
 use Rattle.rdp_texels.specs.Load.{loadMoves}
 use Rattle.rdp_texels.specs.Copy.{copyMoves}
 use Rattle.rdp_texels.specs.Written.{goesTo, standsAt}
+use Rattle.rdp_block.specs.Block.{blockMoves}
 use Rattle.rdp_fill.specs.Fill.{covers}
-use Rattle.rdp_draw.specs.Draw.{Act, nothing, otherDraw, otherLoad, filling, copying, loading, Placed, actsOf}
+use Rattle.rdp_draw.specs.Draw.{Act, nothing, otherDraw, otherLoad, filling, copying, loading, blocking, Placed, actsOf}
 
 -- an act writes the byte of memory at an address: a kept pixel has it
 abbrev pub actWrites : ℕ → Act → Bool
@@ -19,6 +20,7 @@ actWrites a otherLoad = false
 actWrites a (filling f) = covers f a
 actWrites a (copying c) = some (standsAt a) (copyMoves c)
 actWrites a (loading l) = false
+actWrites a (blocking l) = false
 
 -- an act loads a byte of texture memory
 abbrev pub actLoads : ℕ → Act → Bool
@@ -28,6 +30,7 @@ actLoads b otherLoad = false
 actLoads b (filling f) = false
 actLoads b (copying c) = false
 actLoads b (loading l) = some (goesTo b) (loadMoves l)
+actLoads b (blocking l) = some (goesTo b) (blockMoves l)
 
 -- one of some acts does
 unfoldable pub someAct : (Act → Bool) → List Placed → Bool

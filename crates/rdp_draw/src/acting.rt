@@ -30,7 +30,12 @@ fn act(
         rdp_texels::copy_rectangle(texture, memory, start, walk::copy_at(list, at.place, file));
         return;
     }
-    rdp_texels::load_tile(memory, start, texture, walk::load_at(list, at.place, file));
+    let load = walk::load_at(list, at.place, file);
+    if at.number == 0x34 {
+        rdp_texels::load_tile(memory, start, texture, load);
+        return;
+    }
+    rdp_block::load_block(memory, start, texture, load);
 }
 
 // Does the acts of a list in order, of which every command is whole and no act is refused.

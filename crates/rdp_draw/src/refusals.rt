@@ -55,7 +55,10 @@ fn refusal_at(list: &[u8], at: Reached, file: &[u64; 32], start: u64, len: usize
     if at.number == 0x34 {
         return rdp_texels::load_refusal(walk::load_at(list, at.place, file), start, len);
     }
-    if (at.number == 0x30) | (at.number == 0x33) {
+    if at.number == 0x33 {
+        return rdp_block::block_refusal(walk::load_at(list, at.place, file), start, len);
+    }
+    if at.number == 0x30 {
         return 17;
     }
     10

@@ -11,6 +11,8 @@ pub fn show_copies() {
     loads();
     texture_bytes();
     order();
+    blocks();
+    block_refusals();
 }
 
 fn copied() {
@@ -280,7 +282,7 @@ fn loads() {
         ],
     );
     picture(
-        b"17, Load Block",
+        b"17, Load TLUT",
         &[
             FILL,
             IMAGE,
@@ -290,7 +292,7 @@ fn loads() {
             PIPE_SYNC,
             TEXTURE,
             TILE,
-            0x33_000_000_00_01C_000,
+            0x30_000_000_00_01C_000,
         ],
     );
     // The load reads four rows of eight texels from address 2 on.
@@ -403,6 +405,257 @@ fn order() {
             PIPE_SYNC,
             COPY,
             RECTANGLE,
+        ],
+    );
+}
+
+// Load Block (#112): texels one after the other, in words of four. dxt 0x400 begins a line every two words, as the tile's rows are.
+fn blocks() {
+    picture(
+        b"block of 32 texels",
+        &[
+            FILL,
+            IMAGE,
+            SCISSOR,
+            COLOR,
+            RECTANGLE,
+            PIPE_SYNC,
+            TEXTURE,
+            TILE,
+            0x33_000_000_00_01F_400,
+            PIPE_SYNC,
+            COPY,
+            COPY_RIGHT,
+            TEXELS,
+        ],
+    );
+    picture(
+        b"block that is never turned",
+        &[
+            FILL,
+            IMAGE,
+            SCISSOR,
+            COLOR,
+            RECTANGLE,
+            PIPE_SYNC,
+            TEXTURE,
+            TILE,
+            0x33_000_000_00_01F_000,
+            PIPE_SYNC,
+            COPY,
+            COPY_RIGHT,
+            TEXELS,
+        ],
+    );
+    picture(
+        b"block of lines of three words",
+        &[
+            FILL,
+            IMAGE,
+            SCISSOR,
+            COLOR,
+            RECTANGLE,
+            PIPE_SYNC,
+            TEXTURE,
+            TILE,
+            0x33_000_000_00_01F_2AB,
+            PIPE_SYNC,
+            COPY,
+            COPY_RIGHT,
+            TEXELS,
+        ],
+    );
+    picture(
+        b"block whose every word is turned over in turn",
+        &[
+            FILL,
+            IMAGE,
+            SCISSOR,
+            COLOR,
+            RECTANGLE,
+            PIPE_SYNC,
+            TEXTURE,
+            TILE,
+            0x33_000_000_00_01F_800,
+            PIPE_SYNC,
+            COPY,
+            COPY_RIGHT,
+            TEXELS,
+        ],
+    );
+    // A tile whose upper left is the block's raw s and t: only whole quarters of it are whole texels.
+    picture(
+        b"block of seven texels, the last three turned",
+        &[
+            FILL,
+            IMAGE,
+            SCISSOR,
+            COLOR,
+            RECTANGLE,
+            PIPE_SYNC,
+            TEXTURE,
+            TILE,
+            0x33_001_001_00_007_800,
+            PIPE_SYNC,
+            0x32_000_000_00_01C_00C,
+            COPY,
+            COPY_RIGHT,
+            0x0080_0000_1000_0400,
+        ],
+    );
+    picture(
+        b"block from row 1 on, past the row's end",
+        &[
+            FILL,
+            IMAGE,
+            SCISSOR,
+            COLOR,
+            RECTANGLE,
+            PIPE_SYNC,
+            TEXTURE,
+            TILE,
+            0x33_006_001_00_011_400,
+            PIPE_SYNC,
+            0x32_000_000_00_01C_00C,
+            COPY,
+            COPY_RIGHT,
+            TEXELS,
+        ],
+    );
+    picture(
+        b"a block leaves its s and t as the tile's size",
+        &[
+            FILL,
+            IMAGE,
+            SCISSOR,
+            COLOR,
+            RECTANGLE,
+            PIPE_SYNC,
+            TEXTURE,
+            TILE,
+            0x33_004_000_00_00B_400,
+            PIPE_SYNC,
+            COPY,
+            COPY_RIGHT,
+            TEXELS,
+        ],
+    );
+    picture(
+        b"17, a tile's upper left of one quarter",
+        &[
+            FILL,
+            IMAGE,
+            SCISSOR,
+            COLOR,
+            RECTANGLE,
+            PIPE_SYNC,
+            TEXTURE,
+            TILE,
+            0x33_001_000_00_00A_400,
+            PIPE_SYNC,
+            COPY,
+            COPY_RIGHT,
+            TEXELS,
+        ],
+    );
+}
+
+fn block_refusals() {
+    picture(
+        b"block of no texel",
+        &[
+            FILL,
+            IMAGE,
+            SCISSOR,
+            COLOR,
+            RECTANGLE,
+            PIPE_SYNC,
+            TEXTURE,
+            TILE,
+            0x33_004_000_00_003_400,
+        ],
+    );
+    picture(
+        b"block of 2,049 texels",
+        &[
+            FILL,
+            IMAGE,
+            SCISSOR,
+            COLOR,
+            RECTANGLE,
+            PIPE_SYNC,
+            TEXTURE,
+            TILE,
+            0x33_000_000_00_800_400,
+        ],
+    );
+    picture(
+        b"12, block of 33 texels",
+        &[
+            FILL,
+            IMAGE,
+            SCISSOR,
+            COLOR,
+            RECTANGLE,
+            PIPE_SYNC,
+            TEXTURE,
+            TILE,
+            0x33_000_000_00_020_400,
+        ],
+    );
+    picture(
+        b"18, block at the end of texture memory",
+        &[
+            FILL,
+            IMAGE,
+            SCISSOR,
+            COLOR,
+            RECTANGLE,
+            PIPE_SYNC,
+            TEXTURE,
+            0x35_10_05F9_00000000,
+            0x33_000_000_00_01F_400,
+        ],
+    );
+    picture(
+        b"block that ends with texture memory",
+        &[
+            FILL,
+            IMAGE,
+            SCISSOR,
+            COLOR,
+            RECTANGLE,
+            PIPE_SYNC,
+            TEXTURE,
+            0x35_10_05F8_00000000,
+            0x33_000_000_00_01F_400,
+        ],
+    );
+    picture(
+        b"17 before 12, block of a tile of 32 bits",
+        &[
+            FILL,
+            IMAGE,
+            SCISSOR,
+            COLOR,
+            RECTANGLE,
+            PIPE_SYNC,
+            TEXTURE,
+            0x35_18_0400_00000000,
+            0x33_000_000_00_020_400,
+        ],
+    );
+    picture(
+        b"17, block without a texture image",
+        &[
+            FILL,
+            IMAGE,
+            SCISSOR,
+            COLOR,
+            RECTANGLE,
+            PIPE_SYNC,
+            TILE,
+            0x33_000_000_00_01F_400,
         ],
     );
 }

@@ -3,16 +3,18 @@ use Prim.Native.Nat.{ℕ, _+_, _-_, _*_, _/_, _%_, _^_, _≤_, _<_}
 use mathlib.Core.Bool.{Bool, true, false, _&&_}
 use mathlib.Core.List.{List, [], _∷_, map}
 use mathlib.Core.Path.{_≡_, refl, ap, sym, subst, _∙_}
-use native.Mathlib.Nat.{lt-of-lt-of-le}
+use native.Mathlib.Nat.{lt-of-lt-of-le, suc-ne-zero}
 use native.Mathlib.Omega.{arith}
 use borrow.Author.Tests.{eq-eqb, ltb-true, eqb-true}
 use lib.Dec.{T, eqb}
-use lib.ListN.{length, getD, drop}
+use lib.ListN.{length, getD, drop, replicate, length-replicate}
 use lib.Pow.{pow-mono}
 use lib.Signed.{mag}
 use mir.Val.{boolByte}
 use mir.Facts.{toZ-ofZ}
 use Rattle.rdp_words.specs.Words.{numberIn}
+use Rattle.rdp_words.specs.Kinds.{wordsOf}
+use Rattle.rdp_words.specs.Lengths.{suffixOf}
 use Rattle.rdp_command.specs.Layout.{Line, width, layout, triangleBaseLines}
 use Rattle.rdp_encode.specs.Table.{AllReadable}
 use Rattle.rdp_command.specs.Fields.{Value, unsigned, signed, fieldsOf}
@@ -21,6 +23,8 @@ use Rattle.rdp_command.specs.Groups.{triangleBaseOf}
 use Rattle.rdp_command.specs.Commands.{commandOf, numberOf, valuesOf}
 use Rattle.rdp_encode.specs.Encode.{packedWord, numbersOf, numberInRow, encodable, answerWith, encodeAnswer}
 use Rattle.rdp_encode.specs.Numbers.{valueFrom, valuesFrom, numbersFit, flagsAgree, fromNumbers}
+use Rattle.rdp_command.specs.Decode.{decodeOf}
+use Rattle.rdp_command.specs.declared.Answer.{Answer}
 use Rattle.rdp_command.specs.declared.TriangleBase.{TriangleBase}
 use Rattle.rdp_command.specs.declared.Command.{Command}
 use Rattle.rdp_command.specs.declared.Command.the-variants.{FillTriangle}
@@ -40,6 +44,7 @@ use Rattle.rdp_command.proofs.GroupLaws.{values-read}
 use Rattle.rdp_encode.proofs.WholeLaws.{parts}
 use Rattle.rdp_encode.proofs.NumberLaws.{standing, plain-number, flags-number}
 use Rattle.rdp_command.proofs.NumberLaws.{by-flags, number-read}
+use Rattle.rdp_encode.proofs.Laws.{encode-decoded-answer}
 
 -- the values out of their own numbers
 value-again : (l : Line) (v : Value) → width l ≤ 56 → T (signIs (l .isSigned) v) → fitsLine l v ≡ true → valueFrom (l .isSigned) (numberOfValue v) ≡ v
@@ -99,6 +104,13 @@ fits-of c suffix out n = by-test (encodable c suffix) (λ t. t) (λ f. absurd (n
 pub from-fields-of :
     (c : Command) (suffix out : List ℕ) → (encodeAnswer c suffix out .number ≡ 15 → ⊥) → fromNumbers (numberOf c) (numbersOf c) ≡ Whole c
 from-fields-of c suffix out n = let p = parts c suffix (fits-of c suffix out n) in from-own c (p .0) (p .1 .0)
+
+-- and so do those of a command that was decoded
+pub from-fields-decoded : (bs : List ℕ) {c : Command} → decodeOf bs ≡ Whole c → fromNumbers (numberOf c) (numbersOf c) ≡ Whole c
+from-fields-decoded bs {c} d =
+    let out : List ℕ = replicate (8 * wordsOf (numberOf c)) 0 in
+    let room : wordsOf (numberOf c) ≤ length out / 8 = omega (arith, length-replicate {A = ℕ} (8 * wordsOf (numberOf c)) 0) in
+    from-fields-of c (suffixOf bs) out (λ e. suc-ne-zero 14 (sym e ∙ ap (λ (a : Answer). a .number) (encode-decoded-answer bs d out room)))
 
 -- ---- the other way round
 

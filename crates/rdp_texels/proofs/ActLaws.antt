@@ -1,13 +1,14 @@
 -- A load and a copy rectangle by their grids: refusals, and what is moved. Assumes nothing.
 use mathlib.Core.Path.{_≡_, refl, sym, _∙_}
-use mathlib.Core.Bool.{Bool, true, false, cond, not}
+use mathlib.Core.Bool.{Bool, true, false, cond, not, _&&_}
 use mathlib.Core.List.{List, []}
-use Prim.Native.Nat.{ℕ, _<_}
+use Prim.Native.Nat.{ℕ, _+_, _-_, _<_, _≤_}
 use native.Mathlib.Omega.{arith}
-use borrow.Author.Tests.{eq-eqb, ne-eqb}
-use lib.Dec.{eqb}
+use borrow.Author.Tests.{eq-eqb, ne-eqb, eqb-true, le-leb, lt-leb, leb-true}
+use lib.Dec.{eqb, leb}
 use lib.ListN.{length}
 use Rattle.rdp_pixels.specs.Kept.{rowKept}
+use Rattle.rdp_pixels.proofs.BoolLaws.{and-is, and-true-of, same-truth}
 use Rattle.rdp_command.specs.declared.LoadFields.{LoadFields}
 use Rattle.rdp_command.specs.declared.CopyFields.{CopyFields}
 use Rattle.rdp_check.specs.Order.{firstOf}
@@ -16,8 +17,8 @@ use Rattle.rdp_texels.specs.declared.Span.{Span}
 use Rattle.rdp_texels.specs.Texels.{Move, loaded, copied}
 use Rattle.rdp_texels.specs.Load.{loadNeeds, loadMoves}
 use Rattle.rdp_texels.specs.Copy.{copyNeeds, copyMoves}
-use Rattle.rdp_texels.specs.Refusals.{loadRefusals, copyRefusals, loadRefusal, copyRefusal, sized, loadTexture, copyMemory}
-use Rattle.rdp_texels.specs.Rows.{keptMoves, loadGrid, loadSpan, copyGrid, copySpan, lies, spanSome, cornersRefusal, EvenGrid, SmallGrid, SmallSpan, Ready}
+use Rattle.rdp_texels.specs.Refusals.{loadRefusals, copyRefusals, loadRefusal, copyRefusal, sized, loadTexture, copyMemory, runFits, runTexture}
+use Rattle.rdp_texels.specs.Rows.{part, keptMoves, loadGrid, loadSpan, copyGrid, copySpan, lies, spanSome, cornersRefusal, EvenGrid, SmallGrid, SmallSpan, Ready}
 use Rattle.rdp_texels.proofs.CornerLaws.{texelRefusal, Ends, corners-refusal, grid-none, span-some}
 use Rattle.rdp_texels.proofs.LinkLaws.{load-moves, load-ends, load-even, copy-moves, copy-ends, copy-even}
 
@@ -136,3 +137,40 @@ module _ (start : ℕ) (memory texture : List ℕ) (size : length texture ≡ 40
   pub copy-leaves : (c : CopyFields) → copyRefusal c start (length memory) ≡ 0 → copyMemory c start texture memory ≡ copied start texture (copyMoves c) memory
   unfolding copyMemory
   copy-leaves c e = rw (eq-eqb (length texture) 4096 size, e)
+
+-- ---- a run
+
+module _ (size first n : ℕ) where
+  pub holds-not : size < first → false ≡ leb (first + n) size
+  holds-not h = sym (lt-leb (first + n) size (omega arith))
+
+  pub holds-by : first ≤ size → leb n (size - first) ≡ leb (first + n) size
+  holds-by h =
+      same-truth (leb n (size - first)) (leb (first + n) size)
+      (λ e. let k = leb-true n (size - first) e in le-leb (first + n) size (omega arith))
+      (λ e. let k = leb-true (first + n) size e in le-leb n (size - first) (omega arith))
+
+pub run-parts : (len s size d n : ℕ) → runFits len s size d n ≡ true → (size ≡ 4096) × (d + n ≤ 4096) × (s + n ≤ len)
+run-parts len s size d n e =
+    let parts = and-is (eqb size 4096) (leb (s + n) len && leb (d + n) size) e in
+    let ends = and-is (leb (s + n) len) (leb (d + n) size) (parts .1) in
+    let whole = eqb-true size 4096 (parts .0) in
+    let there = leb-true (d + n) size (ends .1) in
+    (whole, omega arith, leb-true (s + n) len (ends .0))
+
+module _ (s d n : ℕ) (odd : Bool) (memory texture : List ℕ) where
+  pub run-loads : runFits (length memory) s (length texture) d n ≡ true → part odd false s d 0 n memory texture ≡ runTexture s d n odd memory texture
+  unfolding runTexture
+  run-loads e = rw e
+
+  pub run-stays : runFits (length memory) s (length texture) d n ≡ false → texture ≡ runTexture s d n odd memory texture
+  unfolding runTexture
+  run-stays e = rw e
+
+  -- a run that is there
+  pub run-there : length texture ≡ 4096 → d + n ≤ 4096 → s + n ≤ length memory → runTexture s d n odd memory texture ≡ part odd false s d 0 n memory texture
+  run-there size h k =
+      sym (run-loads
+      (and-true-of (eqb (length texture) 4096) (leb (s + n) (length memory) && leb (d + n) (length texture)) (eq-eqb (length texture) 4096 size)
+      (and-true-of (leb (s + n) (length memory)) (leb (d + n) (length texture)) (le-leb (s + n) (length memory) k)
+      (le-leb (d + n) (length texture) (omega arith)))))

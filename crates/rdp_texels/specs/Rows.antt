@@ -1,4 +1,4 @@
--- The moves as rows of texels, each row one run of bytes. No public contract cites this.
+-- The moves as rows of texels, each row one run of bytes. Public contracts cite `part` alone.
 use Prim.Native.Nat.{ℕ, _+_, _-_, _*_, _/_, _%_, _≤_, _<_}
 use mathlib.Core.Bool.{Bool, true, cond, _&&_}
 use mathlib.Core.List.{List, [], _∷_}

@@ -7,7 +7,9 @@ use rdp_command::LoadFields;
 use rdp_command::TextureStep;
 ghost use mathlib.Core.Path.{_≡_};
 ghost use Prim.Native.Nat.{_+_, _-_, _*_, _/_, _<_, _≤_};
+ghost use lib.Dec.{leb};
 ghost use Rattle.rdp_texels.specs.Texels.{aheadOf, behindOf};
+ghost use Rattle.rdp_texels.specs.Refusals.{runFits};
 ghost use Rattle.rdp_texels.specs.Rows.{SmallGrid, SmallSpan, SmallStep, stepOf, loadGrid, loadSpan, copyGrid, copySpan, gridOf, gridOdd, bottomFrom, lies, spanSome, cornersRefusal};
 
 // A whole number's part above 0, and its part below.
@@ -241,4 +243,21 @@ pub fn corners(grid: Grid, span: Span, start: u64, len: usize) -> u32
         return 18;
     }
     0
+}
+
+// Whether n bytes from one on are among `size`. Nothing is added to the first, which could wrap.
+fn holds(size: usize, first: usize, n: usize) -> bool
+    ensures { λ r. ⌜ r ≡ leb (first + n) size ⌝ }
+{
+    if size < first {
+        return false;
+    }
+    n <= size - first
+}
+
+// Whether n bytes from s on are in memory of `len` bytes, and n from d on in texture memory.
+pub fn run_fits(len: usize, s: usize, size: usize, d: usize, n: usize) -> bool
+    ensures { λ r. ⌜ r ≡ runFits len s size d n ⌝ }
+{
+    (size == 4096) & (holds(len, s, n) & holds(size, d, n))
 }

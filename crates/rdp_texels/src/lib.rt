@@ -2,9 +2,9 @@
 ghost use mathlib.Core.Path.{_≡_};
 ghost use lib.ListN.{length};
 ghost use Rattle.rdp_texels.specs.Texels.{loaded, copied};
-ghost use Rattle.rdp_texels.specs.Load.{loadMoves};
+ghost use Rattle.rdp_texels.specs.Load.{loadNeeds, loadMoves};
 ghost use Rattle.rdp_texels.specs.Copy.{copyMoves};
-ghost use Rattle.rdp_texels.specs.Refusals.{sized, loadRefusal, copyRefusal, loadTexture, copyMemory};
+ghost use Rattle.rdp_texels.specs.Refusals.{sized, runTexture, loadRefusal, copyRefusal, loadTexture, copyMemory};
 
 mod bytes;
 mod grids;
@@ -42,14 +42,34 @@ pub struct Step {
     pub dtdy: u64,
 }
 
+// Whether a load's texture image and its tile's descriptor are set and 16-bit RGBA: else 17 refuses it.
+pub fn load_needs(load: LoadFields) -> bool
+    ensures { λ r. ⌜ r ≡ loadNeeds load ⌝ }
+{
+    let image = load.image_set & needs::is_rgba16(load.image.format, load.image.size);
+    let tile = load.tile_set & needs::is_rgba16(load.tile.format, load.tile.size);
+    image & tile
+}
+
 // The first refusal of a Load Tile, of memory of `len` bytes that starts at address `start`: 17, 12, 18, or 0.
 pub fn load_refusal(load: LoadFields, start: u64, len: usize) -> u32
     ensures { λ r. ⌜ r ≡ loadRefusal load start len ⌝ }
 {
-    if !needs::load_needs(load) {
+    if !load_needs(load) {
         return 17;
     }
     grids::corners(grids::load_grid(load), grids::load_span(load), start, len)
+}
+
+// Loads n bytes of memory from index s on to byte d of texture memory on, which exchange the halves of each eight where the row is odd. Where not all of both
+// are there, nothing is loaded.
+pub fn load_run(memory: &[u8], s: usize, texture: &mut [u8], d: usize, n: usize, odd: bool)
+    ensures { λ _. ⌜ now (texture .exit) ≡ runTexture s d n odd (now (memory .entry)) (now (texture .entry)) ⌝ }
+{
+    if grids::run_fits(memory.len(), s, texture.len(), d, n) {
+        bytes::load_row(memory, s, texture, d, n, odd);
+        return;
+    }
 }
 
 // Loads a tile of which no texel is refused.

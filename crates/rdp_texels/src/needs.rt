@@ -1,26 +1,17 @@
 // Refusal 17: what a load and a copy rectangle need.
 use crate::grids;
 use rdp_command::CopyFields;
-use rdp_command::LoadFields;
 use rdp_command::TexelCorner;
 use rdp_command::TextureStep;
 use rdp_command::TileDescriptor;
 ghost use mathlib.Core.Path.{_≡_};
-ghost use Rattle.rdp_texels.specs.Load.{rgba16, loadNeeds};
+ghost use Rattle.rdp_texels.specs.Load.{rgba16};
 ghost use Rattle.rdp_texels.specs.Copy.{stepNeeds, cornerNeeds, tileNeeds, modeNeeds, copyNeeds};
 
-fn is_rgba16(format: u8, size: u8) -> bool
+pub fn is_rgba16(format: u8, size: u8) -> bool
     ensures { λ r. ⌜ r ≡ rgba16 format size ⌝ }
 {
     (format == 0) & (size == 2)
-}
-
-pub fn load_needs(load: LoadFields) -> bool
-    ensures { λ r. ⌜ r ≡ loadNeeds load ⌝ }
-{
-    let image = load.image_set & is_rgba16(load.image.format, load.image.size);
-    let tile = load.tile_set & is_rgba16(load.tile.format, load.tile.size);
-    image & tile
 }
 
 fn step_needs(step: TextureStep) -> bool

@@ -24,7 +24,10 @@ static ARCHIVE: Foreign = foreign!(
     lanyardrove_translate,
     lanyardrove_repair_afresh,
     lanyardrove_compare,
-    lanyardrove_rest
+    lanyardrove_rest,
+    lanyardrove_index_build,
+    lanyardrove_index_ask,
+    lanyardrove_index_replace
 );
 
 /// The arguments: seed, number of cases, first case.

@@ -20,10 +20,13 @@ pub enum Function {
     Afresh,
     Compare,
     Rest,
+    IndexBuild,
+    IndexAsk,
+    IndexReplace,
 }
 
 impl Function {
-    pub const COUNT: usize = 12;
+    pub const COUNT: usize = 15;
     pub const ALL: [Function; Function::COUNT] = [
         Function::Check,
         Function::Repair,
@@ -37,6 +40,9 @@ impl Function {
         Function::Afresh,
         Function::Compare,
         Function::Rest,
+        Function::IndexBuild,
+        Function::IndexAsk,
+        Function::IndexReplace,
     ];
 
     pub fn name(self) -> &'static str {
@@ -53,6 +59,9 @@ impl Function {
             Function::Afresh => "afresh",
             Function::Compare => "compare",
             Function::Rest => "rest",
+            Function::IndexBuild => "build",
+            Function::IndexAsk => "ask",
+            Function::IndexReplace => "replace",
         }
     }
 }
@@ -71,8 +80,10 @@ pub struct Call {
     /// The address of lent memory, or the offset of a display list in it.
     pub start: u64,
     pub list: Lent<u8>,
-    /// The list that a first one is compared with.
+    /// The list that a first one is compared with, or a new command.
     pub second: Lent<u8>,
+    /// The place that an index is asked for.
+    pub place: u32,
     /// The numbers that were lent for entries.
     pub count: usize,
     pub entries: Lent<u32>,
@@ -97,6 +108,7 @@ impl Call {
             start: 0,
             list: Lent::default(),
             second: Lent::default(),
+            place: 0,
             count: 0,
             entries: Lent::default(),
             suffix: Lent::default(),
@@ -138,6 +150,12 @@ impl Call {
             }
             Function::Compare => side.compare(list, self.second.slice(), self.entries.slice_mut()),
             Function::Rest => side.rest(list, self.second.slice(), self.count),
+            Function::IndexBuild => side.index_build(list, self.entries.slice_mut()),
+            Function::IndexAsk => side.index_ask(list, self.entries.slice(), self.place),
+            Function::IndexReplace => {
+                let (list, entries) = (self.list.slice_mut(), self.entries.slice_mut());
+                side.index_replace(list, entries, self.place, self.second.slice())
+            }
         }
     }
 
@@ -206,6 +224,8 @@ impl fmt::Display for Call {
             Function::Stream => write!(f, "{}", self.portions),
             Function::Translate => self.describe_translation(f),
             Function::Compare | Function::Rest => self.describe_pair(f),
+            Function::IndexBuild => writeln!(f, "entries {} numbers", self.entries.len()),
+            Function::IndexAsk | Function::IndexReplace => self.describe_index(f),
         }
     }
 }
@@ -228,6 +248,12 @@ impl Call {
         )?;
         let count = self.count.max(self.entries.len());
         writeln!(f, "entries {count} numbers")
+    }
+
+    fn describe_index(&self, f: &mut fmt::Formatter) -> fmt::Result {
+        writeln!(f, "entries {:?}", self.entries.slice())?;
+        let new = hexadecimal(self.second.slice());
+        writeln!(f, "place {}, new command {new}", self.place)
     }
 
     fn describe_translation(&self, f: &mut fmt::Formatter) -> fmt::Result {

@@ -5,6 +5,7 @@ use crate::check::{check, walk, Syncs};
 use crate::comparison::calls::{Call, Function};
 use crate::comparison::displays::display;
 use crate::comparison::encodings::encode_call;
+use crate::comparison::indices::Index;
 use crate::comparison::lent::Lent;
 use crate::comparison::pairs::pair;
 use crate::comparison::portions::Portions;
@@ -13,6 +14,7 @@ use crate::decode::decode;
 use crate::differences::{compare, ENTRY};
 use crate::display::walk as walk_display;
 use crate::draw::{works, Work};
+use crate::index::{entries_of, ENTRY as ENTRY_NUMBERS};
 use crate::kinds::{commands, Command};
 use crate::repair::{least_plan, with_plan, without_syncs, REPAIR_LIMIT, WORK_BYTES};
 use crate::texture::TEXTURE_BYTES;
@@ -23,6 +25,7 @@ pub fn calls(rng: &mut Rng, case: u64, list: &[u8]) -> Vec<Call> {
     let place = rng.below(list.len() as u64 / 8 + 1) as usize;
     let tail = &list[place * WORD_BYTES..];
     let [compare_call, rest_call] = pair_calls(rng, case, list);
+    let [build_call, ask_call, replace_call] = index_calls(rng, list);
     vec![
         check_call(rng, list),
         decode_call(rng, list),
@@ -37,6 +40,9 @@ pub fn calls(rng: &mut Rng, case: u64, list: &[u8]) -> Vec<Call> {
         afresh_call(rng, list),
         compare_call,
         rest_call,
+        build_call,
+        ask_call,
+        replace_call,
     ]
 }
 
@@ -271,4 +277,29 @@ fn numbers(rng: &mut Rng, needed: usize, entry: usize) -> usize {
         5 => 0,
         _ => needed,
     }
+}
+
+/// Entries built, a question, and a replacement. The last two are of lists of their own.
+fn index_calls(rng: &mut Rng, list: &[u8]) -> [Call; 3] {
+    let [built, asked, replaced] = [(); 3].map(|()| Index::random(rng, list));
+    let new = replaced.replacement(rng);
+    let needed = ENTRY_NUMBERS * entries_of(&built.list).len();
+    let count = numbers(rng, needed, ENTRY_NUMBERS);
+    let call = |rng: &mut Rng, function, index: &Index| Call {
+        list: Lent::of(rng, &index.list),
+        entries: Lent::of_numbers(rng, &index.entries),
+        place: index.place,
+        ..Call::of(function)
+    };
+    [
+        Call {
+            entries: Lent::random_numbers(rng, count),
+            ..call(rng, Function::IndexBuild, &built)
+        },
+        call(rng, Function::IndexAsk, &asked),
+        Call {
+            second: Lent::of(rng, &new),
+            ..call(rng, Function::IndexReplace, &replaced)
+        },
+    ]
 }

@@ -49,6 +49,9 @@ pub fn possible(function: Function) -> &'static [u8] {
         Function::Words | Function::Step => &[0],
         Function::Stream => &[0, 1, 2, 3, 4, 5, 6, 7, 8, 9, 19, 28],
         Function::Compare | Function::Rest => &[0, 1, 2, 3, 14],
+        Function::IndexBuild => &[0, 1, 2, 3, 14],
+        Function::IndexAsk => &[0, 1, 2, 3, 24, 26],
+        Function::IndexReplace => &[0, 1, 2, 3, 14, 24, 25, 26],
         Function::Translate => &[0, 14, 20, 21, 22, 23],
     }
 }

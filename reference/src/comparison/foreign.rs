@@ -17,6 +17,10 @@ pub type Close = unsafe extern "C" fn(*mut Record) -> u64;
 pub type Translate = unsafe extern "C" fn(*const u8, usize, u32, *mut u8, usize) -> u64;
 pub type Compare = unsafe extern "C" fn(*const u8, usize, *const u8, usize, *mut u32, usize) -> u64;
 pub type Rest = unsafe extern "C" fn(*const u8, usize, *const u8, usize, usize) -> u64;
+pub type IndexBuild = unsafe extern "C" fn(*const u8, usize, *mut u32, usize) -> u64;
+pub type IndexAsk = unsafe extern "C" fn(*const u8, usize, *const u32, usize, u32) -> u64;
+pub type IndexReplace =
+    unsafe extern "C" fn(*mut u8, usize, *mut u32, usize, u32, *const u8, usize) -> u64;
 
 /// Functions that ask of their pointers only that each lends as much as the
 /// length after it says.
@@ -35,6 +39,9 @@ pub struct Foreign {
     pub repair_afresh: Option<Repair>,
     pub compare: Option<Compare>,
     pub rest: Option<Rest>,
+    pub index_build: Option<IndexBuild>,
+    pub index_ask: Option<IndexAsk>,
+    pub index_replace: Option<IndexReplace>,
 }
 
 /// Declares functions of C by their names, and gives them as a `Foreign`: check,
@@ -46,7 +53,8 @@ macro_rules! foreign {
         $check:ident, $repair:ident, $draw:ident, $feed:ident, $close:ident
         $(
             , $decode:ident, $encode:ident, $words:ident, $step:ident, $translate:ident,
-            $repair_afresh:ident, $compare:ident, $rest:ident
+            $repair_afresh:ident, $compare:ident, $rest:ident, $index_build:ident,
+            $index_ask:ident, $index_replace:ident
         )?
     ) => {{
         extern "C" {
@@ -122,6 +130,28 @@ macro_rules! foreign {
                     second_length: usize,
                     count: usize,
                 ) -> u64;
+                fn $index_build(
+                    list: *const u8,
+                    list_length: usize,
+                    entries: *mut u32,
+                    count: usize,
+                ) -> u64;
+                fn $index_ask(
+                    list: *const u8,
+                    list_length: usize,
+                    entries: *const u32,
+                    count: usize,
+                    place: u32,
+                ) -> u64;
+                fn $index_replace(
+                    list: *mut u8,
+                    list_length: usize,
+                    entries: *mut u32,
+                    count: usize,
+                    place: u32,
+                    new: *const u8,
+                    new_length: usize,
+                ) -> u64;
             )?
         }
         $crate::comparison::foreign::Foreign {
@@ -138,6 +168,9 @@ macro_rules! foreign {
             repair_afresh: $crate::foreign!($($repair_afresh)?),
             compare: $crate::foreign!($($compare)?),
             rest: $crate::foreign!($($rest)?),
+            index_build: $crate::foreign!($($index_build)?),
+            index_ask: $crate::foreign!($($index_ask)?),
+            index_replace: $crate::foreign!($($index_replace)?),
         }
     }};
     () => { None };
@@ -259,5 +292,31 @@ impl Side for Foreign {
         let (first, first_length) = (first.as_ptr(), first.len());
         let (second, second_length) = (second.as_ptr(), second.len());
         unsafe { rest(first, first_length, second, second_length, count) }
+    }
+
+    fn index_build(&self, list: &[u8], entries: &mut [u32]) -> u64 {
+        let Some(build) = self.index_build else {
+            return packed::index_build(list, entries);
+        };
+        let (entries, count) = (entries.as_mut_ptr(), entries.len());
+        unsafe { build(list.as_ptr(), list.len(), entries, count) }
+    }
+
+    fn index_ask(&self, list: &[u8], entries: &[u32], place: u32) -> u64 {
+        let Some(ask) = self.index_ask else {
+            return packed::index_ask(list, entries, place);
+        };
+        let (entries, count) = (entries.as_ptr(), entries.len());
+        unsafe { ask(list.as_ptr(), list.len(), entries, count, place) }
+    }
+
+    fn index_replace(&self, list: &mut [u8], entries: &mut [u32], place: u32, new: &[u8]) -> u64 {
+        let Some(replace) = self.index_replace else {
+            return packed::index_replace(list, entries, place, new);
+        };
+        let (list, list_length) = (list.as_mut_ptr(), list.len());
+        let (entries, count) = (entries.as_mut_ptr(), entries.len());
+        let (new, new_length) = (new.as_ptr(), new.len());
+        unsafe { replace(list, list_length, entries, count, place, new, new_length) }
     }
 }

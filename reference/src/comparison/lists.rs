@@ -152,7 +152,7 @@ fn mixed_number(rng: &mut Rng) -> u8 {
 
 /// One command number that leaves modes and image alone: draws, loads and
 /// attributes often.
-fn settled_number(rng: &mut Rng) -> u8 {
+pub fn settled_number(rng: &mut Rng) -> u8 {
     match rng.below(23) {
         0..=2 => 0x36,
         3 => rng.between(0x24, 0x25) as u8,

@@ -8,6 +8,7 @@ pub mod counts;
 pub mod displays;
 pub mod encodings;
 pub mod foreign;
+pub mod indices;
 pub mod laws;
 pub mod lent;
 pub mod lists;

@@ -19,6 +19,9 @@ pub trait Side {
     fn repair_afresh(&self, list: &[u8], work: &mut [u8], out: &mut [u8]) -> u64;
     fn compare(&self, first: &[u8], second: &[u8], entries: &mut [u32]) -> u64;
     fn rest(&self, first: &[u8], second: &[u8], count: usize) -> u64;
+    fn index_build(&self, list: &[u8], entries: &mut [u32]) -> u64;
+    fn index_ask(&self, list: &[u8], entries: &[u32], place: u32) -> u64;
+    fn index_replace(&self, list: &mut [u8], entries: &mut [u32], place: u32, new: &[u8]) -> u64;
 }
 
 /// This crate.
@@ -75,5 +78,17 @@ impl Side for Reference {
 
     fn rest(&self, first: &[u8], second: &[u8], count: usize) -> u64 {
         packed::rest(first, second, count)
+    }
+
+    fn index_build(&self, list: &[u8], entries: &mut [u32]) -> u64 {
+        packed::index_build(list, entries)
+    }
+
+    fn index_ask(&self, list: &[u8], entries: &[u32], place: u32) -> u64 {
+        packed::index_ask(list, entries, place)
+    }
+
+    fn index_replace(&self, list: &mut [u8], entries: &mut [u32], place: u32, new: &[u8]) -> u64 {
+        packed::index_replace(list, entries, place, new)
     }
 }

@@ -72,16 +72,19 @@ impl Textures {
         builder.command(0x32, &fields);
     }
 
-    /// A Load Tile, before it what it needs and lacks.
+    /// A Load Tile or a Load Block, before it what it needs and lacks.
     pub fn load(&self, builder: &mut Builder) {
         if builder.registers.texture_image().is_none() && !builder.rng.one_in(30) {
             self.image(builder);
         }
         let tile = self.usable_tile(builder, is_loadable);
-        let rng = &mut *builder.rng;
-        let (left, top) = (upper_left(rng), upper_left(rng));
-        let (right, bottom) = (lower_right(rng, left), lower_right(rng, top));
-        builder.command(0x34, &[left, top, tile, right, bottom]);
+        if builder.rng.one_in(3) {
+            let [left, top, right, dxt] = block(builder.rng);
+            builder.command(0x33, &[left, top, tile, right, dxt]);
+        } else {
+            let [left, top, right, bottom] = corners(builder.rng);
+            builder.command(0x34, &[left, top, tile, right, bottom]);
+        }
     }
 
     /// The tile for a command: most often a usable one, which may have to be set first.
@@ -149,6 +152,44 @@ fn upper_left(rng: &mut Rng) -> u64 {
     let whole = 4 * rng.below(8);
     let fraction = if rng.one_in(16) { rng.below(4) } else { 0 };
     whole + fraction
+}
+
+/// The upper left and the lower right of a Load Tile.
+fn corners(rng: &mut Rng) -> [u64; 4] {
+    let (left, top) = (upper_left(rng), upper_left(rng));
+    [left, top, lower_right(rng, left), lower_right(rng, top)]
+}
+
+/// The first texel and its row, the last texel and dxt of a Load Block. The first texel
+/// and its row stay the tile's upper left, so most of them are multiples of 4.
+fn block(rng: &mut Rng) -> [u64; 4] {
+    let last = 4_095 - rng.below(3);
+    let left = match rng.below(30) {
+        0 => last,
+        1 => rng.below(40),
+        _ => 4 * rng.below(6),
+    };
+    let top = rng.pick(&[0, 0, 4, 8]);
+    let texels = block_texels(rng);
+    let right = (left + texels).saturating_sub(1).min(4_095);
+    [left, top, right, dxt(rng)]
+}
+
+/// Most often few texels, seldom none, and now and then about as many as are allowed.
+fn block_texels(rng: &mut Rng) -> u64 {
+    match rng.below(40) {
+        0 => 0,
+        1 => rng.between(2_046, 2_049),
+        2 => rng.between(1, 2_048),
+        _ => rng.between(1, 80),
+    }
+}
+
+/// A new line after some words, or any.
+fn dxt(rng: &mut Rng) -> u64 {
+    let words = rng.between(1, 8);
+    let any = rng.below(4_096);
+    rng.pick(&[0, 2_048 / words, 2_048 / words, 2_048 / words, any, any])
 }
 
 /// The end of a load, seldom below its start.

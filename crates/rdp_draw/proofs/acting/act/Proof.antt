@@ -1,7 +1,7 @@
 -- `rdp_draw::acting::act` meets its contract. Assumes nothing.
 use borrow.Author.Needs.{needs}
 use denote.Ref.{now}
-use Rattle.rdp_draw.proofs.DrawLaws.{fill-left, copy-left, load-left}
+use Rattle.rdp_draw.proofs.DrawLaws.{fill-left, copy-left, load-left, block-left}
 use Rattle.rdp_draw.proofs.acting.act.Statement.{statement}
 use Rattle.rdp_draw.proofs.acting.act.Tie as tie
 
@@ -59,14 +59,33 @@ same-length-5 c = search needs
 
 returns-3 : tie.Need-returns-3
 returns-3 c =
-    let b = c .before .before .before in
-    let d = b .before .before .before in
-    let e = d .before .before in
-    let g = e .before .before .before .before .before in
-    let a = g .args in
-    let p = g .pre in
-    load-left (a .start) (now (a .memory)) (now (a .texture)) (a .file .now) (a .list .now) (a .at .place) (a .at .number) (p .1) (p .0 .1) (e .if1 .left)
-    (d .if2 .left) _ (b .load-at .ensures) _ (c .before .before .load-tile .ensures .1)
+    let b = c .before .before .before .before .before in
+    let d = b .before .before in
+    let e = d .before .before .before .before .before .before .before .before in
+    let a = e .args in
+    let p = e .pre in
+    load-left (a .start) (now (a .memory)) (now (a .texture)) (a .file .now) (a .list .now) (a .at .place) (a .at .number) (p .1) (p .0 .1) _
+    (d .load-at .ensures) (b .if3 .taken) _ (c .before .before .load-tile .ensures .1)
+
+load-block-requires : tie.Need-load-block-requires
+load-block-requires c κs = search needs
+
+same-length-6 : tie.Need-same-length-6
+same-length-6 c = search needs
+
+same-length-7 : tie.Need-same-length-7
+same-length-7 c = search needs
+
+returns-4 : tie.Need-returns-4
+returns-4 c =
+    let b = c .before .before .before .before .before in
+    let d = b .before .before in
+    let g = d .before in
+    let e = g .before .before .before .before .before .before .before in
+    let a = e .args in
+    let p = e .pre in
+    block-left (a .start) (now (a .memory)) (now (a .texture)) (a .file .now) (a .list .now) (a .at .place) (a .at .number) (p .1) (p .0 .1) _
+    (d .load-at .ensures) (g .before .before .if1 .left) (g .if2 .left) (b .if3 .left) _ (c .before .before .load-block .ensures .1)
 
 pub act-spec : {M : Type 1} → statement M
 act-spec =
@@ -85,4 +104,8 @@ act-spec =
     load-tile-requires
     same-length-4
     same-length-5
-    returns-3)
+    returns-3
+    load-block-requires
+    same-length-6
+    same-length-7
+    returns-4)

@@ -1,6 +1,6 @@
 -- `rdp_draw::refusals::refusal_at` meets its contract: a line for each number. Assumes nothing.
 use borrow.Author.Needs.{needs}
-use Rattle.rdp_draw.proofs.DrawLaws.{refusal-fill, refusal-copy, refusal-load, refusal-17, refusal-10}
+use Rattle.rdp_draw.proofs.DrawLaws.{refusal-fill, refusal-copy, refusal-load, refusal-block, refusal-17, refusal-10}
 use Rattle.rdp_draw.proofs.refusals.refusal_at.Statement.{statement}
 use Rattle.rdp_draw.proofs.refusals.refusal_at.Tie as tie
 
@@ -43,23 +43,32 @@ returns-3 c =
     refusal-load (a .start) (a .len) (a .file .now) (a .list .now) (a .at .place) (a .at .number) (c .before .before .if3 .taken) _ _
     (c .before .load-at .ensures) (c .load-refusal .ensures)
 
+load-at-requires-2 : tie.Need-load-at-requires-2
+load-at-requires-2 c κs = search needs
+
+block-refusal-requires : tie.Need-block-refusal-requires
+block-refusal-requires c κs = search needs
+
 returns-4 : tie.Need-returns-4
 returns-4 c =
-    let b = c .before .before .before in
-    let d = b .before .before in
-    let e = d .before .before in
-    let g = e .before .before .before in
-    let a = g .args in
-    refusal-17 (a .start) (a .len) (a .file .now) (a .list .now) (a .at .place) (a .at .number) (e .if1 .left) (d .if2 .left) (b .if3 .left) (c .if4 .taken)
+    let a = c .before .before .before .before .before .before .before .before .before .before .before .args in
+    refusal-block (a .start) (a .len) (a .file .now) (a .list .now) (a .at .place) (a .at .number) (c .before .before .if4 .taken) _ _
+    (c .before .load-at2 .ensures) (c .block-refusal .ensures)
 
 returns-5 : tie.Need-returns-5
 returns-5 c =
-    let b = c .before .before .before in
+    let a = c .before .before .before .before .before .before .before .before .before .before .before .args in
+    refusal-17 (a .start) (a .len) (a .file .now) (a .list .now) (a .at .place) (a .at .number) (c .if5 .taken)
+
+returns-6 : tie.Need-returns-6
+returns-6 c =
+    let b = c .before .before in
     let d = b .before .before in
     let e = d .before .before in
-    let g = e .before .before .before in
-    let a = g .args in
-    refusal-10 (a .start) (a .len) (a .file .now) (a .list .now) (a .at .place) (a .at .number) (e .if1 .left) (d .if2 .left) (b .if3 .left) (c .if4 .left)
+    let g = e .before .before in
+    let a = g .before .before .before .args in
+    refusal-10 (a .start) (a .len) (a .file .now) (a .list .now) (a .at .place) (a .at .number) (g .if1 .left) (e .if2 .left) (d .if3 .left) (b .if4 .left)
+    (c .if5 .left)
 
 pub refusal-at-spec : {M : Type 1} → statement M
 refusal-at-spec =
@@ -74,5 +83,8 @@ refusal-at-spec =
     load-at-requires
     load-refusal-requires
     returns-3
+    load-at-requires-2
+    block-refusal-requires
     returns-4
-    returns-5)
+    returns-5
+    returns-6)

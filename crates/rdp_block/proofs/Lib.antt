@@ -1,0 +1,5 @@
+pub mod StripLaws
+pub mod WordLaws
+pub mod LineLaws
+pub mod EndLaws
+pub mod BlockLaws

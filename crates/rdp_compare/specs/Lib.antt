@@ -1,0 +1,6 @@
+pub mod Differing
+pub mod Entries
+pub mod Part
+pub mod Same
+pub mod Steps
+pub mod Examples
