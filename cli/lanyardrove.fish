@@ -1,6 +1,8 @@
 # fish completion for lanyardrove
 
-set -l lists check repair dump draw report diff edit
+set -l lists check repair dump draw report diff edit lint
+set -l warnings fill-texture depth-image combine-mode texture-memory sync-full data-run swapped all
+set -l named no-$warnings $warnings
 set -l commands $lists translate asm
 
 complete -c lanyardrove -n "not __fish_seen_subcommand_from $commands help" -f
@@ -15,7 +17,9 @@ complete -c lanyardrove -n "__fish_seen_subcommand_from diff" -l format -x -a "t
 complete -c lanyardrove -n "__fish_seen_subcommand_from check" -s v -l verbose -d "the cycles waited too"
 complete -c lanyardrove -n "__fish_seen_subcommand_from check" -l failures -d "leave out accepted lists"
 complete -c lanyardrove -n "__fish_seen_subcommand_from check" -l all -d "every missing sync"
-complete -c lanyardrove -n "__fish_seen_subcommand_from check" -l format -x -a "text gcc github json sarif"
+complete -c lanyardrove -n "__fish_seen_subcommand_from check lint" -l format -x -a "text gcc github json sarif"
+
+complete -c lanyardrove -n "__fish_seen_subcommand_from lint" -s W -l warn -x -a "$named" -d "leave a warning out"
 
 complete -c lanyardrove -n "__fish_seen_subcommand_from repair" -l afresh -d "choose all syncs afresh"
 complete -c lanyardrove -n "__fish_seen_subcommand_from repair" -l check -d "write nothing"
@@ -34,7 +38,7 @@ complete -c lanyardrove -n "__fish_seen_subcommand_from draw" -l image -x
 
 complete -c lanyardrove -n "__fish_seen_subcommand_from repair draw report diff translate edit asm" -s o -l output -r -F
 
-complete -c lanyardrove -n "__fish_seen_subcommand_from check dump draw report" -l f3dex2 -x
+complete -c lanyardrove -n "__fish_seen_subcommand_from check dump draw report lint" -l f3dex2 -x
 complete -c lanyardrove -n "__fish_seen_subcommand_from $lists" -l offset -x
 complete -c lanyardrove -n "__fish_seen_subcommand_from $lists" -l length -x
 complete -c lanyardrove -n "__fish_seen_subcommand_from $lists" -l swap -d "little-endian words"

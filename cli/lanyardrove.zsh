@@ -3,8 +3,8 @@
 
 _lanyardrove()
 {
-    local -a commands input options memory display
-    commands=(check repair dump draw report diff translate edit asm)
+    local -a commands input options memory display warnings
+    commands=(check repair dump draw report diff translate edit asm lint)
     input=('--offset=:byte:' '--length=:bytes:' --swap --hex -h --help '*:list:_files')
     display='--f3dex2=:offset:'
     memory=($display '--memory=:memory:{compadd 64K 1M 4M 8M; _files}' '--start=:address:' '--texture=:texture:_files')
@@ -23,6 +23,9 @@ _lanyardrove()
         options=('--start=:offset:' '-o:output:_files' '--output=:output:_files')
         input=(-h --help '*:memory:_files') ;;
     edit) options=(-i --in-place '-o:output:_files' '--output=:output:_files') ;;
+    lint)
+        warnings=(fill-texture depth-image combine-mode texture-memory sync-full data-run swapped all)
+        options=($display '--format=:form:(text gcc github json sarif)' "-W:warning:(${warnings/#/no-} $warnings)" "--warn=:warning:(${warnings/#/no-} $warnings)") ;;
     asm)
         options=('-o:output:_files' '--output=:output:_files')
         input=(-h --help '*:text:_files') ;;

@@ -67,7 +67,13 @@ static const Entry entries[] = {
       "out, and of a triangle the words after them. Spaces, lines and commas separate,\n"
       "# begins a comment. Errors are told as compilers do, FILE:LINE:COLUMN: error:,\n"
       "and nothing is written then: status 1. Without -o the list goes to standard\n"
-      "output." }
+      "output." },
+    { OF_LINT, "lint", run_lint, 1, INT_MAX, "list",
+      "lint [OPTION].. FILE..\n"
+      "Warns of what the check does not say, and may still go wrong on a console.\n"
+      "Warnings are no verdict, and nothing proves them: check says whether a list is\n"
+      "accepted. Each has a name, and can be left out. Exit status: 0 where there is\n"
+      "no warning, 1 where there is one, 2 where a list cannot be read to its end." }
 };
 
 static void print_version(void)

@@ -37,6 +37,18 @@ static bool set_format(void *member, const char *value)
     return *format != NULL;
 }
 
+static bool set_lint_format(void *member, const char *value)
+{
+    const struct LintFormat **format = member;
+    *format = lint_format_of(value);
+    return *format != NULL;
+}
+
+static bool set_warning(void *member, const char *value)
+{
+    return take_warning(value, member);
+}
+
 /* Text is what diff tells if nothing is said. */
 static bool set_json(void *member, const char *value)
 {
@@ -92,6 +104,13 @@ static const Option options[] = {
     { OF_CHECK, "format", 0, "FORM", set_format, offsetof(Arguments, format), "one of text, gcc, github, json and sarif",
       "how lists are told: text, gcc (as compilers do), github\n"
       "(annotations), json or sarif" },
+    { OF_LINT, "format", 0, "FORM", set_lint_format, offsetof(Arguments, lint_format), "one of text, gcc, github, json and sarif",
+      "how warnings are told: text, gcc (as compilers do), github\n"
+      "(annotations), json or sarif" },
+    { OF_LINT, "warn", 'W', "[no-]NAME", set_warning, offsetof(Arguments, silenced), "a warning or all, or no- before it",
+      "leave a warning out, such as -Wno-sync-full, or take it in\n"
+      "again: fill-texture, depth-image, combine-mode,\n"
+      "texture-memory, sync-full, data-run, swapped, or all" },
     { OF_DIFF, "quiet", 'q', FLAG(quiet), "count what differs, and tell no more" },
     { OF_DIFF, "format", 0, "FORM", set_json, offsetof(Arguments, json), "one of text and json", "how it is told: text or json" },
     { OF_DUMP, "brief", 0, FLAG(brief), "leave out the fields that are 0" },
@@ -135,7 +154,7 @@ static const Option options[] = {
     { OF_LISTS, "length", 0, NUMBER("BYTES", input.length), "the list's length; to the end of the file if not given" },
     { OF_LISTS, "swap", 0, FLAG(input.swap), "the file has its words least significant byte first" },
     { OF_LISTS, "hex", 0, FLAG(input.hex), "the file is text, of hexadecimal digits" },
-    { OF_CHECK | OF_DUMP | OF_DRAW | OF_REPORT, "f3dex2", 0, DISPLAY,
+    { OF_CHECK | OF_DUMP | OF_DRAW | OF_REPORT | OF_LINT, "f3dex2", 0, DISPLAY,
       "the file is memory, and the list the one that the display\n"
       "list at this offset stands for, as translate writes it" },
     { OF_ALL, "help", 'h', FLAG(help), "print this" }
