@@ -308,6 +308,27 @@ uint64_t lanyardrove_encode(uint32_t number,
                             const uint8_t *suffix, size_t suffix_length,
                             uint8_t *out, size_t out_length);
 
+/* Compares two lists, command by command from the first: writes four numbers to entries for each pair of commands that differ
+   in number or in a field, in their order: the place in the first list, the place in the second, and 64 bits, the high half
+   first. Bits of a command that belong to no field do not count.
+   Where the numbers differ, the 64 bits are zero. Else the bit of each field that differs is set: that of its index below,
+   but of Set Other Modes 1 higher from LANYARDROVE_OTHER_MODES_CYCLE_TYPE on, 2 from .._BL_M1A_0 and 3 from .._FORCE_BLEND, since
+   three bit lines there have an index and no name. A triangle's suffix, all that follows its first four words, is one field
+   more, bit LANYARDROVE_TRIANGLE_FIELDS.
+   Answers 0 and the numbers written as the place; or the first of refusals 1, 2 and 3 of the first list, then of the second, at
+   its place in that list; and then 14 at the numbers needed where count is too small. 16,384 numbers always suffice.
+   Numbers beyond those written are not touched. Commands that only one list has are the rest, which lanyardrove_rest finds. */
+uint64_t lanyardrove_compare(const uint8_t *first, size_t first_length,
+                             const uint8_t *second, size_t second_length, uint32_t *entries, size_t count);
+
+/* The rest of the list that has more commands than the other: from its first command without a partner to its end.
+   The number is that of lanyardrove_compare of the same lists with room for as many numbers as count says. lanyardrove_list is
+   the list, 0 for the first and 1 for the second, and the place is the first byte of the rest in that list. With as many
+   commands in both lists, and at every refusal, also 14, it is the empty end of the first list: its length, where this is over
+   4,294,967,295 that number. */
+uint64_t lanyardrove_rest(const uint8_t *first, size_t first_length,
+                          const uint8_t *second, size_t second_length, size_t count);
+
 /* The numbers of commands; every other from 0 to 63 is unassigned: decoded and encoded as a command of one word without fields,
    and refused in lists by 19. Of a triangle's number bit 2 says that it has shade, bit 1 texture, bit 0 depth. */
 enum lanyardrove_command_number {

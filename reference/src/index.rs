@@ -60,19 +60,18 @@ fn judge_building(list: &[u8], room: usize) -> Result<(), Refusal> {
 pub fn ask(list: &[u8], entries: &[u32], place: u32) -> Result<Asked, Refusal> {
     length_test(list, CHECK_LIMIT)?;
     let asked = place as usize;
-    let start = start_of(list, entries, place);
+    let start = start_of(entries, place);
     let outcome = start.and_then(|(start, marks)| walk(list, start, marks, asked));
     outcome.map_err(|ground| Refusal::new(ground, asked))
 }
 
 /// Where a question starts: "the last entry whose place is not beyond the asked one", by
-/// its number. 26: "no such entry or that entry's marks not among the sixteen". An empty
-/// list has no entry, whatever is lent for its entries.
-fn start_of(list: &[u8], entries: &[u32], asked: u32) -> Result<(usize, Marks), Ground> {
+/// its number. 26: "no such entry or that entry's marks not among the sixteen".
+fn start_of(entries: &[u32], asked: u32) -> Result<(usize, Marks), Ground> {
     let not_beyond = |entry: &&[u32]| entry[0] <= asked;
     let last = entries.chunks_exact(ENTRY).filter(not_beyond).last();
     match last {
-        Some(entry) if entry[1] <= MOST_MARKS && !list.is_empty() => {
+        Some(entry) if entry[1] <= MOST_MARKS => {
             Ok((entry[0] as usize, Marks::of_sum(entry[1])))
         }
         _ => Err(Ground::NoEntry),
@@ -105,7 +104,8 @@ fn walk(list: &[u8], start: usize, marks: Marks, asked: usize) -> Result<Asked, 
 
 /// Replaces the command at a place, and renews the entries after it. "Replacement refuses
 /// first as building does, then as a question; then 3, new command cut; 25, lengths
-/// differ."
+/// differ." Entries of another list may lead a question into a command: where no command
+/// of this one starts, 24 (our reading).
 pub fn replace(
     list: &mut [u8],
     entries: &mut [u32],
@@ -116,6 +116,9 @@ pub fn replace(
     ask(list, entries, place)?;
     let asked = place as usize;
     let refused = |ground| Refusal::new(ground, asked);
+    if !starts_at(list, asked) {
+        return Err(refused(Ground::NothingStartsThere));
+    }
     let new_command = decode(new).map_err(|_| refused(Ground::CutCommand))?;
     let count = words(new_command.number);
     if count != words_from(word_at(list, asked)) {
@@ -125,6 +128,15 @@ pub fn replace(
     list[bytes].copy_from_slice(&new[..WORD_BYTES * count]);
     renew(list, entries, place);
     Ok(())
+}
+
+/// Whether a command starts at a place, from the first command on.
+fn starts_at(list: &[u8], place: usize) -> bool {
+    let mut at = 0;
+    while at < place {
+        at += words_from(word_at(list, at));
+    }
+    at == place
 }
 
 /// "Afterwards all later entries equal those built from nothing, and entries up to that

@@ -165,6 +165,8 @@ static void null_pointers(void) {
     ANSWERS(lanyardrove_index_replace(NULL, 0, NULL, 0, 7, NULL, 0), 26, 0, 7);
     ANSWERS(lanyardrove_translate(NULL, 0, 0, NULL, 0), 20, 0, 0);
     ANSWERS(lanyardrove_translate(NULL, 0, UINT32_MAX, NULL, 0), 20, 0, UINT32_MAX);
+    ANSWERS(lanyardrove_compare(NULL, 0, NULL, 0, NULL, 0), 0, 0, 0);
+    ANSWERS(lanyardrove_rest(NULL, 0, NULL, 0, 0), 0, 0, 0);
     ANSWERS(lanyardrove_decode(NULL, 0, NULL, 0), 3, 0, 0);
     ANSWERS(lanyardrove_encode(0, NULL, 0, NULL, 0, NULL, 0), 14, 0, 1);
     ANSWERS(lanyardrove_encode(64, NULL, 0, NULL, 0, NULL, 0), 15, 0, 0);

@@ -18,7 +18,7 @@ use Rattle.rdp_words.proofs.OverwriteLaws.{length-overwrite, pasted-after}
 use Rattle.rdp_words.proofs.Tests.{by-test}
 use Rattle.rdp_words.proofs.PlaceLaws.{some-words}
 use Rattle.rdp_check.specs.Commands.{commandsOf, restOf, wordsIn}
-use Rattle.rdp_check.specs.Work.{WrittenIs}
+use Rattle.rdp_compare.specs.Steps.{WrittenIs}
 use Rattle.rdp_check.proofs.ListLaws.{commands-at, command-number, rest-at, rest-past}
 use Rattle.rdp_check.proofs.JoinLaws.{parsed, count-joined, words-inside}
 use Rattle.rdp_compare.specs.Entries.{differ, entryWith, entryOf, entriesFrom, entriesOf, compareAnswer}

@@ -1,10 +1,11 @@
 -- What the comparison carries on its way. No public contract cites this.
-use Prim.Native.Nat.{ℕ, _*_, _≤_}
+use Prim.Native.Nat.{ℕ, _+_, _*_, _≤_}
 use mathlib.Core.Bool.{cond}
 use mathlib.Core.Path.{_≡_}
 use mathlib.Core.List.{List, []}
 use lib.Dec.{ltb}
 use lib.ListN.{length, take, drop}
+use Rattle.rdp_words.specs.Words.{pasted}
 use Rattle.rdp_words.specs.Kinds.{wordsOf}
 use Rattle.rdp_words.specs.Lengths.{firstNumber}
 use Rattle.rdp_check.specs.Commands.{restOf}
@@ -47,3 +48,8 @@ pub record PairedIs (first : List ℕ) (n : ℕ) (second : List ℕ) (m : ℕ) (
   pub one : r .a ≤ n
   pub two : r .b ≤ m
   pub rest : cond (ltb (r .a) n) (inFirst 0 (8 * r .a)) (cond (ltb (r .b) m) (inSecond (8 * r .b)) (inFirst 0 (length first))) ≡ longerIn first second
+
+-- numbers written to an index, and the index after them
+pub record WrittenIs (numbers : List ℕ) (at next : ℕ) (out out′ : List ℕ) : Type 0 where
+  pub after : next ≡ at + length numbers
+  pub output : out′ ≡ pasted at numbers out

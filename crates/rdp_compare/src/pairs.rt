@@ -6,7 +6,7 @@ ghost use Prim.Native.Nat.{_+_, _*_, _/_, _%_, _^_, _≤_};
 ghost use lib.Dec.{ltb};
 ghost use lib.ListN.{length};
 ghost use Rattle.rdp_words.specs.Words.{overwrite, pasted};
-ghost use Rattle.rdp_check.specs.Work.{WrittenIs};
+ghost use Rattle.rdp_compare.specs.Steps.{WrittenIs};
 ghost use Rattle.rdp_compare.specs.Entries.{entryWith, entriesOf};
 ghost use Rattle.rdp_compare.specs.Part.{inFirst, inSecond};
 ghost use Rattle.rdp_compare.specs.Steps.{Sound, wordsFrom, OneCommand, DifferenceIs, PairedIs};

@@ -13,7 +13,7 @@ view-requires : tie.Need-view-requires
 view-requires c κs = search needs
 
 answers : (c : tie.After-view) →
-    let s = c .before .before .before .args in
+    let s = c .before .before .before .before .args in
     plain (c .view .result) ≡ viewReply (s .start) (length (s .memory .now)) (imageAt (s .address) (s .width) (s .height) (s .size)) (length (s .out .now))
 answers c = ap plain (c .view .ensures .0)
 
