@@ -286,7 +286,7 @@ bool take_image(const char *text, Image *image);
 
 typedef struct {
     const char *command;
-    char **paths; /* the lists, the memory to translate, or the text of a list; of edit the list, a place and words */
+    char **paths; /* the lists, the memory to translate, or the text of a list; of edit the list, a place and a command */
     int count;
     Input input;
     const char *output; /* NULL where -o is not given */

@@ -54,9 +54,10 @@ static const Entry entries[] = {
       "and what it means: number 0 and the words written, or the first refusal and\n"
       "the offset of its command. Nothing is written at a refusal." },
     { OF_EDIT, "edit", run_edit, 1, INT_MAX, "list",
-      "edit FILE PLACE WORD.. [-o OUT|--in-place]\n"
-      "Replaces the command at a place by another that has as many words, each given\n"
-      "with sixteen hexadecimal digits. Prints 'number place' and what it means, the\n"
+      "edit FILE PLACE COMMAND.. [-o OUT|--in-place]\n"
+      "Replaces the command at a place by another that has as many words. It is given\n"
+      "as words of sixteen hexadecimal digits, or as 'dump --asm' prints it, such as\n"
+      "set_fill_color color=0x10001. Prints 'number place' and what it means, the\n"
       "hazards before the command, and what check says of the new list. Without -o\n"
       "and --in-place the list goes to standard output and the text to standard error.\n"
       "Nothing is written where the replacement is refused." },
