@@ -15,6 +15,7 @@ enum {
     SET_SCISSOR = 0x2D,
     SET_OTHER_MODES = 0x2F,
     SET_TILE_SIZE = 0x32,
+    LOAD_BLOCK = 0x33,
     LOAD_TILE = 0x34,
     SET_TILE = 0x35,
     FILL_RECTANGLE = 0x36,
@@ -55,7 +56,7 @@ static bool is_textured(unsigned number)
 
 static bool is_load(unsigned number)
 {
-    return number == 0x30 || number == 0x33 || number == LOAD_TILE;
+    return number == 0x30 || number == LOAD_BLOCK || number == LOAD_TILE;
 }
 
 static bool is_attribute(unsigned number)
@@ -201,6 +202,7 @@ static inline void run_texture(struct textures *set, unsigned number, const uint
     unsigned tile = command[4] & 7;
     switch (number) {
     case SET_TILE_SIZE:
+    case LOAD_BLOCK:
     case LOAD_TILE:
         set->sizes[tile] = word_at(command);
         break;
@@ -397,11 +399,43 @@ static bool is_copyable(const uint8_t *command, const struct registers *set, con
            !bits(set->modes, 51, 51) && !bits(set->modes, 47, 47) && !bits(set->modes, 0, 0);
 }
 
+/* The texels of a Load Block, which lie in one piece. */
+struct block {
+    struct area area;
+    uint64_t byte;
+    uint64_t texels;
+    uint64_t dxt;
+};
+
+static struct block block_of(uint64_t load, const struct textures *textures)
+{
+    uint64_t width = bits(textures->image, 41, 32) + 1, first = bits(load, 55, 44), end = bits(load, 23, 12) + 1;
+    uint64_t texels = end < first ? 0 : end - first;
+    return (struct block){
+        .area = {.first = bits(textures->image, 23, 0) + 2 * (bits(load, 43, 32) * width + first), .row_bytes = 2 * texels, .stride = 0, .rows = 1},
+        .byte = 8 * bits(textures->tiles[bits(load, 26, 24)], 40, 32),
+        .texels = texels,
+        .dxt = bits(load, 11, 0),
+    };
+}
+
+static unsigned block_refusal(struct block block, const struct memory *memory)
+{
+    if (block.texels == 0 || block.texels > 2048)
+        return 17;
+    if (!is_inside(block.area, memory))
+        return 12;
+    return block.byte + 2 * block.texels > TEXTURE_BYTES ? 18 : 0;
+}
+
 /* Refusals 17, 12 and 18 of a load, or 0. */
 static unsigned load_refusal(const uint8_t *command, const struct textures *textures, const struct memory *memory)
 {
-    if (number_at(command) != LOAD_TILE || !is_16_bit_rgba(textures->image) || !is_16_bit_rgba(textures->tiles[command[4] & 7]))
+    unsigned number = number_at(command);
+    if (number == 0x30 || !is_16_bit_rgba(textures->image) || !is_16_bit_rgba(textures->tiles[command[4] & 7]))
         return 17;
+    if (number == LOAD_BLOCK)
+        return block_refusal(block_of(word_at(command), textures), memory);
     struct texels texels = loaded_texels(word_at(command), textures);
     return texels_refusal(&texels, memory);
 }
@@ -706,6 +740,24 @@ static void load_texels(uint64_t load, const struct textures *textures, const st
     move_texels(&texels, memory, true);
 }
 
+/* A word of four texels at a time, with its halves changed in odd lines; then the texels that are left. */
+static void load_block(uint64_t load, const struct textures *textures, const struct memory *memory)
+{
+    struct block block = block_of(load, textures);
+    const uint8_t *linear = memory->bytes + (block.area.first - memory->start);
+    uint8_t *texture = memory->texture + block.byte;
+    for (uint64_t at = 0; at < block.texels / 4; at++) {
+        uint64_t word;
+        memcpy(&word, linear + 8 * at, 8);
+        if (at * block.dxt / 2048 % 2 != 0)
+            word = word << 32 | word >> 32;
+        memcpy(texture + 8 * at, &word, 8);
+    }
+    uint64_t turn = block.texels / 4 * block.dxt / 2048 % 2 != 0 ? 4 : 0;
+    for (uint64_t k = block.texels / 4 * 4; k < block.texels; k++)
+        memcpy(texture + (2 * k ^ turn), linear + 2 * k, 2);
+}
+
 static void copy_texels(const uint8_t *command, const struct registers *set, const struct textures *textures, const struct memory *memory)
 {
     struct texels texels = copied_texels(command, set, textures);
@@ -725,6 +777,8 @@ static void paint_list(const uint8_t *list, size_t words, const struct memory *m
             copy_texels(list, &set, &textures, memory);
         else if (number == LOAD_TILE)
             load_texels(word_at(list), &textures, memory);
+        else if (number == LOAD_BLOCK)
+            load_block(word_at(list), &textures, memory);
         run(&set, number, list);
         run_texture(&textures, number, list);
         list += 8 * words_in(number);

@@ -104,9 +104,9 @@ void print_answer(FILE *stream, const List *list, Answer answer, Purpose purpose
 
 /* What a load or a copy needs to be drawn, for a person who does not know the rule. */
 const char copy_needs[] =
-    "Load Tile needs a texture image and a tile that are set, both of 16-bit RGBA. Texture Rectangle in COPY mode needs such a tile, a "
-    "colour image of 16 bits, dsdx 4.00 and dtdy 1.00, s, t and the tile's upper left in whole texels, and no mask, shift, mirror, "
-    "perspective, look-up or alpha compare. Load TLUT and Load Block are not drawn.";
+    "Load Tile and Load Block need a texture image and a tile that are set, both of 16-bit RGBA, and Load Block 1 to 2,048 texels. "
+    "Texture Rectangle in COPY mode needs such a tile, a colour image of 16 bits, dsdx 4.00 and dtdy 1.00, s, t and the tile's upper "
+    "left in whole texels, and no mask, shift, mirror, perspective, look-up or alpha compare. Load TLUT is not drawn.";
 
 /* Why the check refuses, for a person who does not know the rule. */
 const char *reason_of(unsigned number)

@@ -3,7 +3,7 @@
 #include "lists.h"
 
 enum { MOST_TEXELS = 50000 };
-enum kind { FILL, COPY, LOAD_TILE };
+enum kind { FILL, COPY, LOAD_TILE, LOAD_BLOCK };
 
 // The word that last set each register, by its number, and of each tile; 0 where none has.
 struct registers {
@@ -18,6 +18,7 @@ struct act {
     uint64_t scissor;  // 0 for a load
     uint64_t address, width, bytes;
     int64_t row, column, line, tmem;
+    int64_t dxt;  // of a Load Block, whose texels are one row
     uint32_t colour;
 };
 
@@ -57,17 +58,25 @@ static unsigned draw_act(const struct registers *set, uint64_t word, uint64_t se
     return 0;
 }
 
+// The texels of a Load Block, in whole texels; 17 where they are none or too many.
+static unsigned block_act(uint64_t word, struct act *act) {
+    const int64_t first = bits(word, 55, 44), last = bits(word, 23, 12), row = bits(word, 43, 32);
+    if (last < first || last - first >= 2048) return 17;
+    act->kind = LOAD_BLOCK, act->left = first, act->right = last, act->top = act->bottom = row, act->dxt = bits(word, 11, 0);
+    return 0;
+}
+
 // What a load does, or 17.
 static unsigned load_act(const struct registers *set, uint64_t word, struct act *act) {
-    const uint64_t image = set->words[0x3D], tile = set->tiles[bits(word, 26, 24)];
-    if (bits(word, 61, 56) != 0x34 || !is_16_bit_rgba(image) || !is_16_bit_rgba(tile)) return 17;
+    const uint64_t image = set->words[0x3D], tile = set->tiles[bits(word, 26, 24)], number = bits(word, 61, 56);
+    if ((number != 0x34 && number != 0x33) || !is_16_bit_rgba(image) || !is_16_bit_rgba(tile)) return 17;
     *act = (struct act){.kind = LOAD_TILE,
                         .left = bits(word, 55, 46), .top = bits(word, 43, 34), .right = bits(word, 23, 14), .bottom = bits(word, 11, 2),
                         .address = bits(image, 23, 0), .width = bits(image, 41, 32) + 1, .bytes = 2,
                         .line = bits(tile, 49, 41), .tmem = bits(tile, 40, 32)};
     act->row = -act->top;
     act->column = -act->left;
-    return 0;
+    return number == 0x33 ? block_act(word, act) : 0;
 }
 
 static bool keeps(uint64_t scissor, uint64_t x, uint64_t y) {
@@ -78,7 +87,9 @@ static bool keeps(uint64_t scissor, uint64_t x, uint64_t y) {
 
 // Of a pixel or texel its address, and its byte in texture memory.
 static uint64_t address_of(const struct act *act, int64_t x, int64_t y) { return act->address + ((uint64_t)y * act->width + (uint64_t)x) * act->bytes; }
+static int64_t block_byte(const struct act *act, int64_t texel) { return (8 * act->tmem + 2 * texel) ^ (texel / 4 * act->dxt / 2048 % 2 ? 4 : 0); }
 static int64_t byte_of(const struct act *act, int64_t x, int64_t y) {
+    if (act->kind == LOAD_BLOCK) return block_byte(act, x - act->left);
     const int64_t row = y + act->row, byte = 8 * act->tmem + 8 * act->line * row + 2 * (x + act->column);
     return row % 2 ? byte ^ 4 : byte;
 }
@@ -99,7 +110,7 @@ static bool move_bytes(const struct act *act, const struct machine *machine, int
         uint8_t *in_memory = machine->memory + (first + k - machine->start);
         if (act->kind == FILL) *in_memory = (uint8_t)(act->colour >> (24 - (first + k) % 4 * 8));
         if (act->kind == COPY) *in_memory = machine->texture[byte + (int64_t)k];
-        if (act->kind == LOAD_TILE) machine->texture[byte + (int64_t)k] = *in_memory;
+        if (act->kind == LOAD_TILE || act->kind == LOAD_BLOCK) machine->texture[byte + (int64_t)k] = *in_memory;
     }
     return true;
 }

@@ -41,6 +41,13 @@ static uint64_t some_area(void) {
     return left << 44 | top << 32 | (left + below(below(16) ? 48 : 4096)) % 4096 << 12 | (top + below(48)) % 4096;
 }
 
+// The texels of a Load Block, most often few and from a multiple of 4 on, and a dxt that most often divides them into lines
+static uint64_t some_block(void) {
+    const uint64_t first = below(8) ? 4 * below(6) : below(4096), row = below(8) ? 4 * below(3) : below(64), texels = below(8) ? below(96) : below(2100);
+    const uint64_t dxt = below(3) ? 2047 / (1 + below(16)) + below(2) : below(4096);
+    return first << 44 | row << 32 | (first + texels + 4095) % 4096 << 12 | dxt;
+}
+
 // s, t and the steps that copying needs, most often
 static uint16_t some_texel(void) { return (uint16_t)(32 * (int)(below(12) - (below(3) ? 0 : 3))); }
 static uint64_t some_texels(void) {
@@ -61,6 +68,7 @@ static uint64_t some_word(unsigned number) {
     case 0x36: return word | small_corner() << 32 | (below(3) ? (uint64_t)below(24) << 12 | below(24) : small_corner());
     case 0x24: return word | small_corner() << 32 | some_tile() | (uint64_t)below(24) << 12 | below(24);
     case 0x32: case 0x34: return word | some_area() | some_tile();
+    case 0x33: return word | some_block() | some_tile();
     case 0x35:
         return word | some_format() | (uint64_t)below(6) << 41 | (uint64_t)(below(2) ? below(16) : below(2) ? 500 + below(12) : below(512)) << 32 |
                some_tile() | (below(24) ? 0 : 1ull << below(20));
@@ -71,7 +79,7 @@ static uint64_t some_word(unsigned number) {
 }
 
 static unsigned some_number(void) {
-    static const uint8_t common[] = {0x36, 0x36, 0x36, 0x24, 0x24, 0x24, 0x25, 0x08, 0x0A, 0x0F, 0x30, 0x33, 0x34, 0x34, 0x34, 0x35, 0x35, 0x37,
+    static const uint8_t common[] = {0x36, 0x36, 0x36, 0x24, 0x24, 0x24, 0x25, 0x08, 0x0A, 0x0F, 0x30, 0x33, 0x33, 0x34, 0x34, 0x35, 0x35, 0x37,
                                      0x37, 0x3F, 0x2F, 0x2D, 0x26, 0x27, 0x27, 0x28, 0x3C, 0x3D, 0x3A, 0x00, 0x32};
     const unsigned number = below(5) ? common[below(sizeof common)] : below(60) ? below(64) : 0x29;
     return is_unassigned(number) && below(8) ? 0x00 : number;  // a list that is refused early does not go deep
@@ -104,7 +112,7 @@ static size_t texture_list(uint8_t *at, size_t max) {
     static const uint8_t numbers[] = {0x2F, 0x3F, 0x2D, 0x3D, 0x35, 0x34, 0x26, 0x24};
     const size_t count = sizeof numbers;
     if (max < 8 * count + 8) return 0;
-    for (size_t k = 0; k < count; k++) put_word(at + 8 * k, some_word(numbers[k]));
+    for (size_t k = 0; k < count; k++) put_word(at + 8 * k, some_word(numbers[k] == 0x34 && below(2) ? 0x33 : numbers[k]));
     put_word(at + 8 * count, some_texels());
     at[1] = (at[1] & 0xCF) | 0x20;                          // COPY mode
     at[9] = 0x10, at[10] = 0, at[11] = (uint8_t)below(12);  // of 16 bits, and narrower than many a rectangle

@@ -235,6 +235,18 @@ static void turn_a_word(const uint8_t *before, uint8_t *texture) {
     }
 }
 
+// The byte after the last texel of the last Load Block, in the half of a word that it does not fill, changed: a console fills its last word.
+static void fill_the_last_word(const uint8_t *list, size_t words, uint8_t *texture) {
+    size_t tmem[8] = {0}, at_byte = 0;
+    for (size_t at = 0; at < words; at += words_of(command_number(list + 8 * at))) {
+        const uint64_t word = word_at(list + 8 * at);
+        const size_t tile = word >> 24 & 7, texels = ((word >> 12 & 0xFFF) + 1 - (word >> 44 & 0xFFF)) & 0xFFF;
+        if (command_number(list + 8 * at) == 0x35) tmem[tile] = word >> 32 & 0x1FF;
+        if (command_number(list + 8 * at) == 0x33) at_byte = texels % 4 == 2 ? 8 * tmem[tile] + 2 * texels : 0;
+    }
+    if (at_byte) texture[at_byte % 4096] ^= 1;
+}
+
 // The first byte that was painted, in another colour.
 static void paint_otherwise(const uint8_t *before, uint8_t *memory, size_t memory_length) {
     size_t i = 0;
@@ -252,6 +264,7 @@ static uint64_t mistextured(const uint8_t *list, size_t length, uint64_t start, 
     if (wrong(30) && number == 18) texture[4095] ^= 1;                                                       // loads and refuses
     if (wrong(36) && number == 17)  // the modes not asked
         return right_draw(plain_modes(list, length), length, memory, memory_length, start, texture, 4096);
+    if (wrong(39) && number == 0) fill_the_last_word(list, length / 8, texture);                             // more than a block's texels
     if (wrong(37) && number == 17 && is_load(command_number(list + 8 * (uint32_t)right))) return length / 8;  // 17 not asked of loads
     return right;
 }

@@ -221,8 +221,8 @@ uint64_t lanyardrove_repair_afresh(const uint8_t *list, size_t list_length,
 /* The bytes of texture memory. */
 #define LANYARDROVE_TEXTURE_BYTES 4096
 
-/* Draws a list into memory: its Fill Rectangles in FILL mode, its Load Tiles and its Texture Rectangles (0x24) in COPY mode, in
-   the list's order. memory[i] is the byte at address start + i of the console's memory, which the colour image's and the
+/* Draws a list into memory: its Fill Rectangles in FILL mode, its Load Tiles and Load Blocks, and its Texture Rectangles (0x24)
+   in COPY mode, in the list's order. memory[i] is the byte at address start + i of the console's memory, which the colour image's and the
    texture image's address count in. start is any number, and no sum of it wraps. Texture memory is LANYARDROVE_TEXTURE_BYTES
    bytes, which a load writes and a copy reads; what it holds at first is the caller's, and what it holds at last stays there.
    Answers 0 at the words of the list; or the first refusal of the check (1 to 9 and 19), then 16 at 0, then the first along
@@ -230,11 +230,15 @@ uint64_t lanyardrove_repair_afresh(const uint8_t *list, size_t list_length,
    before 18 is of any.
    Load Tile takes the texels from the floor of its upper left to the floor of its lower right, both included, row by row:
    that of row r and column c of this block to byte 8 * tmem + 8 * line * r + 2 * c, with the byte number's bit 2 turned over
-   in odd rows. It leaves its corners as the tile's size. A copied pixel (x, y) reads the texel of row t + y - top - tile top,
+   in odd rows. It leaves its corners as the tile's size.
+   Load Block takes s and t as whole texels: from upper left s in row upper left t, lower right s - upper left s + 1 texels, on
+   past the image's width too; texel k to byte 8 * tmem + 2 * k, with bit 2 turned over where k / 4 * dxt / 2048 is odd, each
+   quotient rounded down. Just these texels are loaded. It leaves its fields as the tile's size as they are, dxt as lower right t.
+   A copied pixel (x, y) reads the texel of row t + y - top - tile top,
    column likewise, top being the rectangle's own first row, turned over in odd rows too; rows and columns may be negative.
    Pixels are written row by row, each row from the left, and the later one stays.
-   17 is a Load TLUT or Load Block, a Load Tile without a texture image of 16-bit RGBA, either of Load Tile and copy without a
-   tile descriptor (Set Tile) of 16-bit RGBA, and a copy onto an image not of 16 bits, with dsdx other than 0x1000 or dtdy than
+   17 is a Load TLUT, a Load Tile or Load Block without a texture image of 16-bit RGBA, any of these two and copy without a tile
+   descriptor (Set Tile) of 16-bit RGBA, a Load Block of no texel or of more than 2,048, and a copy onto an image not of 16 bits, with dsdx other than 0x1000 or dtdy than
    0x0400, with s, t or the tile's upper left between texels (a size that was never set has (0, 0)), or with any of mask,
    shift and mirror of the tile or perspective, look-up and alpha compare on; also where no pixel is kept.
    A refusal leaves every byte of both memories as it was: nothing is drawn before all is tested. */
@@ -307,27 +311,6 @@ uint64_t lanyardrove_encode(uint32_t number,
                             const uint64_t *fields, size_t count,
                             const uint8_t *suffix, size_t suffix_length,
                             uint8_t *out, size_t out_length);
-
-/* Compares two lists, command by command from the first: writes four numbers to entries for each pair of commands that differ
-   in number or in a field, in their order: the place in the first list, the place in the second, and 64 bits, the high half
-   first. Bits of a command that belong to no field do not count.
-   Where the numbers differ, the 64 bits are zero. Else the bit of each field that differs is set: that of its index below,
-   but of Set Other Modes 1 higher from LANYARDROVE_OTHER_MODES_CYCLE_TYPE on, 2 from .._BL_M1A_0 and 3 from .._FORCE_BLEND, since
-   three bit lines there have an index and no name. A triangle's suffix, all that follows its first four words, is one field
-   more, bit LANYARDROVE_TRIANGLE_FIELDS.
-   Answers 0 and the numbers written as the place; or the first of refusals 1, 2 and 3 of the first list, then of the second, at
-   its place in that list; and then 14 at the numbers needed where count is too small. 16,384 numbers always suffice.
-   Numbers beyond those written are not touched. Commands that only one list has are the rest, which lanyardrove_rest finds. */
-uint64_t lanyardrove_compare(const uint8_t *first, size_t first_length,
-                             const uint8_t *second, size_t second_length, uint32_t *entries, size_t count);
-
-/* The rest of the list that has more commands than the other: from its first command without a partner to its end.
-   The number is that of lanyardrove_compare of the same lists with room for as many numbers as count says. lanyardrove_list is
-   the list, 0 for the first and 1 for the second, and the place is the first byte of the rest in that list. With as many
-   commands in both lists, and at every refusal, also 14, it is the empty end of the first list: its length, where this is over
-   4,294,967,295 that number. */
-uint64_t lanyardrove_rest(const uint8_t *first, size_t first_length,
-                          const uint8_t *second, size_t second_length, size_t count);
 
 /* The numbers of commands; every other from 0 to 63 is unassigned: decoded and encoded as a command of one word without fields,
    and refused in lists by 19. Of a triangle's number bit 2 says that it has shade, bit 1 texture, bit 0 depth. */

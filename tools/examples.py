@@ -101,9 +101,13 @@ def copy(tile, column, row):
     return [f'24{left + 28:03X}{top + 28:03X}00{left:03X}{top:03X}', f'{at % 4 * 256:04X}{at // 4 * 256:04X}10000400']
 
 
+# The texture's 768 texels as a tile, and as a block (02, #112): a line is 32 texels, which are 8 words, and 2048 / 8 is dxt 0x100.
+LOAD_TEXTURE, LOAD_TEXTURE_BLOCK = '340000000007C05C', '33000000002FF100'
+
+
 def valley_setup():
     sky = ['2F30000000000000', '3F10007F00000000', '2D00000000200140', '37000000' + 2 * pixel(*COLOURS['.']), fill(0, 0, 127, 79)]
-    return sky + [PIPE_SYNC, '2F20000000000000', '3D10001F00005000', '3510100000000000', '340000000007C05C', '2600000000000000']
+    return sky + [PIPE_SYNC, '2F20000000000000', '3D10001F00005000', '3510100000000000', LOAD_TEXTURE, '2600000000000000']
 
 
 def valley_copies():
@@ -112,6 +116,11 @@ def valley_copies():
 
 def valley():
     return valley_setup() + [word for pair in valley_copies() for word in pair] + [FULL_SYNC]
+
+
+def valley_block():
+    """The same picture, with the texture loaded by Load Block."""
+    return [LOAD_TEXTURE_BLOCK if word == LOAD_TEXTURE else word for word in valley()]
 
 
 VALLEY_START = 0x5600  # where its display list begins in memory
@@ -154,6 +163,7 @@ LISTS = {
     'old': (of(SETUP + [word for each in (COLOR, RECTANGLE, LOAD, COLOR, FULL_SYNC) for word in (PIPE_SYNC, each)]), '0 13'),
     'sunset': (of(sunset()), '0 244'),
     'valley': (of(valley()), '0 134'),
+    'valley-block': (of(valley_block()), '0 134'),
 }
 LONGEST = {'32,768 bytes': (bytes(32768), '0 4096'), '32,769 bytes': (bytes(32769), '1 4096')}
 

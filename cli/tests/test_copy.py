@@ -9,7 +9,7 @@ from test_report import reported
 PLAIN = [COPY, *S[1:], *TEXELS, LOAD_4_BY_2, LOAD, *COPIED]
 # Example I, and then what it has filled is loaded from the colour image itself and copied four pixels to the right.
 OWN = [*S, C, R, LOAD, 0x3D10000700000000, TEXELS[1], 0x3400400400008008, PIPE, COPY, 0x2401800800014004, 0x0020002010000400]
-NEEDS = "Load Tile needs a texture image and a tile that are set, both of 16-bit RGBA."
+NEEDS = "Load Tile and Load Block need a texture image and a tile that are set, both of 16-bit RGBA, and Load Block 1 to 2,048 texels."
 
 
 def changed(at, word):
@@ -193,3 +193,14 @@ def draw_makes_the_picture_of_copies_of_the_readme():
     blocks = {block(found, 128, column, row) for column in range(16) for row in range(10)}
     same((len(tiles), blocks - tiles), (12, {64 * found[:3]}))  # each block is a tile or the sky
     same(reported(read(example("valley.rdp")), 0, "valley.rdp", "--memory", example("valley.bin")).picture(), (width, height, found))
+
+
+@test
+def a_texture_loaded_by_load_block_draws_the_same():
+    same(run("draw", example("valley-block.rdp"), "--memory", example("valley.bin"), "--texture", write("block.bin", bytes(4096)), "-o", "block.png")[0], 0)
+    same(run("draw", example("valley.rdp"), "--memory", example("valley.bin"), "--texture", write("tile.bin", bytes(4096)), "-o", "tile.png")[0], 0)
+    same(read("block.png"), read("tile.png"))
+    same(read("block.bin"), read("tile.bin"))
+    for texels, answer in ((0, 17), (2049, 17), (4, 0)):
+        status, out, _ = drawn([*TEXELS, BLOCK | 1 << 44 | texels << 12])  # from texel 1 on
+        same((status, out[0]), (1 if answer else 0, f"{answer} {2 if answer else 3}"), texels)

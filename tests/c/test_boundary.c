@@ -165,8 +165,6 @@ static void null_pointers(void) {
     ANSWERS(lanyardrove_index_replace(NULL, 0, NULL, 0, 7, NULL, 0), 26, 0, 7);
     ANSWERS(lanyardrove_translate(NULL, 0, 0, NULL, 0), 20, 0, 0);
     ANSWERS(lanyardrove_translate(NULL, 0, UINT32_MAX, NULL, 0), 20, 0, UINT32_MAX);
-    ANSWERS(lanyardrove_compare(NULL, 0, NULL, 0, NULL, 0), 0, 0, 0);
-    ANSWERS(lanyardrove_rest(NULL, 0, NULL, 0, 0), 0, 0, 0);
     ANSWERS(lanyardrove_decode(NULL, 0, NULL, 0), 3, 0, 0);
     ANSWERS(lanyardrove_encode(0, NULL, 0, NULL, 0, NULL, 0), 14, 0, 1);
     ANSWERS(lanyardrove_encode(64, NULL, 0, NULL, 0, NULL, 0), 15, 0, 0);
@@ -738,6 +736,10 @@ static uint64_t area(uint64_t number, uint64_t tile, uint64_t left, uint64_t top
     return number << 56 | left << 46 | top << 34 | tile << 24 | right << 14 | bottom << 2;
 }
 #define LOAD_TILE(tile, left, top, right, bottom) area(0x34, (tile), (left), (top), (right), (bottom))
+/* A Load Block of the texels from s to last of row t, in whole texels. */
+static uint64_t load_block(uint64_t tile, uint64_t s, uint64_t t, uint64_t last, uint64_t dxt) {
+    return 0x3300000000000000u | s << 44 | t << 32 | tile << 24 | last << 12 | dxt;
+}
 #define TILE_SIZE(tile, left, top) area(0x32, (tile), (left), (top), 0, 0)
 
 /* The two words of a Texture Rectangle from one pixel to the other, that begins with a texel. */
@@ -823,6 +825,28 @@ static void load_and_copy(void) {
     COPIES(above, one_up, block);
     COPIES(left, two_left, block);
     COPIES(resized, one_up, block); /* Set Tile Size takes the place of the size that the load left */
+}
+
+/* Seven texels from the second column and row of an image 4 wide, on past the row's end, to tile 1 from byte 24 on. By dxt 0x800 every
+   second word is turned over; the byte after the last texel, in its half word, is left. */
+static void load_a_block(void) {
+    const uint64_t image = texture_image(4, 64), tile = set_tile(1, 2, 3), place = pixels(1, 2, 1, 4, 1);
+    const uint64_t turned[] = {COPY, S2, S3, image, tile, load_block(1, 1, 1, 7, 0x800), TILE_SIZE(1, 0, 0), LOAD, place, from_texel(4, 0)};
+    const Texel texels[] = {{24, 74}, {26, 76}, {28, 78}, {30, 80}, {36, 82}, {38, 84}, {32, 86}};
+    const Texel copied[] = {{20, 86}, {22, OF_TEXTURE(34)}, {24, 82}};
+    const uint64_t plain[] = {image, tile, load_block(1, 1, 1, 7, 0x7FF)}; /* word 1 is of line 0 still */
+    const Texel in_order[] = {{24, 74}, {26, 76}, {28, 78}, {30, 80}, {32, 82}, {34, 84}, {36, 86}};
+    const uint64_t raw[] = {COPY, S2, S3, image, tile, load_block(1, 1, 1, 7, 0x800), LOAD, place, from_texel(4, 0)};
+    const uint64_t last[] = {image, set_tile(1, 2, 511), load_block(1, 0, 0, 3, 0x800)}, past[] = {image, set_tile(1, 2, 511), load_block(1, 0, 0, 4, 0)};
+    COPIES(turned, copied, texels);
+    copies(plain, COUNT(plain), MEMORY, 0, 0, COUNT(plain), NULL, 0, in_order, COUNT(in_order), __LINE__);
+    DRAWN(raw, MEMORY, 0, 17, 7); /* its s and t are the tile's size as they are, in quarters of a texel */
+    DRAWN(plain, 14, 74, 0, 3);
+    DRAWN(plain, 13, 74, 12, 2);
+    DRAWN(plain, 14, 75, 12, 2);
+    DRAWN(last, MEMORY, 0, 0, 3);
+    DRAWN(past, MEMORY, 0, 18, 2);
+    DRAWN(past, 9, 64, 12, 2);
 }
 
 /* A texture image inside the colour image is loaded as drawn so far; of texels and of pixels that share bytes the later stays. */
@@ -926,12 +950,15 @@ static void copy_needs(void) {
     DRAWN(quarters, MEMORY, 0, 17, 7); /* a load leaves its raw corners as the size */
 }
 
-/* Those of Load Tile, also where nothing is loaded; Load TLUT and Load Block are refused with all of them. */
+/* Those of Load Tile, also where nothing is loaded, and of Load Block; Load TLUT is refused with all of them. */
 static void load_needs(void) {
     const uint64_t words[] = {texture_image(1, 0), set_tile(5, 1, 0), LOAD_TILE(5, 2, 0, 1, 0)};
     const uint64_t no_image[] = {set_tile(5, 1, 0), LOAD_TILE(5, 2, 0, 1, 0)}, no_tile[] = {texture_image(1, 0), LOAD_TILE(5, 2, 0, 1, 0)};
-    const uint64_t tlut[] = {words[0], words[1], area(0x30, 5, 0, 0, 0, 0)}, block[] = {words[0], words[1], area(0x33, 5, 0, 0, 0, 0)};
+    const uint64_t tlut[] = {words[0], words[1], area(0x30, 5, 0, 0, 0, 0)}, block[] = {words[0], words[1], load_block(5, 0, 0, 0, 0)};
+    const uint64_t no_texel[] = {words[0], words[1], load_block(5, 7, 0, 6, 0)}, many[] = {words[0], words[1], load_block(5, 1, 0, 2049, 0)};
+    const uint64_t untiled[] = {words[0], load_block(5, 0, 0, 0, 0)}, bare[] = {words[1], load_block(5, 0, 0, 0, 0)};
     const uint64_t k[] = {S, R, PIPE, L};
+    int bit;
     DRAWN(words, 0, 0, 0, 3);
     EVERY_BIT(words, 0, COMMAND, (uint64_t)0x1F << 51, 2);
     EVERY_BIT(words, 1, COMMAND, (uint64_t)0x1F << 51 | 7u << 24, 2);
@@ -939,7 +966,17 @@ static void load_needs(void) {
     DRAWN(no_image, MEMORY, 0, 17, 1);
     DRAWN(no_tile, MEMORY, 0, 17, 1);
     DRAWN(tlut, MEMORY, 0, 17, 2);
-    DRAWN(block, MEMORY, 0, 17, 2);
+    DRAWN(block, MEMORY, 0, 0, 3);
+    for (bit = 51; bit < 56; bit++) { /* any other format and size of the image or the tile is 17, and before 12 */
+        const uint64_t image[] = {words[0] ^ (uint64_t)1 << bit, words[1], block[2]}, tile[] = {words[0], words[1] ^ (uint64_t)1 << bit, block[2]};
+        DRAWN(image, 0, 0, 17, 2);
+        DRAWN(tile, 0, 0, 17, 2);
+    }
+    DRAWN(block, 1, 0, 12, 2);
+    DRAWN(no_texel, 0, 0, 17, 2);
+    DRAWN(many, 0, 0, 17, 2);
+    DRAWN(untiled, 0, 0, 17, 1);
+    DRAWN(bare, 0, 0, 17, 1);
     DRAWN(k, MEMORY, 0, 17, 5);
 }
 
@@ -1023,7 +1060,7 @@ static void edges_of_texture(void) {
 static void refused_after_work(void) {
     const uint64_t work[] = {COPY, S2, S3, texture_image(4, 64), set_tile(0, 1, 0), LOAD_TILE(0, 0, 0, 3, 1),
                              LOAD, pixels(0, 0, 0, 3, 1), from_texel(0, 0)};
-    const uint64_t last[][3] = {{LOAD, BLOCK, 17}, {LOAD, LOAD_TILE(0, 0, 0, 3, 15), 12}, {TILE, set_tile(0, 1, 511), 18},
+    const uint64_t last[][3] = {{LOAD, 0x3000000000000000u, 17}, {LOAD, LOAD_TILE(0, 0, 0, 3, 15), 12}, {TILE, set_tile(0, 1, 511), 18},
                                 {LOAD, LOAD_TILE(0, 0, 0, 3, 1), 0}, {N, 0x3600000000000000u, 10}};
     uint64_t words[13];
     size_t k;
@@ -2167,6 +2204,7 @@ int main(void) {
     compared_bits();
     draw_lists();
     load_and_copy();
+    load_a_block();
     later_bytes_stay();
     kept_pixels();
     texture_length();

@@ -413,3 +413,10 @@ pub fn load(width: u64, height: u64) -> Vec<u8> {
     let lower_right = (4 * (width - 1)) << 12 | (4 * (height - 1));
     bytes_of(&[image, tile(width), word(LOAD_TILE, lower_right)])
 }
+
+/// The same texels by one Load Block; a line has `width` texels, in words of four.
+pub fn block(width: u64, height: u64) -> Vec<u8> {
+    let image = word(SET_TEXTURE_IMAGE, RGBA_16 | (width - 1) << 32);
+    let (last, dxt) = (width * height - 1, 2_048 / (width / 4));
+    bytes_of(&[image, tile(width), word(LOAD_BLOCK, last << 12 | dxt)])
+}

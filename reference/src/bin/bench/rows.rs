@@ -156,6 +156,7 @@ pub fn rows() -> Vec<Row> {
     rows.push(copies(32, 32));
     rows.push(copies(64, 32));
     rows.push(load(64, 32));
+    rows.push(block(64, 32));
     rows
 }
 
@@ -316,6 +317,16 @@ fn load(width: u64, height: u64) -> Row {
         name: format!("draw, one Load Tile of {width}x{height}"),
         list: lists::load(width, height),
         job: Job::Load(rows.map(|row| moved((row.clone(), row))).collect()),
+    }
+}
+
+/// The same texture as one block, whose bytes are one run.
+fn block(width: u64, height: u64) -> Row {
+    let texels = (width * height) as usize;
+    Row {
+        name: format!("draw, one Load Block of {texels} texels"),
+        list: lists::block(width, height),
+        job: Job::Load(vec![moved((0..2 * texels, 0..2 * texels))]),
     }
 }
 
