@@ -9,12 +9,18 @@
 static json_t *told; /* an array of what was told; NULL before the first */
 static bool failed;  /* memory was short, and the document is not printed */
 
+/* A value that could not be made, or has no room, is remembered. */
+void json_append(json_t *array, json_t *value)
+{
+    failed = json_array_append_new(array, value) != 0 || failed;
+}
+
 /* Adds to what is told. */
 void json_add(json_t *value)
 {
     if (told == NULL)
         told = json_array();
-    failed = json_array_append_new(told, value) != 0 || failed;
+    json_append(told, value);
 }
 
 /* All that was told, for a document. */
@@ -83,7 +89,7 @@ static json_t *findings_json(const Checked *checked)
 {
     json_t *findings = json_array();
     for (size_t i = 0; i < checked->findings->count; i++)
-        failed = json_array_append_new(findings, finding_json(checked->list, checked->findings->answers[i])) != 0 || failed;
+        json_append(findings, finding_json(checked->list, checked->findings->answers[i]));
     return findings;
 }
 
@@ -178,7 +184,7 @@ static json_t *rules_json(void)
     for (unsigned number = LANYARDROVE_TOO_LONG; number <= LANYARDROVE_RECORD_DAMAGED; number++) {
         const char *reason = reason_of(number);
         if (reason[0] != '\0')
-            failed = json_array_append_new(rules, json_pack("{s:o, s:{s:s}}", "id", rule_id(number), "fullDescription", "text", reason)) != 0 || failed;
+            json_append(rules, json_pack("{s:o, s:{s:s}}", "id", rule_id(number), "fullDescription", "text", reason));
     }
     return rules;
 }

@@ -9,6 +9,7 @@
 json_t *json_text(const char *text);
 
 /* One document, printed at the end: what is told is added to an array. */
+void json_append(json_t *array, json_t *value);
 void json_add(json_t *value);
 json_t *json_told(void);
 bool print_document(json_t *document);

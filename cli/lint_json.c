@@ -21,7 +21,7 @@ void lint_json_tell(const Arguments *arguments, const Linted *linted)
     bool read = linted->list != NULL && is_read_whole(linted->warnings);
     (void)arguments;
     for (size_t i = 0; linted->list != NULL && i < linted->warnings->count; i++)
-        json_array_append_new(warnings, warning_json(linted->list, &linted->warnings->warnings[i]));
+        json_append(warnings, warning_json(linted->list, &linted->warnings->warnings[i]));
     json_add(json_pack("{s:o, s:b, s:o}", "file", json_text(linted->path), "read", read, "warnings", warnings));
 }
 
@@ -54,6 +54,6 @@ bool lint_sarif_end(const Arguments *arguments, const LintTally *tally)
     json_t *rules = json_array();
     (void)arguments;
     for (WarningKind kind = 0; kind < WARNING_KINDS; kind++)
-        json_array_append_new(rules, json_pack("{s:s, s:{s:s}}", "id", warning_name(kind), "fullDescription", "text", warning_rule(kind)));
+        json_append(rules, json_pack("{s:s, s:{s:s}}", "id", warning_name(kind), "fullDescription", "text", warning_rule(kind)));
     return sarif_print(rules, tally->unread == 0);
 }

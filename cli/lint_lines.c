@@ -35,7 +35,7 @@ bool lint_text_end(const Arguments *arguments, const LintTally *tally)
     printf("%zu %s", tally->warnings, tally->warnings == 1 ? "warning" : "warnings");
     if (arguments->count > 1)
         printf(" in %zu", tally->warned);
-    if (tally->unread > 0 && arguments->count > 1)
+    if (tally->unread > 0)
         printf(", %zu not read to the end", tally->unread);
     printf("; " NO_VERDICT "\n");
     return true;

@@ -224,3 +224,19 @@ def a_list_does_not_reach_a_terminal():
     os.close(terminal)
     same(done.returncode, 2)
     assert b"standard output is a terminal: give -o OUT" in done.stderr, done.stderr
+
+
+@test
+def every_text_is_assembled_or_told():
+    rng = random.Random(5)
+    text = text_of(words(*[word for number in (0, 1, 9, 0x24, 0x27, 0x2F, 0x35, 0x3F) for word in random_command(rng, number)]))
+    for _ in range(150):
+        given = bytearray(text)
+        for _ in range(rng.randrange(1, 6)):
+            at = rng.randrange(len(given))
+            given[at:at + rng.randrange(4)] = rng.choice((b"", b"=", b",", b"#", b"\n", b"-", b"x", b"0", b"word ", b"unused.0=", bytes([rng.randrange(256)])))
+        done = subprocess.run([TOOL, "asm", "-"], input=bytes(given), capture_output=True, timeout=60)
+        lines = done.stderr.decode("latin-1").split("\n")[:-1]
+        assert done.returncode in (0, 1) and (done.returncode == 1) == bool(lines) and (done.returncode == 0) >= bool(done.stdout), (bytes(given), done)
+        assert all(re.fullmatch(r"-:\d+:\d+: error: .+", line) for line in lines), lines
+        same(len(done.stdout) % 8, 0)

@@ -188,13 +188,13 @@ def lint_is_apart_from_the_verdict():
 
 @test
 def a_list_that_cannot_be_read_is_told():
-    same(run("lint", "gone.rdp"), (2, f"0 warnings; {NO_VERDICT}\n", "lanyardrove: gone.rdp: No such file or directory\n"))
+    same(run("lint", "gone.rdp"), (2, f"0 warnings, 1 not read to the end; {NO_VERDICT}\n", "lanyardrove: gone.rdp: No such file or directory\n"))
     given = words(*S, *COPIED)
     for data, reason in ((given + b"x", "2 5, the length of 41 bytes is no multiple of 8"), (given + words(COPIED[0]), "3 5, word 5: Texture Rectangle runs past the end of the list"),
                          (given + bytes(32768), "1 4096, the list is over 32,768 bytes")):
         status, out, err = run("lint", write("list.rdp", data))
         same((status, err), (2, f"lanyardrove: list.rdp: {reason}: not read to its end\n"))
-        same(out, f"word 3: Texture Rectangle in FILL mode fills, and reads no texture [-Wfill-texture]\n1 warning; {NO_VERDICT}\n")
+        same(out, f"word 3: Texture Rectangle in FILL mode fills, and reads no texture [-Wfill-texture]\n1 warning, 1 not read to the end; {NO_VERDICT}\n")
 
 
 def three():
