@@ -1,5 +1,5 @@
 /* The plain C version: what one would write without proofs and without SIMD. The rules are document 01's ("01" below), of textures those of
-   request #106, of display lists those of #108. */
+   request #106, of display lists those of #108, of views those of #113. */
 #include "plain.h"
 
 #include <endian.h>
@@ -1686,4 +1686,53 @@ uint64_t plain_rest(const uint8_t *first, size_t first_length, const uint8_t *se
     if (compare_lists(first, &ends[0], second, &ends[1], NULL) > count)
         return answer(14, 0, first_length);
     return ends[1] < second_length ? answer(0, 1, ends[1]) : answer(0, 0, ends[0]);
+}
+
+/* Views: an image as RGBA rows. */
+
+enum { MOST_SIDE = 1024 };
+
+/* A five-bit channel as eight bits. */
+static uint8_t channel(unsigned v)
+{
+    return 8 * (v & 31) + (v & 31) / 4;
+}
+
+static void view_16(const uint8_t *image, size_t pixels, uint8_t *out)
+{
+    for (size_t i = 0; i < pixels; i++) {
+        unsigned pixel = image[2 * i] << 8 | image[2 * i + 1];
+        out[4 * i] = channel(pixel >> 11);
+        out[4 * i + 1] = channel(pixel >> 6);
+        out[4 * i + 2] = channel(pixel >> 1);
+        out[4 * i + 3] = pixel & 1 ? 255 : 0;
+    }
+}
+
+static void view_8(const uint8_t *image, size_t pixels, uint8_t *out)
+{
+    for (size_t i = 0; i < pixels; i++) {
+        out[4 * i] = out[4 * i + 1] = out[4 * i + 2] = image[i];
+        out[4 * i + 3] = 255;
+    }
+}
+
+uint64_t plain_view(const uint8_t *memory, size_t memory_length, uint64_t start, uint64_t address, uint32_t width, uint32_t height, uint32_t size,
+                    uint8_t *out, size_t out_length)
+{
+    if (width == 0 || width > MOST_SIDE || height == 0 || height > MOST_SIDE || size == 0 || size > 3)
+        return answer(27, 0, 0);
+    size_t pixels = (size_t)width * height, bytes = pixels << (size - 1);
+    if (address < start || address - start > memory_length || memory_length - (address - start) < bytes)
+        return answer(12, 0, 0);
+    if (out_length < 4 * pixels)
+        return answer(14, 0, 4 * pixels);
+    const uint8_t *image = memory + (address - start);
+    if (size == 1)
+        view_8(image, pixels, out);
+    else if (size == 2)
+        view_16(image, pixels, out);
+    else
+        memcpy(out, image, bytes);
+    return answer(0, 0, 4 * pixels);
 }

@@ -25,6 +25,10 @@ uint64_t plain_translate(const uint8_t *memory, size_t memory_length, uint32_t s
 uint64_t plain_compare(const uint8_t *first, size_t first_length, const uint8_t *second, size_t second_length, uint32_t *entries, size_t count);
 uint64_t plain_rest(const uint8_t *first, size_t first_length, const uint8_t *second, size_t second_length, size_t count);
 
+/* An image in memory as rows of red, green, blue and alpha. */
+uint64_t plain_view(const uint8_t *memory, size_t memory_length, uint64_t start, uint64_t address, uint32_t width, uint32_t height, uint32_t size,
+                    uint8_t *out, size_t out_length);
+
 /* The check's answer and the registers after a list, as one number: what lanyardrove_bench_registers of crates/rdp_bench answers. */
 uint64_t plain_registers(const uint8_t *list, size_t list_length);
 

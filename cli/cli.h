@@ -231,14 +231,23 @@ typedef struct {
     uint64_t start; /* the address of the first */
 } Memory;
 
+/* Pixels of a picture: a rectangle of them. */
+typedef struct {
+    uint32_t left, top, width, height;
+} Box;
+
+#define RUN_LIMIT LANYARDROVE_MOST_SIDE /* pixels of a row that the library shows at once */
+
+void image_set(Image *set, const Command *command);
 bool image_of_list(const List *list, Image *image);
 size_t image_length(const Image *image);
 bool image_inside(const Image *image, const Memory *memory);
 void image_text(const Image *image, char *text, size_t room);
-void pixel_rgb(const uint8_t *pixel, uint32_t bits, uint8_t *rgb);
-uint8_t *image_rgb(const Image *image, const Memory *memory);
-uint8_t *image_png(const Image *image, const uint8_t *rgb, size_t *length);
-uint8_t *image_ppm(const Image *image, const uint8_t *rgb, size_t *length);
+Box whole_of(const Image *image);
+bool pixels_rgb(const Memory *memory, uint64_t address, uint32_t count, uint32_t bits, uint8_t *rgb);
+uint8_t *image_rgb(const Image *image, const Box *part, const Memory *memory);
+uint8_t *image_png(const Box *part, const uint8_t *rgb, size_t *length);
+uint8_t *image_ppm(const Box *part, const uint8_t *rgb, size_t *length);
 
 /* -- translated.c: the list that a display list stands for -------------- */
 
@@ -290,7 +299,7 @@ typedef struct {
     int count;
     Input input;
     const char *output; /* NULL where -o is not given */
-    bool help, brief, text, quiet, verbose, failures, all, afresh, dry, in_place, json, has_memory, has_image;
+    bool help, brief, text, quiet, verbose, failures, all, afresh, dry, in_place, json, steps, has_memory, has_image;
     const struct Format *format; /* of what check tells */
     const struct LintFormat *lint_format;
     unsigned silenced; /* kinds of warnings, a bit each */

@@ -22,11 +22,12 @@ static Form form_of(const char *path)
 
 static bool write_picture(const char *output, const Image *image, const Memory *memory)
 {
-    uint8_t *rgb = image_rgb(image, memory);
+    Box whole = whole_of(image);
+    uint8_t *rgb = image_rgb(image, &whole, memory);
     size_t length = 0;
     uint8_t *bytes = NULL;
     if (rgb != NULL)
-        bytes = form_of(output) == AS_PNG ? image_png(image, rgb, &length) : image_ppm(image, rgb, &length);
+        bytes = form_of(output) == AS_PNG ? image_png(&whole, rgb, &length) : image_ppm(&whole, rgb, &length);
     bool done = bytes != NULL && file_write(output, bytes, length);
     free(bytes);
     free(rgb);

@@ -12,7 +12,7 @@ _lanyardrove()
     case ${COMP_WORDS[1]} in
     check) options="-q --quiet -v --verbose --failures --all --format --f3dex2 $input" ;;
     repair) options="--afresh --check -i --in-place -o --output $input" ;;
-    report) options="--f3dex2 --memory --start --texture -o --output $input" ;;
+    report) options="--f3dex2 --memory --start --texture --steps -o --output $input" ;;
     dump) options="--brief --asm --from --to --around --f3dex2 $input" ;;
     diff) options="-q --quiet --format -o --output $input" ;;
     translate) options="--start -o --output -h --help" ;;

@@ -35,6 +35,7 @@ complete -c lanyardrove -n "__fish_seen_subcommand_from draw report" -l memory -
 complete -c lanyardrove -n "__fish_seen_subcommand_from draw report translate" -l start -x
 complete -c lanyardrove -n "__fish_seen_subcommand_from draw report" -l texture -r -F
 complete -c lanyardrove -n "__fish_seen_subcommand_from draw" -l image -x
+complete -c lanyardrove -n "__fish_seen_subcommand_from report" -l steps -d "a page of the steps"
 
 complete -c lanyardrove -n "__fish_seen_subcommand_from repair draw report diff translate edit asm" -s o -l output -r -F
 

@@ -17,7 +17,7 @@ _lanyardrove()
     repair) options=(--afresh --check -i --in-place '-o:output:_files' '--output=:output:_files') ;;
     dump) options=($display --brief --asm '--from=:place:' '--to=:place:' '--around=:place:') ;;
     draw) options=($memory '--image=:image:' '-o:output:_files' '--output=:output:_files') ;;
-    report) options=($memory '-o:output:_files' '--output=:output:_files') ;;
+    report) options=($memory --steps '-o:output:_files' '--output=:output:_files') ;;
     diff) options=(-q --quiet '--format=:form:(text json)' '-o:output:_files' '--output=:output:_files') ;;
     translate)
         options=('--start=:offset:' '-o:output:_files' '--output=:output:_files')

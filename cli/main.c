@@ -39,7 +39,8 @@ static const Entry entries[] = {
       "waited, the hazards along the list, the syncs that a repair would insert, the\n"
       "picture if it can be drawn, and the commands, with links to the refused one and\n"
       "to the one that it has to wait for. It is written for a refused list too.\n"
-      "The list is drawn into zeros at every address, or into what --memory gives." },
+      "The list is drawn into zeros at every address, or into what --memory gives.\n"
+      "With --steps the page shows the picture after each draw, step by step." },
     { OF_DIFF, "diff", run_diff, 2, 2, "list",
       "diff [OPTION].. FIRST SECOND\n"
       "Compares two lists command by command, from the first on: both places of each\n"

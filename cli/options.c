@@ -134,6 +134,9 @@ static const Option options[] = {
       "the picture, with SIZE bits a pixel (8, 16 or 32); if not\n"
       "given, the colour image of the last rectangle, as high as\n"
       "the scissor" },
+    { OF_REPORT, "steps", 0, FLAG(steps),
+      "a page of the steps instead: the picture and texture\n"
+      "memory after each draw and load, by keys and a slider" },
     { OF_TRANSLATE, "start", 0, DISPLAY,
       "where the display list begins in the memory; 0 if not\ngiven" },
     { OF_REPAIR, "afresh", 0, FLAG(afresh),

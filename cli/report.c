@@ -4,9 +4,6 @@
 #include <stdlib.h>
 #include <string.h>
 
-/* An address has 26 bits, and a picture at most 1,024 rows of 1,024 pixels of 4 bytes: all of them are inside. */
-#define MEMORY_BYTES (72u * 1024u * 1024u)
-
 /* The row of the command at a place; `count` where there is none. */
 static size_t row_at(const Rows *rows, size_t place)
 {
@@ -66,8 +63,9 @@ static bool make_png(Report *report, const List *list, const Memory *memory)
 {
     if (!image_of_list(list, &report->image) || !image_inside(&report->image, memory))
         return true;
-    uint8_t *rgb = image_rgb(&report->image, memory);
-    report->png = rgb != NULL ? image_png(&report->image, rgb, &report->png_length) : NULL;
+    Box whole = whole_of(&report->image);
+    uint8_t *rgb = image_rgb(&report->image, &whole, memory);
+    report->png = rgb != NULL ? image_png(&whole, rgb, &report->png_length) : NULL;
     free(rgb);
     return report->png != NULL;
 }
@@ -75,7 +73,7 @@ static bool make_png(Report *report, const List *list, const Memory *memory)
 static bool draw_picture(Report *report, const List *list)
 {
     Lent lent;
-    bool done = lend(report->arguments, report->arguments->has_memory ? report->arguments->memory : MEMORY_BYTES, &lent);
+    bool done = lend(report->arguments, report->arguments->has_memory ? report->arguments->memory : REPORT_MEMORY, &lent);
     if (done) {
         report->drawing = draw_into(list, &lent);
         done = is_refused(report->drawing) || make_png(report, list, &lent.memory);
@@ -100,13 +98,27 @@ static bool gather(Report *report)
     return done;
 }
 
+/* The page of the steps, or that of the list. */
+static bool add_page(Text *text, const Report *report)
+{
+    Steps steps = { 0 };
+    bool done = !report->arguments->steps || steps_of(report, &steps);
+    if (!report->arguments->steps)
+        page_add(text, report);
+    else if (done)
+        steps_page_add(text, report, &steps);
+    steps_free(&steps);
+    return done;
+}
+
 static int write_report(Report *report, const char *output)
 {
     Text text = { 0 };
     int status = STATUS_ERROR;
-    if (!gather(report))
+    if (!gather(report) || !add_page(&text, report)) {
+        free(text.bytes);
         return STATUS_ERROR;
-    page_add(&text, report);
+    }
     if (text.failed)
         complain("not enough memory for the page");
     else if (file_write(output, text.bytes, text.length))

@@ -15,6 +15,7 @@ typedef struct {
 void text_add(Text *text, const char *format, ...) __attribute__((format(printf, 2, 3)));
 void text_add_escaped(Text *text, const char *plain);
 void text_add_base64(Text *text, const uint8_t *bytes, size_t length);
+void text_append(Text *text, const Text *more);
 
 /* -- what the page is about --------------------------------------------- */
 
@@ -46,12 +47,46 @@ typedef struct {
     size_t png_length;
 } Report;
 
-/* -- report_page.c, report_style.c, report_strip.c, report_table.c ------ */
+/* Zeros that a list is drawn into: an address has 26 bits, and a picture at most 1,024 rows of 1,024 pixels of 4 bytes, so that all of them are inside. */
+#define REPORT_MEMORY (72u * 1024u * 1024u)
 
+/* -- report_film.c: what changes from step to step ----------------------- */
+
+typedef struct {
+    Text shown;     /* SVGs */
+    bool is_open;   /* the last of them has no end yet */
+    bool is_texture;
+    Image image;    /* that it shows; width 0 where there is none */
+    uint8_t *bytes; /* of it, after the last step */
+    Box changed;    /* by the last step */
+} Film;
+
+bool film_add(Film *film, const Image *image, const Memory *memory, size_t step);
+void film_end(Film *film);
+void film_free(Film *film);
+
+/* -- steps.c: the draws and loads of a list one by one -------------------- */
+
+typedef struct {
+    size_t count;
+    Film picture, texture;
+    Text table;    /* for the script: of each step the place and the rectangle drawn, of a load also the part of texture memory that changed */
+    Answer answer; /* of the last draw or load that was tried */
+} Steps;
+
+bool steps_of(const Report *report, Steps *steps);
+void steps_free(Steps *steps);
+
+/* -- report_page.c, report_steps.c, report_style.c, report_strip.c, report_table.c ------ */
+
+extern const char command_blocks[];
 void style_add(Text *text);
 void head_add(Text *text, const char *verdict, const char *path, const char *kind);
 void foot_add(Text *text);
 void page_add(Text *text, const Report *report);
+void steps_page_add(Text *text, const Report *report, const Steps *steps);
+void head_start_add(Text *text, const char *verdict, const char *path, const char *more);
+void answer_add(Text *text, const List *list, Answer answer, Purpose purpose);
 void meaning_add(Text *text, const Report *report);
 void strip_add(Text *text, const Rows *rows);
 void place_add(Text *text, size_t place);

@@ -5,14 +5,20 @@
 #define PICTURE_WIDTH 640 /* small pictures are shown larger, up to this many pixels */
 #define PIXEL_WIDTH 40    /* and up to this many for each of theirs */
 
-/* The head of a page about a file: what comes of it stands in the title. */
-void head_add(Text *text, const char *verdict, const char *path, const char *kind)
+/* The start of a page about a file, up to the end of its style: what comes of it stands in the title. */
+void head_start_add(Text *text, const char *verdict, const char *path, const char *more)
 {
     text_add(text, "<!DOCTYPE html>\n<html lang=\"en\">\n<head>\n<meta charset=\"utf-8\">\n"
-                   "<meta name=\"viewport\" content=\"width=device-width,initial-scale=1\">\n<title>%s: ", verdict);
+                   "<meta name=\"viewport\" content=\"width=device-width,initial-scale=1\">\n%s<title>%s: ", more, verdict);
     text_add_escaped(text, path);
     text_add(text, "</title>\n");
     style_add(text);
+}
+
+/* The head of a page about a file, and its heading. */
+void head_add(Text *text, const char *verdict, const char *path, const char *kind)
+{
+    head_start_add(text, verdict, path, "");
     text_add(text, "</head>\n<body>\n<main>\n<p class=\"kind\">%s</p>\n<h1 id=\"top\">", kind);
     text_add_escaped(text, path);
     text_add(text, "</h1>\n");
@@ -41,7 +47,7 @@ static void add_insertion(Text *text, const Report *report, const Insertion *ins
 }
 
 /* `number place` and what it means, in the middle of a sentence. */
-static void add_answer(Text *text, const List *list, Answer answer, Purpose purpose)
+void answer_add(Text *text, const List *list, Answer answer, Purpose purpose)
 {
     Meaning meaning = meaning_of(list, answer, purpose);
     text_add(text, "<code>%u %u</code>, ", answer.number, (unsigned)answer.place);
@@ -145,7 +151,7 @@ static void add_repair(Text *text, const Report *report)
     text_add(text, "<section>\n<h2>Repair</h2>\n");
     if (!is_accepted(report->repaired.answer)) {
         text_add(text, "<p>The list cannot be repaired: ");
-        add_answer(text, &report->list, report->repaired.answer, FOR_REPAIR);
+        answer_add(text, &report->list, report->repaired.answer, FOR_REPAIR);
         text_add(text, ".</p>\n");
         if (report->missing.number != 0) {
             text_add(text, "<p>The first sync that it misses: ");
@@ -194,7 +200,7 @@ static void add_picture(Text *text, const Report *report)
         text_add(text, "<p>The list draws no picture.</p>\n");
     else {
         text_add(text, "<p>The %slist cannot be drawn: ", repaired ? "repaired " : "");
-        add_answer(text, &report->list, report->drawing, FOR_DRAW);
+        answer_add(text, &report->list, report->drawing, FOR_DRAW);
         text_add(text, ".</p>\n");
         if (report->drawing.number == LANYARDROVE_NOT_COPYABLE)
             text_add(text, "<p class=\"note\">%s</p>\n", copy_needs);

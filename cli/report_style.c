@@ -67,15 +67,15 @@ static const char table[] =
     ".pairs tr.differs>*{background:var(--wait-soft)}.pairs tr.rest>*{background:var(--panel)}.pairs .field{display:inline}\n"
     ".pairs{table-layout:fixed}.pairs th:nth-child(3n+1){width:4rem}.pairs th:nth-child(3n+2){width:12rem}.pairs td{overflow-wrap:anywhere}\n";
 
-/* In a narrow window each command is a block. */
-static const char narrow[] =
-    "@media screen and (max-width:48rem){body{padding:1rem .8rem 3rem}thead{display:none}table,tbody,caption{display:block}\n"
+/* Where there is little room each command is a block. */
+const char command_blocks[] =
+    "thead{display:none}table,tbody,caption{display:block}\n"
     "tr{display:grid;grid-template-columns:3.4rem 1fr;border-bottom:1px solid var(--line);padding:.4rem 0}\n"
     "td,tbody th{border:0;padding:.1rem .5rem;grid-column:2;min-width:0;overflow-wrap:anywhere}.place{grid-column:1;grid-row:1}.name{grid-row:1}.pairs .place{grid-row:auto}\n"
     "td:empty{display:none}.hazards::before{content:\"hazards before: \";color:var(--soft)}\n"
     "tr.refused{background:var(--bad-soft);box-shadow:inset .4rem 0 var(--bad)}tr.inserted{background:var(--good-soft)}\n"
     "tr.cause{background:var(--wait-soft);box-shadow:inset .4rem 0 var(--wait)}\n"
-    "tr.refused>*,tr.cause>*,tr.inserted>*{background:none}tr.refused td:first-child,tr.cause td:first-child{box-shadow:none}}\n";
+    "tr.refused>*,tr.cause>*,tr.inserted>*{background:none}tr.refused td:first-child,tr.cause td:first-child{box-shadow:none}\n";
 
 static const char print[] =
     "@media print{html{font-size:11px}body{font-size:1rem;max-width:none;padding:0}.show,.top,.runs,.choices{display:none}h2{break-after:avoid}\n"
@@ -83,5 +83,6 @@ static const char print[] =
 
 void style_add(Text *text)
 {
-    text_add(text, "<style>\n%s%s%s%s%s%s%s</style>\n", colours, page, verdict, strips, table, narrow, print);
+    text_add(text, "<style>\n%s%s%s%s%s@media screen and (max-width:48rem){body{padding:1rem .8rem 3rem}%s}\n%s</style>\n", colours, page, verdict, strips, table,
+             command_blocks, print);
 }

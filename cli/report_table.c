@@ -48,10 +48,10 @@ static void add_swatches(Text *text, const Command *command)
     const uint64_t *rgb = fields + (primitive ? LANYARDROVE_PRIMITIVE_COLOR_RED : LANYARDROVE_COLOR_RED);
     if (command->number == LANYARDROVE_SET_FILL_COLOR) {
         unsigned color = (unsigned)fields[LANYARDROVE_FILL_COLOR_COLOR];
-        uint8_t pixels[4] = { (uint8_t)(color >> 24), (uint8_t)(color >> 16), (uint8_t)(color >> 8), (uint8_t)color }, shown[9];
-        pixel_rgb(pixels, 32, shown);
-        pixel_rgb(pixels, 16, shown + 3);
-        pixel_rgb(pixels + 2, 16, shown + 6);
+        uint8_t pixels[4] = { (uint8_t)(color >> 24), (uint8_t)(color >> 16), (uint8_t)(color >> 8), (uint8_t)color }, shown[9] = { 0 };
+        const Memory memory = { pixels, sizeof pixels, 0 };
+        pixels_rgb(&memory, 0, 1, 32, shown);
+        pixels_rgb(&memory, 0, 2, 16, shown + 3);
         for (int i = 0; i < 9; i += 3)
             add_swatch(text, shown[i], shown[i + 1], shown[i + 2]);
         text_add(text, "<span class=\"field\">as one pixel of 32 bits, as two of 16</span>");

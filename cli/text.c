@@ -35,6 +35,16 @@ void text_add(Text *text, const char *format, ...)
     va_end(values);
 }
 
+/* Another text, which may have failed. */
+void text_append(Text *text, const Text *more)
+{
+    text->failed |= more->failed;
+    if (more->length == 0 || !make_room(text, more->length))
+        return;
+    memcpy(text->bytes + text->length, more->bytes, more->length + 1);
+    text->length += more->length;
+}
+
 /* Characters that mean something in HTML are written as entities, and control characters as '?'. */
 void text_add_escaped(Text *text, const char *plain)
 {

@@ -5,8 +5,8 @@
 FUZZ_ARCHIVE ?= build/liblanyardrove.a
 FUZZ_OUT ?= build/fuzz
 FUZZ_SECONDS ?= 600
-FUZZ_DRIVERS := check repair repair_afresh draw decode encode words step stream compare translate index
-FUZZ_FUNCTIONS := check repair repair_afresh draw decode encode words step stream_feed stream_close compare rest translate index_build index_ask index_replace
+FUZZ_DRIVERS := check repair repair_afresh draw view decode encode words step stream compare translate index
+FUZZ_FUNCTIONS := check repair repair_afresh draw view decode encode words step stream_feed stream_close compare rest translate index_build index_ask index_replace
 FUZZ_FLAGS := -std=gnu17 -O2 -g -Wall -Wextra -Iinclude -Ifuzz
 FUZZ_COMMON := fuzz/lent.c fuzz/lists.c fuzz/repairs.c fuzz/fields.c fuzz/acts.c fuzz/mutate.c fuzz/blocks.c
 FUZZ_HEADERS := fuzz/lent.h fuzz/lists.h fuzz/repairs.h fuzz/fields.h fuzz/acts.h fuzz/record.h fuzz/library.h $(wildcard include/lanyardrove.h)
@@ -16,7 +16,7 @@ FUZZ_NAMES := $(FUZZ_FUNCTIONS:%=-u lanyardrove_%)
 FUZZ_WRONG := check:1 check:2 check:3 check:4 check:5 check:6 check:7 check:8 check:9 check:10 check:17 check:18 check:19 \
     repair:11 repair:12 repair:13 repair:14 repair:15 repair:16 repair:20 \
     repair_afresh:101 repair_afresh:102 repair_afresh:103 repair_afresh:104 repair_afresh:105 repair_afresh:106 repair_afresh:107 draw:21 draw:22 draw:23 draw:24 draw:25 draw:26 \
-    draw:27 draw:28 draw:29 draw:30 draw:36 draw:37 draw:38 draw:39 \
+    draw:27 draw:28 draw:29 draw:30 draw:36 draw:37 draw:38 draw:39 view:131 view:132 view:133 view:134 view:135 view:136 view:137 view:138 view:139 \
     decode:31 decode:32 decode:33 decode:34 encode:41 encode:42 encode:43 encode:44 encode:45 \
     words:35 words:51 words:52 words:53 words:54 words:55 step:4 step:61 step:62 step:63 step:64 step:65 step:66 step:67 \
     stream:71 stream:72 stream:73 stream:74 stream:75 stream:76 stream:77 stream:78 stream:79 stream:80 \

@@ -14,6 +14,8 @@ uint64_t lanyardrove_draw(const uint8_t *list, size_t list_length, uint8_t *memo
                           size_t texture_length);
 uint64_t lanyardrove_compare(const uint8_t *first, size_t first_length, const uint8_t *second, size_t second_length, uint32_t *entries, size_t count);
 uint64_t lanyardrove_rest(const uint8_t *first, size_t first_length, const uint8_t *second, size_t second_length, size_t count);
+uint64_t lanyardrove_view(const uint8_t *memory, size_t memory_length, uint64_t start, uint64_t address, uint32_t width, uint32_t height, uint32_t size,
+                          uint8_t *out, size_t out_length);
 uint64_t lanyardrove_translate(const uint8_t *memory, size_t memory_length, uint32_t start, uint8_t *out, size_t out_length);
 uint64_t lanyardrove_decode(const uint8_t *list, size_t list_length, uint64_t *fields, size_t count);
 uint64_t lanyardrove_index_build(const uint8_t *list, size_t list_length, uint32_t *entries, size_t count);

@@ -48,6 +48,33 @@ static void one_draw(const uint8_t *list, size_t length, size_t memory_length, u
     free(texture);
 }
 
+// Memory is lent undefined: no answer and no branch goes by what it holds. Of pixels of 8 bits alpha is defined all the same
+static void one_view(size_t length, uint64_t start, uint64_t address, uint32_t width, uint32_t height, uint32_t size, size_t out_length, bool null) {
+    uint8_t *memory = exact(length, null), *out = exact(out_length, null);
+    const uint64_t answer = lanyardrove_view(memory, length, start, address, width, height, size, out, out_length);
+    calls++;
+    written(&answer, sizeof answer);
+    for (size_t at = 3; size == 1 && number_of(answer) == 0 && at < place_of(answer); at += 4) written(out + at, 1);
+    free(memory);
+    free(out);
+}
+
+// Sides at the limits, each size, memory and output that are just enough, a byte short and longer
+static void views(void) {
+    const uint32_t sides[] = {0, 1, 3, 40, 1024, 1025, UINT32_MAX};
+    const uint64_t starts[] = {0, 5, UINT64_MAX - 3, UINT64_MAX};
+    for (size_t w = 0; w < sizeof sides / sizeof *sides; w++)
+        for (size_t h = 0; h < sizeof sides / sizeof *sides; h++)
+            for (uint32_t size = 0; size < 5; size++)
+                for (size_t s = 0; s < sizeof starts / sizeof *starts; s++)
+                    for (size_t more = 0; more < 9; more++) {
+                        const uint64_t pixels = (uint64_t)sides[w] * sides[h];
+                        const size_t small = pixels < 65536 ? pixels : 65536;
+                        one_view((small << (size + 3) % 4) + more % 3 - (small > 0), starts[s], starts[s] + (more == 4), sides[w], sides[h], size,
+                                 4 * small + more / 3 - (small > 0), more % 2);
+                    }
+}
+
 // The bytes as a memory with a display list, the numbers' two high bits set
 static void one_translate(const uint8_t *list, size_t length, uint32_t start, size_t out_length, bool null) {
     uint8_t *memory = copy(list, length, null), *out = exact(out_length, null);
@@ -228,6 +255,7 @@ int main(int count, char **names) {
     const size_t limits[] = {16376, 16384, 16385, 16392, 32760, 32768, 32769, 32776};
     for (size_t i = 0; i < sizeof limits / sizeof *limits; i++) one_list(list, limits[i]);
     for (unsigned number = 0; number < 64; number++) one_number(number);
+    views();
     lanyardrove_encode(64, NULL, 0, NULL, 0, NULL, 0);
     lanyardrove_encode(UINT32_MAX, NULL, 0, NULL, 0, NULL, 0);
     printf("%lu calls, %lu with undefined bytes written\n", calls + 2, undefined);

@@ -12,6 +12,8 @@ uint64_t right_repair_afresh(const uint8_t *list, size_t length, uint8_t *work, 
 uint64_t right_draw(const uint8_t *list, size_t length, uint8_t *memory, size_t memory_length, uint64_t start, uint8_t *texture, size_t texture_length);
 uint64_t right_compare(const uint8_t *first, size_t first_length, const uint8_t *second, size_t second_length, uint32_t *entries, size_t count);
 uint64_t right_rest(const uint8_t *first, size_t first_length, const uint8_t *second, size_t second_length, size_t count);
+uint64_t right_view(const uint8_t *memory, size_t length, uint64_t start, uint64_t address, uint32_t width, uint32_t height, uint32_t size, uint8_t *out,
+                    size_t out_length);
 uint64_t right_translate(const uint8_t *memory, size_t memory_length, uint32_t start, uint8_t *out, size_t out_length);
 uint64_t right_decode(const uint8_t *list, size_t length, uint64_t *fields, size_t count);
 uint64_t right_encode(uint32_t number, const uint64_t *fields, size_t count, const uint8_t *suffix, size_t suffix_length, uint8_t *out, size_t out_length);
@@ -295,6 +297,20 @@ static uint64_t half_words(const uint8_t *out, size_t words) {
 static void forget_modes(uint8_t *out, size_t words) {
     for (size_t at = 0, before = 0; at < words; before = at, at += words_of(command_number(out + 8 * at)))
         if (at && out[8 * at] == 0x2F && out[8 * before] == 0x2F) memset(out + 8 * at + 4, 0, 4);
+}
+
+uint64_t lanyardrove_view(const uint8_t *memory, size_t length, uint64_t start, uint64_t address, uint32_t width, uint32_t height, uint32_t size, uint8_t *out,
+                          size_t out_length) {
+    const uint32_t low = wrong(136) ? size & 3 : size, high = wrong(135) && height == 1025 ? 1024 : height;  // of the size two bits; 1,025 rows
+    const uint64_t a = right_view(memory, length, start, address, width, high, low, out, out_length), number = a >> 56, bytes = (uint32_t)a;
+    if (wrong(131) && number == 0 && size == 2) out[0] &= 0xF8;                      // a channel becomes 8v
+    if (wrong(132) && number == 0 && size == 2) out[bytes - 1] &= 1;                 // the alpha bit becomes 0 or 1
+    if (wrong(133) && number == 0 && size == 1) out[3] = out[0];                     // the alpha of an 8-bit value is that value
+    if (wrong(134) && number == 0 && address - start + ((uint64_t)width * height << (size - 1)) == length) return 12ull << 56;  // the end of memory refused
+    if (wrong(137) && number == 14 && out_length > 3) out[0] ^= 1;                   // 14 after work
+    if (wrong(138) && number == 0 && bytes < out_length) out[bytes] = 0;             // beyond what is written
+    if (wrong(139) && number == 0) read = memory[length];                            // beyond memory
+    return a;
 }
 
 uint64_t lanyardrove_translate(const uint8_t *memory, size_t memory_length, uint32_t start, uint8_t *out, size_t out_length) {

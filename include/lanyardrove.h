@@ -1,6 +1,6 @@
 /*
  * Lanyardrove: checks, repairs, compares, indexes, draws, decodes and encodes command lists of the Nintendo 64's display
- * processor (RDP), and translates the display lists of games into them.
+ * processor (RDP), shows the images that they draw, and translates the display lists of games into them.
  *
  * Link with build/liblanyardrove.a (`make`) and the C library. The functions allocate nothing, keep no state between calls,
  * use less than 8 KiB of stack and touch only the bytes that they are lent, so calls on different buffers may run at the
@@ -56,7 +56,7 @@ enum lanyardrove_ground {
                                            in COPY mode; place its first word. */
     LANYARDROVE_MISALIGNED = 11,        /* Drawing: the colour image's address is no multiple of 64; the draw's first word. */
     LANYARDROVE_OUTSIDE_MEMORY = 12,    /* Drawing: a byte of a kept pixel or a loaded texel is outside the memory; the draw's
-                                           or load's first word. */
+                                           or load's first word. Viewing: a byte of the image is; place 0. */
     LANYARDROVE_WORK_TOO_SHORT = 13,    /* Repair: the work buffer is below 16 bytes a command; place the commands. */
     LANYARDROVE_OUTPUT_TOO_SHORT = 14,  /* The output is too short for all that would be written; place what is needed. */
     LANYARDROVE_NOT_ENCODABLE = 15,     /* Encoding: a field exceeds its bits, the number is none of 0 to 63, or the fields or
@@ -79,6 +79,8 @@ enum lanyardrove_ground {
     LANYARDROVE_LENGTHS_DIFFER = 25,    /* Index: the new command has not as many words as the one at the place; that place. */
     LANYARDROVE_NO_ENTRY = 26,          /* Index: no entry has a place that is not beyond the one asked, or that entry's hazards
                                            are none of 0 to 15; the place asked. */
+    LANYARDROVE_NOT_VIEWABLE = 27,      /* Viewing: the width or the height is 0 or above 1,024, or the size is none of 1 to 3;
+                                           place 0. */
     LANYARDROVE_RECORD_DAMAGED = 28     /* Stream: the record is none that feeding and closing leave; place 0. */
 };
 
@@ -89,7 +91,7 @@ static inline uint32_t lanyardrove_third(uint64_t answer) { return (uint32_t)(an
 
 /* The third number by its meaning: the cause that the check gives; the cycles, of a repair those that it inserted, of a repair
    afresh all that the written list waits, of a stream those that its syncs have waited; the number of a decoded command; the display list commands that translating has read.
-   Those of a repair and of decoding are 0 at a refusal. In the answers of drawing and encoding the third number is 0.
+   Those of a repair and of decoding are 0 at a refusal. In the answers of drawing, viewing and encoding the third number is 0.
    Of a step's answer the place is the hazards after it, and the third number's low two bits are the sync required. Of the
    answer of a question to an index the third number has the hazards, and above them the commands read; both are 0 at a
    refusal. */
@@ -245,6 +247,24 @@ uint64_t lanyardrove_repair_afresh(const uint8_t *list, size_t list_length,
 uint64_t lanyardrove_draw(const uint8_t *list, size_t list_length,
                           uint8_t *memory, size_t memory_length, uint64_t start,
                           uint8_t *texture, size_t texture_length);
+
+/* The most pixels of a row, and the most rows, of an image that is viewed. */
+#define LANYARDROVE_MOST_SIDE 1024
+
+/* Views an image: writes its pixels as rows of red, green, blue and alpha, four bytes a pixel, to the front of out, the upper row
+   first. The image is width by height pixels, one row right after the other from address on; memory[i] is the byte at address
+   start + i, start and address are any numbers, and no sum of them wraps. size is that of Set Color Image: 1 for pixels of 8
+   bits, 2 for 16 and 3 for 32.
+   A value of 8 bits fills red, green and blue, with alpha 255. Of 16 bits, most significant byte first, red, green and blue are
+   the three times five bits from the highest on, of which v becomes 8 * v + v / 4, and the lowest bit is alpha, 0 or 255. Pixels
+   of 32 bits are copied.
+   Answers 0 at the bytes written; or 27 at 0 where width or height is 0 or above LANYARDROVE_MOST_SIDE, or size is none of 1 to
+   3; then 12 at 0 where a byte of the image is outside memory; then 14 at the bytes needed, 4 * width * height. The third
+   number is 0. memory is read only; a refusal leaves every byte of out as it was, and bytes beyond those written are not
+   touched. */
+uint64_t lanyardrove_view(const uint8_t *memory, size_t memory_length, uint64_t start,
+                          uint64_t address, uint32_t width, uint32_t height, uint32_t size,
+                          uint8_t *out, size_t out_length);
 
 /* Compares two lists command by command, by their index from the first on. Two commands differ where their numbers do, or a
    field; bits that belong to no field don't count, nor do bits 63:62 of a first word. Each pair that differs is an entry of

@@ -30,6 +30,7 @@ const FUNCTIONS: &[&str] = &[
     "lanyardrove_index_build",
     "lanyardrove_index_ask",
     "lanyardrove_index_replace",
+    "lanyardrove_view",
 ];
 const BENCH_FUNCTIONS: &[&str] = &["lanyardrove_bench_registers"];
 

@@ -7,6 +7,7 @@ import shutil
 import subprocess
 
 from support import C, L, N, ONE_CYCLE, R, S, png_pixels, read, run, same, test, words, write
+from test_copy import OWN
 
 # Where the parts of the page are, whether something else covers them, and their text as it is shown.
 PROBE = """<script>
@@ -32,6 +33,29 @@ for (const choice of document.querySelectorAll("input[name=show]")) {
 }
 for (const strip of document.querySelectorAll(".strip svg"))
     parts.strips.push(strip.getBoundingClientRect().width / strip.viewBox.baseVal.width);
+parts.overflow = document.documentElement.scrollWidth - document.documentElement.clientWidth;
+document.body.dataset.parts = JSON.stringify(parts);
+</script>"""
+# What a page of steps shows after each of the keys, and after the slider is moved, and how long the longest way takes.
+STEPPED = """<script>
+const parts = { seen: [] }, started = performance.now();
+function look(what) {
+    const row = document.querySelector("tr.now"), list = document.querySelector(".list").getBoundingClientRect(), mark = document.querySelector("#picture .mark");
+    const box = (row || document.querySelector("tbody tr")).getBoundingClientRect(), under = document.elementFromPoint(box.left + 40, box.top + box.height / 2);
+    const svg = document.querySelector("#picture svg:not(.gone)"), whole = svg && svg.getBoundingClientRect();
+    parts.seen.push({ what, told: told.innerText, place: row && row.querySelector("a").innerText, hash: location.hash, value: +slider.value,
+                      inside: box.top >= list.top - 1 && box.bottom <= list.bottom + 1 && (!row || row.contains(under)),
+                      marked: mark && ["x", "y", "width", "height"].map(name => +mark.getAttribute(name)),
+                      loaded: [...document.querySelectorAll("#texture .mark")].length, parts: document.querySelectorAll("#picture svg:not(.gone)>:not(.gone,.mark)").length,
+                      picture: whole && [whole.left, whole.top, whole.right, whole.bottom] });
+}
+look("at first");
+for (const key of KEYS) {
+    if (typeof key === "number") { slider.value = key; slider.dispatchEvent(new Event("input")); }
+    else (key === "Tab" ? slider : document.body).dispatchEvent(new KeyboardEvent("keydown", { key: key === "Tab" ? "ArrowLeft" : key, bubbles: true, cancelable: true }));
+    look(key);
+}
+parts.milliseconds = performance.now() - started;
 parts.overflow = document.documentElement.scrollWidth - document.documentElement.clientWidth;
 document.body.dataset.parts = JSON.stringify(parts);
 </script>"""
@@ -136,3 +160,70 @@ def a_page_has_a_dark_form_and_a_printed_one():
     assert share(rows, (0, 0, 600, 20), "14181d") > 0.9, rows[0][:3]
     browse("g.html", 1000, 1000, f"--print-to-pdf={os.path.abspath('g.pdf')}")
     assert read("g.pdf").startswith(b"%PDF-") and 0 < len(re.findall(rb"/Type\s*/Page\b", read("g.pdf"))) <= 2
+
+
+def stepped(given, width, height, keys, page="steps.html"):
+    write("list.rdp", words(*given))
+    run("report", "--steps", "list.rdp", "--memory", "80", "-o", page)
+    return parts_of(page, width, height, STEPPED.replace("KEYS", json.dumps(keys)))
+
+
+@browser_test
+def steps_go_by_keys_and_slider():
+    for width, height in ((1200, 700), (500, 900)):
+        parts = stepped(OWN, width, height, ["ArrowLeft", "ArrowLeft", "Tab", "ArrowLeft", "ArrowRight", "End", "PageUp", "PageDown", "Home", 2, "ArrowUp", "x"])
+        same(parts["overflow"], 0, width)
+        same([seen["value"] for seen in parts["seen"]], [3, 2, 1, 0, 0, 1, 3, 0, 3, 0, 2, 1, 1], width)
+        for seen in parts["seen"]:
+            step = seen["value"]
+            place, marked, told = ((None, None, "before the first"), ("4", [1, 1, 2, 2], "word 4, Fill Rectangle, columns 1 to 2, rows 1 to 2"),
+                                   ("8", None, "word 8, Load Tile"), ("11", [5, 1, 2, 2], "word 11, Texture Rectangle, columns 5 to 6, rows 1 to 2"))[step]
+            same((seen["told"], seen["place"], seen["marked"]), (f"Step {step} of 3: {told}", place, marked), seen["what"])
+            same((seen["hash"], seen["inside"], seen["loaded"], seen["parts"]), (f"#s{step}", True, 2 if step == 2 else 0, (1, 2, 2, 3)[step]), (width, seen))
+
+
+@browser_test
+def the_steps_of_an_empty_list_are_none():
+    write("list.rdp", b"")
+    same(run("report", "--steps", "list.rdp", "-o", "steps.html")[0], 0)
+    probe = "<script>document.body.dataset.parts = JSON.stringify([told.innerText, location.hash, slider.max]);</script>"
+    same(parts_of("steps.html", 800, 600, probe), ["Step 0 of 0: before the first", "#s0", "0"])
+
+
+@browser_test
+def a_step_is_seen_as_it_is():
+    picture = stepped(OWN, 1200, 700, [])["seen"][0]["picture"]
+    side = (picture[2] - picture[0]) / 8
+    same((side, picture[3] - picture[1]), (float(int(side)), 4 * side))  # whole pixels of the window
+
+    def pixel(rows, x, y):
+        return rows[int(picture[1] + (y + 0.5) * side)][int(picture[0] + (x + 0.5) * side)]
+
+    def shown(where, *arguments):
+        rows = colours_of(where, 1200, 700, *arguments)
+        return [[pixel(rows, x, y) for x in range(8)] for y in range(4)], rows
+
+    black, blue, red = "000000", "0000ff", "ff0000"
+    before, first = [[black] * 8 for _ in range(4)], [[black] * 8 for _ in range(4)]
+    for row in first[1:3]:
+        row[1:3] = [blue, red]
+    last = [row[:5] + row[1:3] + row[7:] for row in first]
+    for where, expected in (("steps.html#s0", before), ("steps.html#s1", first), ("steps.html#s2", first), ("steps.html#s3", last), ("steps.html", last),
+                            ("steps.html#w7", first), ("steps.html#w9", first), ("steps.html#w12", last)):
+        found, rows = shown(where)
+        same(found, expected, where)
+        assert (sum(row.count(YELLOW) for row in rows) > 5000) == (where != "steps.html#s0"), where  # the command's row
+        left, top = picture[0] + side * (5 if expected == last else 1), picture[1] + side
+        border = {rows[int(top + side)][int(left + i)] for i in range(-3, 4)}
+        same("d1006c" in border and "ffffff" in border, where not in ("steps.html#s0", "steps.html#s2", "steps.html#w9"), (where, border))
+    rows = shown("steps.html", "--blink-settings=scriptEnabled=false")[1]
+    assert min(share(rows, (0, 200, 600, 700), colour) for colour in (blue, red)) > 0.005  # the last step, without a script
+
+
+@browser_test
+def steps_of_the_longest_list_go_quickly():
+    given = [*S, *[word for i in range(2046) for word in (C + i * 997, R)]]
+    parts = stepped(given, 1200, 700, ["Home", "End", "ArrowLeft", 1000, "ArrowRight", "Home"])
+    same([(seen["value"], seen["inside"]) for seen in parts["seen"]], [(value, True) for value in (2046, 0, 2046, 2045, 1000, 1001, 0)])
+    same([seen["parts"] for seen in parts["seen"]], [2047, 1, 2047, 2046, 1001, 1002, 1])
+    assert parts["milliseconds"] < 5000, parts["milliseconds"]

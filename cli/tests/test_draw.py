@@ -60,6 +60,18 @@ def draw_writes_the_picture():
 
 
 @test
+def draw_shows_every_value_and_pictures_beyond_the_sides_of_a_view():
+    memory = write("all.bin", struct.pack(">65536H", *range(65536)))
+    colours = {8: lambda i: bytes([read_all[i]] * 3), 16: lambda i: rgb_of(i), 32: lambda i: read_all[4 * i:4 * i + 3]}
+    read_all = read(memory)
+    for width, height, bits in ((256, 256, 16), (512, 256, 8), (128, 256, 32), (1024, 32, 16), (1025, 31, 16), (4096, 16, 16), (31, 1025, 16), (9, 4096, 8),
+                                (4096, 32, 8), (2049, 15, 32)):
+        same(run("draw", example("a.rdp"), "--memory", memory, "--image", f"0,{width},{height},{bits}", "-o", "out.ppm")[0], 0)
+        head = b"P6\n%d %d\n255\n" % (width, height)
+        same(read("out.ppm") == head + b"".join(colours[bits](i) for i in range(width * height)), True, (width, height, bits))
+
+
+@test
 def draw_of_a_picture_that_is_not_there():
     for arguments, reason in (([example("i.rdp"), "--memory", "40", "-o", "x.png"], "8 by 4 pixels of 16 bits at address 0x0, is not inside memory"),
                               ([example("i.rdp"), "--memory", "64", "--image", "64,1,1,8", "-o", "x.png"], "not inside memory"),

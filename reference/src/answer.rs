@@ -30,6 +30,7 @@ pub enum Ground {
     NothingStartsThere = 24,
     LengthsDiffer = 25,
     NoEntry = 26,
+    NotShown = 27,
 }
 
 /// A refusal: its ground and its place.
@@ -43,4 +44,13 @@ impl Refusal {
     pub fn new(ground: Ground, place: usize) -> Self {
         Refusal { ground, place }
     }
+}
+
+/// Writes items to the front of a lent buffer, or refuses by 14 with what is needed, in
+/// the measure of the caller.
+pub fn write_front<T: Copy>(out: &mut [T], items: &[T], needed: usize) -> Result<(), Refusal> {
+    let front = out.get_mut(..items.len());
+    let front = front.ok_or(Refusal::new(Ground::OutputTooShort, needed))?;
+    front.copy_from_slice(items);
+    Ok(())
 }

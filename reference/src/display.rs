@@ -1,7 +1,7 @@
 //! Request #108: display lists of Fast3DEX2 (003) become an RDP list. One loop runs the
 //! commands of all lists, and a stack holds where calls return to.
 
-use crate::answer::{Ground, Refusal};
+use crate::answer::{write_front, Ground, Refusal};
 use crate::words::{bits, bytes_of, mask, word_at, WORD_BYTES};
 
 /// "At most 4,096 display list commands are read."
@@ -44,10 +44,7 @@ pub fn translate(memory: &[u8], start: u32, out: &mut [u8]) -> Translated {
 }
 
 fn write(words: &[u64], out: &mut [u8]) -> Result<usize, Refusal> {
-    let bytes = bytes_of(words);
-    let room = out.get_mut(..bytes.len());
-    let needed = Refusal::new(Ground::OutputTooShort, words.len());
-    room.ok_or(needed)?.copy_from_slice(&bytes);
+    write_front(out, &bytes_of(words), words.len())?;
     Ok(words.len())
 }
 

@@ -69,7 +69,7 @@ pub fn ask(list: &[u8], entries: &[u32], place: u32) -> Result<Asked, Refusal> {
 /// its number. 26: "no such entry or that entry's marks not among the sixteen".
 fn start_of(entries: &[u32], asked: u32) -> Result<(usize, Marks), Ground> {
     let not_beyond = |entry: &&[u32]| entry[0] <= asked;
-    let last = entries.chunks_exact(ENTRY).filter(not_beyond).last();
+    let last = entries.chunks_exact(ENTRY).rfind(not_beyond);
     match last {
         Some(entry) if entry[1] <= MOST_MARKS => {
             Ok((entry[0] as usize, Marks::of_sum(entry[1])))

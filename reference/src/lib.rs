@@ -22,4 +22,5 @@ pub mod registers;
 pub mod repair;
 pub mod stream;
 pub mod texture;
+pub mod view;
 pub mod words;

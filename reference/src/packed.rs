@@ -11,7 +11,8 @@ use crate::marks::Marks;
 use crate::record::{self, Record};
 use crate::repair::Repaired;
 use crate::stream::{Stream, Told, DAMAGED};
-use crate::{check, decode, differences, display, draw, encode, index, repair};
+use crate::view::Image;
+use crate::{check, decode, differences, display, draw, encode, index, repair, view};
 
 /// An answer in its three parts.
 #[derive(Clone, Copy, Debug, PartialEq, Eq)]
@@ -219,6 +220,14 @@ pub fn index_ask(list: &[u8], entries: &[u32], place: u32) -> u64 {
 pub fn index_replace(list: &mut [u8], entries: &mut [u32], place: u32, new: &[u8]) -> u64 {
     match index::replace(list, entries, place, new) {
         Ok(()) => accepted(place as usize, 0),
+        Err(refusal) => refused(refusal),
+    }
+}
+
+/// `lanyardrove_view`: the place is the bytes written, or needed at 14.
+pub fn view(memory: &[u8], start: u64, image: Image, out: &mut [u8]) -> u64 {
+    match view::view(memory, start, image, out) {
+        Ok(bytes) => accepted(bytes, 0),
         Err(refusal) => refused(refusal),
     }
 }

@@ -9,7 +9,7 @@
 
 use std::collections::BTreeMap;
 
-use crate::answer::{Ground, Refusal};
+use crate::answer::{write_front, Ground, Refusal};
 use crate::check::{walk, Syncs};
 use crate::kinds::{commands, is_short_sync, words, Command, Sync};
 use crate::marks::Marks;
@@ -116,10 +116,7 @@ fn write_least(list: &[u8], out: &mut [u8]) -> Result<Repaired, Refusal> {
     let plan = least_plan(&given);
     let repaired = with_plan(list, &given, &plan.adds);
     let words = repaired.len() / WORD_BYTES;
-    if out.len() < repaired.len() {
-        return Err(Refusal::new(Ground::OutputTooShort, words));
-    }
-    out[..repaired.len()].copy_from_slice(&repaired);
+    write_front(out, &repaired, words)?;
     Ok(Repaired {
         words,
         cycles: plan.cycles,

@@ -14,13 +14,12 @@ use reference::comparison::side::{Reference, Side};
 use reference::decode::suffix;
 use reference::differences::ENTRY;
 use reference::display::{walk, MOST_CALLS};
-use reference::kinds::{
-    base_words, commands, is_draw, is_textured_draw, is_unassigned, Command,
-};
+use reference::kinds::{base_words, commands, is_draw, is_textured_draw, is_unassigned, Command};
 use reference::record::{pack, unpack, Record, NUMBERS};
 use reference::repair::without_syncs;
 use reference::stream::{MOST_TOTAL, ROOM};
 use reference::texture::TEXTURE_BYTES;
+use reference::view::Image;
 use reference::words::{bits, command_number, word_at, write_word};
 
 const SEED: u64 = 7;
@@ -153,6 +152,12 @@ enum Fault {
     TargetTold,
     /// Of a going's parameter the lowest bit counts.
     ParameterBit,
+    /// Going for good returns.
+    ForGoodReturns,
+    /// 22 and 23 come before 21.
+    LimitLate,
+    /// 21 comes before 20.
+    LimitEarly,
     /// A cut display list command is read as if zeros followed.
     CutRead,
     /// Bits 63:62 of a display list command are kept.
@@ -167,6 +172,8 @@ enum Fault {
     LowHalfFirst,
     /// Bits that are no field's count too.
     UnusedBitsCount,
+    /// The unused lines of Set Other Modes take no bit.
+    LinesUncounted,
     /// A triangle's suffix does not count.
     SuffixUnseen,
     /// The second list is judged first.
@@ -183,6 +190,8 @@ enum Fault {
     FirstEntry,
     /// The search for an entry stops at the first one beyond.
     SearchStops,
+    /// A question reads 65 commands.
+    SixtyFifthRead,
     /// Of an entry's marks the low four bits count.
     MarksUnjudged,
     /// Later entries are not renewed.
@@ -193,6 +202,16 @@ enum Fault {
     CommandKept,
     /// 25 comes before 3 of the new command.
     LengthFirst,
+    /// A five-bit channel becomes 8v.
+    ChannelDark,
+    /// The alpha bit becomes 0 or 1.
+    AlphaBit,
+    /// The alpha of an 8-bit value is that value.
+    ValueAlpha,
+    /// An image at the very end of memory is refused.
+    LastByteRefused,
+    /// An image too wide is refused only where it lies inside memory.
+    SizeLate,
 }
 
 /// The reference with one fault.
@@ -388,6 +407,7 @@ impl Side for Faulty {
         let answer = Reference.index_ask(list, &entries, place);
         match (self.0, ground(answer)) {
             (Fault::AskedUncounted, 0) => answer - (16 << 32),
+            (Fault::SixtyFifthRead, 24) => asked_one_further(list, &entries, place, answer),
             _ => answer,
         }
     }
@@ -395,6 +415,29 @@ impl Side for Faulty {
     fn index_replace(&self, list: &mut [u8], entries: &mut [u32], place: u32, new: &[u8]) -> u64 {
         faulty_replace(self.0, list, entries, place, new)
     }
+
+    fn view(&self, memory: &[u8], start: u64, image: Image, out: &mut [u8]) -> u64 {
+        faulty_view(self.0, memory, start, image, out)
+    }
+}
+
+/// An image viewed with one fault, most often in its first pixel.
+fn faulty_view(fault: Fault, memory: &[u8], start: u64, image: Image, out: &mut [u8]) -> u64 {
+    let taken = match fault {
+        Fault::LastByteRefused => memory.len().saturating_sub(1),
+        _ => memory.len(),
+    };
+    let answer = Reference.view(&memory[..taken], start, image, out);
+    match (fault, ground(answer), image.size) {
+        (Fault::ChannelDark, 0, 2) => out[0] &= 0xF8,
+        (Fault::AlphaBit, 0, 2) => out[3] &= 1,
+        (Fault::ValueAlpha, 0, 1) => out[3] = out[0],
+        (Fault::SizeLate, 27, 1..=3) if memory.is_empty() || image.address < start => {
+            return 12 << 56;
+        }
+        _ => {}
+    }
+    answer
 }
 
 /// Entries as a question with one fault sees them.
@@ -410,6 +453,24 @@ fn with_other_entries(fault: Fault, entries: &[u32], place: u32) -> Vec<u32> {
         _ => {}
     }
     seen.as_flattened().to_vec()
+}
+
+/// A question's answer where the start may be one command later, if there is one then.
+fn asked_one_further(list: &[u8], entries: &[u32], place: u32, answer: u64) -> u64 {
+    let start = entries.chunks_exact(2).rfind(|entry| entry[0] <= place);
+    let start = start.expect("26 comes before 24");
+    if start[0] as usize >= list.len() / 8 {
+        return answer;
+    }
+    let word = word_at(list, start[0] as usize);
+    let later = start[0] + Reference.words(word) as u32;
+    let marks = Reference.step(start[1], command_number(word).into()) as u32;
+    let further = Reference.index_ask(list, &[later, marks], place);
+    if ground(further) == 0 {
+        further + (16 << 32)
+    } else {
+        answer
+    }
 }
 
 /// A command replaced with one fault.
@@ -450,6 +511,12 @@ fn faulty_compare(fault: Fault, first: &[u8], second: &[u8], entries: &mut [u32]
             let entries = entries[..written].chunks_exact_mut(ENTRY);
             entries.for_each(|entry| entry.swap(2, 3));
         }
+        Fault::LinesUncounted if ground(answer) == 0 => {
+            let is_modes = |at: u32| command_number(word_at(first, at as usize)) == 0x2F;
+            let entries = entries[..written].chunks_exact_mut(ENTRY);
+            let modes = entries.filter(|entry| is_modes(entry[0]));
+            modes.for_each(without_unused_lines);
+        }
         Fault::UnusedBitsCount if only_unused_bits => return 14 << 56 | 4,
         Fault::SecondFirst if matches!(ground(answer), 1..=3) => {
             return Reference.compare(&second, first, entries);
@@ -457,6 +524,16 @@ fn faulty_compare(fault: Fault, first: &[u8], second: &[u8], entries: &mut [u32]
         _ => {}
     }
     answer
+}
+
+/// The bits of an entry of Set Other Modes without those of its unused lines.
+fn without_unused_lines(entry: &mut [u32]) {
+    let all = u64::from(entry[2]) << 32 | u64::from(entry[3]);
+    let used = (0..64).filter(|bit| ![1, 17, 26].contains(bit));
+    let packed = used
+        .enumerate()
+        .fold(0, |packed, (at, bit)| packed | (all >> bit & 1) << at);
+    (entry[2], entry[3]) = ((packed >> 32) as u32, packed as u32);
 }
 
 /// The second list, where a triangle stands in both, with the suffixes of the first.
@@ -510,6 +587,8 @@ fn faulty_translate(fault: Fault, memory: &[u8], start: u32, out: &mut [u8]) -> 
             let rectangles = (0..place).filter(|at| matches!(out[8 * at], 0x24 | 0x25));
             answer - 2 * rectangles.count() as u64 * one_read
         }
+        (Fault::LimitLate, 21) if matches!(memory[place], 0xE1 | 0xF1) => answer + (1 << 56),
+        (Fault::LimitEarly, 20) if answer >> 32 & 0xFF_FFFF == 4_096 => answer + (1 << 56),
         (Fault::EighthCall, 0) if walk(memory, start).deepest == MOST_CALLS => 23 << 56,
         (Fault::TargetTold, 23) if memory[place] == 0xDE => {
             answer | word_at(memory, place / 8) & 0xFFFF_FFFF
@@ -526,7 +605,7 @@ fn faulty_translate(fault: Fault, memory: &[u8], start: u32, out: &mut [u8]) -> 
 fn mask_data(word: &mut [u8]) {
     let (shift, count) = (u32::from(word[2]), u32::from(word[3]) + 1);
     if shift + count <= 32 {
-        let kept = (1u64 << count) - 1 << (32 - shift - count);
+        let kept = ((1u64 << count) - 1) << (32 - shift - count);
         let data = word_at(word, 0) & kept;
         word[4..].copy_from_slice(&(data as u32).to_be_bytes());
     }
@@ -542,6 +621,7 @@ fn with_other_words(fault: Fault, memory: &[u8]) -> Vec<u8> {
         match (fault, word[0]) {
             (Fault::DataMasked, 0xE2 | 0xE3) => mask_data(word),
             (Fault::ParameterBit, 0xDE) => word[1] &= 1,
+            (Fault::ForGoodReturns, 0xDE) if word[1] == 1 => word[1] = 0,
             _ => {}
         }
     }
@@ -663,6 +743,9 @@ fn every_fault_is_found_in_its_function() {
         (Fault::EighthCall, Function::Translate),
         (Fault::TargetTold, Function::Translate),
         (Fault::ParameterBit, Function::Translate),
+        (Fault::ForGoodReturns, Function::Translate),
+        (Fault::LimitLate, Function::Translate),
+        (Fault::LimitEarly, Function::Translate),
         (Fault::CutRead, Function::Translate),
         (Fault::TopBitsKept, Function::Translate),
         (Fault::SyncsKept, Function::Afresh),
@@ -670,6 +753,7 @@ fn every_fault_is_found_in_its_function() {
         (Fault::AddedTold, Function::Afresh),
         (Fault::LowHalfFirst, Function::Compare),
         (Fault::UnusedBitsCount, Function::Compare),
+        (Fault::LinesUncounted, Function::Compare),
         (Fault::SuffixUnseen, Function::Compare),
         (Fault::SecondFirst, Function::Compare),
         (Fault::RestOfFirst, Function::Rest),
@@ -678,11 +762,17 @@ fn every_fault_is_found_in_its_function() {
         (Fault::AskedUncounted, Function::IndexAsk),
         (Fault::FirstEntry, Function::IndexAsk),
         (Fault::SearchStops, Function::IndexAsk),
+        (Fault::SixtyFifthRead, Function::IndexAsk),
         (Fault::MarksUnjudged, Function::IndexAsk),
         (Fault::EntriesKept, Function::IndexReplace),
         (Fault::OwnEntryRenewed, Function::IndexReplace),
         (Fault::CommandKept, Function::IndexReplace),
         (Fault::LengthFirst, Function::IndexReplace),
+        (Fault::ChannelDark, Function::View),
+        (Fault::AlphaBit, Function::View),
+        (Fault::ValueAlpha, Function::View),
+        (Fault::LastByteRefused, Function::View),
+        (Fault::SizeLate, Function::View),
     ];
     for (fault, function) in faults {
         assert_eq!(found(fault).call.function, function, "{fault:?}");

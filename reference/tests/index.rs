@@ -244,7 +244,7 @@ fn questions_agree_with_the_full_walk() {
         let end = list.len() / 8;
         for command in commands(&list).filter(|c| c.place + words(c.number()) <= end) {
             let answer = ask(&list, entries.as_flattened(), command.place as u32);
-            if list.len() % 8 == 0 {
+            if list.len().is_multiple_of(8) {
                 assert_eq!(answer.expect("is read").marks, marks);
             }
             marks = marks.after(command.number());

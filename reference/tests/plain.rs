@@ -37,6 +37,17 @@ extern "C" {
         out: *mut u8,
         out_length: usize,
     ) -> u64;
+    fn plain_view(
+        memory: *const u8,
+        memory_length: usize,
+        start: u64,
+        address: u64,
+        width: u32,
+        height: u32,
+        size: u32,
+        out: *mut u8,
+        out_length: usize,
+    ) -> u64;
 }
 
 const SEED: u64 = 11;
@@ -46,6 +57,7 @@ const CASES: u64 = 20_000;
 fn the_plain_version_agrees_with_the_reference() {
     let plain = Foreign {
         translate: Some(plain_translate),
+        view: Some(plain_view),
         repair_afresh: Some(plain_repair_afresh),
         compare: Some(plain_compare),
         rest: Some(plain_rest),

@@ -3,7 +3,7 @@
  * a length is 0, document 01's examples, guard bytes around every buffer, every command number there and back, its length,
  * its step from each of the sixteen hazards, every unassigned number, lists in portions with the cycles that their syncs wait,
  * textures that are loaded and copied, lists whose syncs are chosen afresh, two lists compared, an index asked at every place and
- * kept up by replacements, and display lists translated.
+ * kept up by replacements, images viewed, and display lists translated.
  * It compiles as C11 and as C++17. The last line counts the checks; the exit status says whether all passed.
  */
 #include "lanyardrove.h"
@@ -163,6 +163,9 @@ static void null_pointers(void) {
     ANSWERS(lanyardrove_index_ask(NULL, 0, NULL, 0, 0), 26, 0, 0);
     ANSWERS(lanyardrove_index_ask(NULL, 0, NULL, 0, UINT32_MAX), 26, 0, UINT32_MAX);
     ANSWERS(lanyardrove_index_replace(NULL, 0, NULL, 0, 7, NULL, 0), 26, 0, 7);
+    ANSWERS(lanyardrove_view(NULL, 0, 0, 0, 0, 0, 0, NULL, 0), 27, 0, 0);
+    ANSWERS(lanyardrove_view(NULL, 0, 0, 0, 1, 1, 1, NULL, 0), 12, 0, 0);
+    ANSWERS(lanyardrove_view(NULL, 0, UINT64_MAX, UINT64_MAX, 1, 1, 1, NULL, 0), 12, 0, 0);
     ANSWERS(lanyardrove_translate(NULL, 0, 0, NULL, 0), 20, 0, 0);
     ANSWERS(lanyardrove_translate(NULL, 0, UINT32_MAX, NULL, 0), 20, 0, UINT32_MAX);
     ANSWERS(lanyardrove_decode(NULL, 0, NULL, 0), 3, 0, 0);
@@ -173,6 +176,8 @@ static void null_pointers(void) {
     fresh(&an_out);
     ANSWERS(lanyardrove_repair(NULL, 0, a_work.bytes, 32, an_out.bytes, 32), 0, 0, 0);
     ANSWERS(lanyardrove_draw(NULL, 0, an_out.bytes, 32, 0, a_texture.bytes, LANYARDROVE_TEXTURE_BYTES), 0, 0, 0);
+    ANSWERS(lanyardrove_view(NULL, 0, 0, 0, 1, 1, 1, an_out.bytes, 32), 12, 0, 0);
+    ANSWERS(lanyardrove_view(a_work.bytes, 1, 0, 0, 1, 1, 1, NULL, 0), 14, 0, 4);
     ANSWERS(lanyardrove_translate(NULL, 0, 0, an_out.bytes, 32), 20, 0, 0);
     ANSWERS(lanyardrove_decode(NULL, 0, &field, 1), 3, 0, 0);
     ANSWERS(lanyardrove_encode(0, NULL, 0, NULL, 0, an_out.bytes, 7), 14, 0, 1);
@@ -1774,6 +1779,135 @@ static void stream_any_bytes(void) {
     }
 }
 
+/* ---- Images viewed (request #113). */
+
+/* An image in a_list, as the caller says red, green, blue and alpha: with exactly the room needed, with a byte less, and with no memory before and after. */
+static void views(size_t at, uint32_t width, uint32_t height, uint32_t size, const uint8_t *rgba, int line) {
+    size_t pixels = (size_t)width * height, bytes = pixels << (size - 1);
+    const uint8_t *image = a_list.bytes + at;
+    uint64_t start;
+    fresh(&an_out);
+    expect_answer(lanyardrove_view(a_list.bytes, at + bytes, 0, at, width, height, size, an_out.bytes, 4 * pixels - 1), 14, 0, (unsigned)(4 * pixels), line);
+    expect_answer(lanyardrove_view(a_list.bytes, at + bytes, 0, at, width, height, size, NULL, 0), 14, 0, (unsigned)(4 * pixels), line);
+    expect_answer(lanyardrove_view(a_list.bytes, at + bytes - 1, 0, at, width, height, size, an_out.bytes, ROOM), 12, 0, 0, line);
+    expect_answer(lanyardrove_view(image, bytes, at + 1, at, width, height, size, an_out.bytes, ROOM), 12, 0, 0, line);
+    expect(untouched_from(&an_out, 0), "a refusal leaves the output", line);
+    expect_answer(lanyardrove_view(a_list.bytes, at + bytes, 0, at, width, height, size, an_out.bytes, 4 * pixels), 0, 0, (unsigned)(4 * pixels), line);
+    expect(memcmp(an_out.bytes, rgba, 4 * pixels) == 0 && untouched_from(&an_out, 4 * pixels), "the rows, and nothing beyond", line);
+    for (start = 0; start < 2; start++) { /* just the image, low and at the end of the addresses */
+        uint64_t address = start ? UINT64_MAX - 3 : 5;
+        fresh(&an_out);
+        expect_answer(lanyardrove_view(image, bytes, address, address, width, height, size, an_out.bytes, ROOM), 0, 0, (unsigned)(4 * pixels), line);
+        expect(memcmp(an_out.bytes, rgba, 4 * pixels) == 0 && untouched_from(&an_out, 4 * pixels), "the same of the image alone", line);
+    }
+}
+
+/* Every value of 8 bits, every value of 16 in parts, and pixels of 32. */
+static void viewed_pixels(void) {
+    static uint8_t rgba[16384];
+    unsigned i, part, bits;
+    fresh(&a_list);
+    for (i = 0; i < 256; i++) {
+        a_list.bytes[3 + i] = (uint8_t)i;
+        memset(rgba + 4 * i, (int)i, 3);
+        rgba[4 * i + 3] = 255;
+    }
+    views(3, 256, 1, 1, rgba, __LINE__);
+    views(3, 1, 256, 1, rgba, __LINE__);
+    views(3, 16, 16, 1, rgba, __LINE__);
+    for (part = 0; part < 16; part++) {
+        for (i = 0; i < 4096; i++) {
+            bits = part << 12 | i;
+            a_list.bytes[1 + 2 * i] = (uint8_t)(bits >> 8);
+            a_list.bytes[2 + 2 * i] = (uint8_t)bits;
+            rgba[4 * i] = (uint8_t)(bits / 2048 * 8 + bits / 8192);
+            rgba[4 * i + 1] = (uint8_t)(bits / 64 % 32 * 8 + bits / 256 % 8);
+            rgba[4 * i + 2] = (uint8_t)(bits / 2 % 32 * 8 + bits / 8 % 8);
+            rgba[4 * i + 3] = bits % 2 ? 255 : 0;
+        }
+        views(1, 64, 64, 2, rgba, __LINE__);
+    }
+    for (i = 0; i < 4 * 33; i++) rgba[i] = a_list.bytes[9 + i] = (uint8_t)random_word();
+    views(9, 11, 3, 3, rgba, __LINE__);
+    CHECK(untouched_from(&a_list, 8193));
+}
+
+/* The order 27, 12, 14, the limits of the sides and the size, and the ends of memory and of the addresses. */
+static void viewed_limits(void) {
+    static const uint32_t wrong_sides[] = {0, 1025, 2048, 65536, 65537, UINT32_MAX}, wrong_sizes[] = {0, 4, 5, 257, 65537, UINT32_MAX};
+    const uint64_t far = UINT64_MAX - 7;
+    uint32_t i, size;
+    fresh(&a_list);
+    fresh(&an_out);
+    for (i = 0; i < COUNT(wrong_sides); i++) {
+        ANSWERS(lanyardrove_view(a_list.bytes, ROOM, 0, 0, wrong_sides[i], 1, 1, an_out.bytes, ROOM), 27, 0, 0);
+        ANSWERS(lanyardrove_view(a_list.bytes, ROOM, 0, 0, 1, wrong_sides[i], 2, an_out.bytes, ROOM), 27, 0, 0);
+        ANSWERS(lanyardrove_view(a_list.bytes, 0, 1, 0, wrong_sides[i], wrong_sides[i], 3, an_out.bytes, 0), 27, 0, 0);
+        ANSWERS(lanyardrove_view(a_list.bytes, ROOM, 0, 0, 1, 1, wrong_sizes[i], an_out.bytes, ROOM), 27, 0, 0);
+        ANSWERS(lanyardrove_view(a_list.bytes, 0, 1, 0, 1, 1, wrong_sizes[i], an_out.bytes, 0), 27, 0, 0);
+    }
+    for (size = 1; size <= 3; size++) { /* eight bytes of memory, at the end of the addresses and beyond it */
+        uint32_t pixels = 8u >> (size - 1);
+        ANSWERS(lanyardrove_view(a_list.bytes, 8, far, far, pixels, 1, size, an_out.bytes, 0), 14, 0, 4 * pixels);
+        ANSWERS(lanyardrove_view(a_list.bytes, 8, far, far, 1, pixels, size, NULL, 0), 14, 0, 4 * pixels);
+        ANSWERS(lanyardrove_view(a_list.bytes, 16, far, far, 2 * pixels, 1, size, NULL, 0), 14, 0, 8 * pixels);
+        ANSWERS(lanyardrove_view(a_list.bytes, 8, far, far, pixels + 1, 1, size, an_out.bytes, 0), 12, 0, 0);
+        ANSWERS(lanyardrove_view(a_list.bytes, 8, far, far + 1, pixels, 1, size, an_out.bytes, 0), 12, 0, 0);
+        ANSWERS(lanyardrove_view(a_list.bytes, 8, far, far - 1, pixels, 1, size, an_out.bytes, 0), 12, 0, 0);
+        ANSWERS(lanyardrove_view(a_list.bytes, 16, far, 0, 1, 1, size, an_out.bytes, ROOM), 12, 0, 0); /* no sum wraps */
+        ANSWERS(lanyardrove_view(a_list.bytes, ROOM, 0, UINT64_MAX, 1, 1, size, an_out.bytes, ROOM), 12, 0, 0);
+        ANSWERS(lanyardrove_view(a_list.bytes, 8, 0, 8, 1, 1, size, an_out.bytes, ROOM), 12, 0, 0);
+        ANSWERS(lanyardrove_view(a_list.bytes, ROOM, 0, 0, 1024, 1024, size, an_out.bytes, ROOM), 12, 0, 0);
+    }
+    CHECK(untouched_from(&an_out, 0) && untouched_from(&a_list, 0));
+}
+
+/* The largest image, of each size. */
+static void viewed_largest(void) {
+    const size_t most = (size_t)4 * LANYARDROVE_MOST_SIDE * LANYARDROVE_MOST_SIDE;
+    uint8_t *memory = (uint8_t *)malloc(most), *out = (uint8_t *)malloc(most);
+    size_t i, wrong = 0;
+    uint32_t size;
+    CHECK(memory != NULL && out != NULL);
+    for (i = 0; i < most; i++) memory[i] = (uint8_t)(i * 7 + i / 4096);
+    for (size = 1; size <= 3; size++) {
+        size_t bytes = most >> (3 - size), step = (size_t)1 << (size - 1);
+        ANSWERS(lanyardrove_view(memory, bytes, 0, 0, 1024, 1024, size, out, most - 1), 14, 0, (unsigned)most);
+        ANSWERS(lanyardrove_view(memory, bytes - 1, 0, 0, 1024, 1024, size, out, most), 12, 0, 0);
+        ANSWERS(lanyardrove_view(memory, bytes, 0, 0, 1024, 1024, size, out, most), 0, 0, (unsigned)most);
+        for (i = 0; i < most / 4; i++) {
+            const uint8_t *pixel = memory + i * step;
+            wrong += size == 2 ? out[4 * i] != pixel[0] / 8 * 8 + pixel[0] / 32 : out[4 * i] != pixel[0];
+            wrong += size == 1 ? out[4 * i + 3] != 255 : size == 2 ? out[4 * i + 3] != pixel[1] % 2 * 255 : out[4 * i + 3] != pixel[3];
+        }
+    }
+    CHECK(wrong == 0);
+    free(memory);
+    free(out);
+}
+
+/* A list and its second repair, drawn and viewed: the same picture. */
+static void viewed_afresh(void) {
+    const uint64_t words[] = {PIPE, S, C, LOAD, R, PIPE};
+    static uint8_t picture[128];
+    size_t length = LIST(words), at;
+    for (at = 0; at < 2; at++) {
+        uint64_t repaired = lanyardrove_repair_afresh(a_list.bytes, length, fresh(&a_work), ROOM, fresh(&an_out), ROOM);
+        ANSWERS(repaired, 0, 0, 5);
+        if (at) memcpy(a_list.bytes, an_out.bytes, length = 40);
+        fresh(&an_out);
+        memset(an_out.bytes, 0, 64);
+        fresh(&a_texture);
+        ANSWERS(draw(length, 64, 0), 0, 0, (unsigned)(length / 8));
+        fresh(&a_work);
+        ANSWERS(lanyardrove_view(an_out.bytes, 64, 0, 0, 8, 4, 2, a_work.bytes, 128), 0, 0, 128);
+        CHECK(untouched_from(&a_work, 128) && untouched_from(&an_out, 64));
+        if (at == 0) memcpy(picture, a_work.bytes, 128);
+    }
+    CHECK(memcmp(picture, a_work.bytes, 128) == 0);
+    CHECK(picture[4 * 10] == 255 && picture[4 * 9] == 0 && picture[4 * 9 + 2] == 255 && picture[4 * 9 + 3] == 255 && picture[3] == 0);
+}
+
 /* ---- Display lists (document 02, #108, and document 003's formats): a memory of commands, and the RDP list that one stands for. */
 
 #define END 0xDF00000000000000u
@@ -2229,6 +2363,10 @@ int main(void) {
     stream_cycles();
     stream_most_cycles();
     stream_any_bytes();
+    viewed_pixels();
+    viewed_limits();
+    viewed_largest();
+    viewed_afresh();
     translate_words();
     translate_modes();
     translate_calls();

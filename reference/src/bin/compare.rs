@@ -27,7 +27,8 @@ static ARCHIVE: Foreign = foreign!(
     lanyardrove_rest,
     lanyardrove_index_build,
     lanyardrove_index_ask,
-    lanyardrove_index_replace
+    lanyardrove_index_replace,
+    lanyardrove_view
 );
 
 /// The arguments: seed, number of cases, first case.

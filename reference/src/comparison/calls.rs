@@ -5,6 +5,7 @@ use std::fmt;
 use crate::comparison::lent::Lent;
 use crate::comparison::portions::Portions;
 use crate::comparison::side::Side;
+use crate::view::Image;
 
 #[derive(Clone, Copy, Debug, PartialEq, Eq)]
 pub enum Function {
@@ -23,10 +24,11 @@ pub enum Function {
     IndexBuild,
     IndexAsk,
     IndexReplace,
+    View,
 }
 
 impl Function {
-    pub const COUNT: usize = 15;
+    pub const COUNT: usize = 16;
     pub const ALL: [Function; Function::COUNT] = [
         Function::Check,
         Function::Repair,
@@ -43,6 +45,7 @@ impl Function {
         Function::IndexBuild,
         Function::IndexAsk,
         Function::IndexReplace,
+        Function::View,
     ];
 
     pub fn name(self) -> &'static str {
@@ -62,6 +65,7 @@ impl Function {
             Function::IndexBuild => "build",
             Function::IndexAsk => "ask",
             Function::IndexReplace => "replace",
+            Function::View => "view",
         }
     }
 }
@@ -93,6 +97,8 @@ pub struct Call {
     pub out: Lent<u8>,
     pub memory: Lent<u8>,
     pub texture: Lent<u8>,
+    /// The image in memory that is viewed.
+    pub image: Image,
     /// How the list is fed to a record, and what becomes of it.
     pub portions: Portions,
 }
@@ -117,6 +123,7 @@ impl Call {
             out: Lent::default(),
             memory: Lent::default(),
             texture: Lent::default(),
+            image: Image::default(),
             portions: Portions::default(),
         }
     }
@@ -155,6 +162,10 @@ impl Call {
             Function::IndexReplace => {
                 let (list, entries) = (self.list.slice_mut(), self.entries.slice_mut());
                 side.index_replace(list, entries, self.place, self.second.slice())
+            }
+            Function::View => {
+                let memory = self.memory.slice();
+                side.view(memory, self.start, self.image, self.out.slice_mut())
             }
         }
     }
@@ -226,6 +237,7 @@ impl fmt::Display for Call {
             Function::Compare | Function::Rest => self.describe_pair(f),
             Function::IndexBuild => writeln!(f, "entries {} numbers", self.entries.len()),
             Function::IndexAsk | Function::IndexReplace => self.describe_index(f),
+            Function::View => self.describe_view(f),
         }
     }
 }
@@ -254,6 +266,16 @@ impl Call {
         writeln!(f, "entries {:?}", self.entries.slice())?;
         let new = hexadecimal(self.second.slice());
         writeln!(f, "place {}, new command {new}", self.place)
+    }
+
+    fn describe_view(&self, f: &mut fmt::Formatter) -> fmt::Result {
+        let (memory, out) = (self.memory.len(), self.out.len());
+        writeln!(f, "{:?}", self.image)?;
+        writeln!(
+            f,
+            "memory {memory} bytes, start {:#x}, out {out} bytes",
+            self.start
+        )
     }
 
     fn describe_translation(&self, f: &mut fmt::Formatter) -> fmt::Result {

@@ -1,6 +1,7 @@
 //! The calls of a case: its list or command, and buffers that are just enough,
 //! too short or longer.
 
+use crate::answer::Ground;
 use crate::check::{check, walk, Syncs};
 use crate::comparison::calls::{Call, Function};
 use crate::comparison::displays::display;
@@ -10,6 +11,7 @@ use crate::comparison::lent::Lent;
 use crate::comparison::pairs::pair;
 use crate::comparison::portions::Portions;
 use crate::comparison::rng::Rng;
+use crate::comparison::views::Viewed;
 use crate::decode::decode;
 use crate::differences::{compare, ENTRY};
 use crate::display::walk as walk_display;
@@ -18,6 +20,7 @@ use crate::index::{entries_of, ENTRY as ENTRY_NUMBERS};
 use crate::kinds::{commands, Command};
 use crate::repair::{least_plan, with_plan, without_syncs, REPAIR_LIMIT, WORK_BYTES};
 use crate::texture::TEXTURE_BYTES;
+use crate::view::view;
 use crate::words::WORD_BYTES;
 
 /// All calls of a case.
@@ -43,6 +46,7 @@ pub fn calls(rng: &mut Rng, case: u64, list: &[u8]) -> Vec<Call> {
         build_call,
         ask_call,
         replace_call,
+        view_call(rng),
     ]
 }
 
@@ -93,18 +97,22 @@ fn decode_call(rng: &mut Rng, list: &[u8]) -> Call {
     }
 }
 
-/// A buffer for `needed` bytes: exactly enough, a byte or a step too short,
-/// more than enough, or empty.
+/// A buffer for `needed` bytes.
 pub fn room(rng: &mut Rng, needed: usize, step: usize) -> Lent<u8> {
+    let length = length_near(rng, needed, step);
+    Lent::random(rng, length)
+}
+
+/// A length: exactly enough, one or a step too short, more than enough, or zero.
+fn length_near(rng: &mut Rng, needed: usize, step: usize) -> usize {
     let more = rng.between(1, 64) as usize;
-    let length = match rng.below(12) {
+    match rng.below(12) {
         0 => needed.saturating_sub(1),
         1 => needed.saturating_sub(step),
         2..=4 => needed + more,
         5 if rng.one_in(2) => 0,
         _ => needed,
-    };
-    Lent::random(rng, length)
+    }
 }
 
 /// A repair of a list, of which the commands that remain are given syncs.
@@ -249,7 +257,7 @@ fn translate_call(rng: &mut Rng, case: u64) -> Call {
 fn pair_calls(rng: &mut Rng, case: u64, list: &[u8]) -> [Call; 2] {
     let (first, second) = pair(rng, case, list);
     let needed = compare(&first, &second, &mut []).map_or_else(|refusal| refusal.place, |_| 0);
-    let count = numbers(rng, needed, ENTRY);
+    let count = length_near(rng, needed, ENTRY);
     let call = |rng: &mut Rng, function| Call {
         list: Lent::of(rng, &first),
         second: Lent::of(rng, &second),
@@ -267,24 +275,12 @@ fn pair_calls(rng: &mut Rng, case: u64, list: &[u8]) -> [Call; 2] {
     [compare, rest]
 }
 
-/// A count of numbers: exactly enough, one or an entry too few, more, or none.
-fn numbers(rng: &mut Rng, needed: usize, entry: usize) -> usize {
-    let more = rng.between(1, 9) as usize;
-    match rng.below(12) {
-        0 => needed.saturating_sub(1),
-        1 => needed.saturating_sub(entry),
-        2..=4 => needed + more,
-        5 => 0,
-        _ => needed,
-    }
-}
-
 /// Entries built, a question, and a replacement. The last two are of lists of their own.
 fn index_calls(rng: &mut Rng, list: &[u8]) -> [Call; 3] {
     let [built, asked, replaced] = [(); 3].map(|()| Index::random(rng, list));
     let new = replaced.replacement(rng);
     let needed = ENTRY_NUMBERS * entries_of(&built.list).len();
-    let count = numbers(rng, needed, ENTRY_NUMBERS);
+    let count = length_near(rng, needed, ENTRY_NUMBERS);
     let call = |rng: &mut Rng, function, index: &Index| Call {
         list: Lent::of(rng, &index.list),
         entries: Lent::of_numbers(rng, &index.entries),
@@ -302,4 +298,21 @@ fn index_calls(rng: &mut Rng, list: &[u8]) -> [Call; 3] {
             ..call(rng, Function::IndexReplace, &replaced)
         },
     ]
+}
+
+/// An image in memory, with room for its rows.
+fn view_call(rng: &mut Rng) -> Call {
+    let viewed = Viewed::random(rng);
+    let memory = viewed.memory(rng);
+    let needed = match view(memory.slice(), viewed.start, viewed.image, &mut []) {
+        Err(refusal) if refusal.ground == Ground::OutputTooShort => refusal.place,
+        _ => 40,
+    };
+    Call {
+        start: viewed.start,
+        image: viewed.image,
+        memory,
+        out: room(rng, needed, 4),
+        ..Call::of(Function::View)
+    }
 }

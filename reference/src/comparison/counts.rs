@@ -52,6 +52,7 @@ pub fn possible(function: Function) -> &'static [u8] {
         Function::IndexBuild => &[0, 1, 2, 3, 14],
         Function::IndexAsk => &[0, 1, 2, 3, 24, 26],
         Function::IndexReplace => &[0, 1, 2, 3, 14, 24, 25, 26],
+        Function::View => &[0, 12, 14, 27],
         Function::Translate => &[0, 14, 20, 21, 22, 23],
     }
 }

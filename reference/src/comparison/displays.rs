@@ -252,7 +252,8 @@ fn circle(rng: &mut Rng) -> Display {
     builder.finish()
 }
 
-/// One list of about as many commands as may be read.
+/// One list of about as many commands as may be read. The last one may be refused, or
+/// missing.
 fn long(rng: &mut Rng) -> Display {
     let count = MOST_READ + 2 - rng.below(4) as usize;
     let mut builder = Builder::new(rng, vec![0]);
@@ -269,7 +270,12 @@ fn long(rng: &mut Rng) -> Display {
     while builder.words.len() + 1 < count {
         builder.plain();
     }
-    builder.end();
+    match builder.rng.below(8) {
+        0 => {}
+        1 => builder.wrong_half_word(),
+        2 => builder.wrong_modes(),
+        _ => builder.end(),
+    }
     builder.finish()
 }
 

@@ -3,6 +3,7 @@
 use crate::comparison::side::Side;
 use crate::packed;
 use crate::record::Record;
+use crate::view::Image;
 
 pub type Check = unsafe extern "C" fn(*const u8, usize) -> u64;
 pub type Repair = unsafe extern "C" fn(*const u8, usize, *mut u8, usize, *mut u8, usize) -> u64;
@@ -21,6 +22,8 @@ pub type IndexBuild = unsafe extern "C" fn(*const u8, usize, *mut u32, usize) ->
 pub type IndexAsk = unsafe extern "C" fn(*const u8, usize, *const u32, usize, u32) -> u64;
 pub type IndexReplace =
     unsafe extern "C" fn(*mut u8, usize, *mut u32, usize, u32, *const u8, usize) -> u64;
+pub type View =
+    unsafe extern "C" fn(*const u8, usize, u64, u64, u32, u32, u32, *mut u8, usize) -> u64;
 
 /// Functions that ask of their pointers only that each lends as much as the
 /// length after it says.
@@ -42,6 +45,7 @@ pub struct Foreign {
     pub index_build: Option<IndexBuild>,
     pub index_ask: Option<IndexAsk>,
     pub index_replace: Option<IndexReplace>,
+    pub view: Option<View>,
 }
 
 /// Declares functions of C by their names, and gives them as a `Foreign`: check,
@@ -54,7 +58,7 @@ macro_rules! foreign {
         $(
             , $decode:ident, $encode:ident, $words:ident, $step:ident, $translate:ident,
             $repair_afresh:ident, $compare:ident, $rest:ident, $index_build:ident,
-            $index_ask:ident, $index_replace:ident
+            $index_ask:ident, $index_replace:ident, $view:ident
         )?
     ) => {{
         extern "C" {
@@ -152,6 +156,17 @@ macro_rules! foreign {
                     new: *const u8,
                     new_length: usize,
                 ) -> u64;
+                fn $view(
+                    memory: *const u8,
+                    memory_length: usize,
+                    start: u64,
+                    address: u64,
+                    width: u32,
+                    height: u32,
+                    size: u32,
+                    out: *mut u8,
+                    out_length: usize,
+                ) -> u64;
             )?
         }
         $crate::comparison::foreign::Foreign {
@@ -171,6 +186,7 @@ macro_rules! foreign {
             index_build: $crate::foreign!($($index_build)?),
             index_ask: $crate::foreign!($($index_ask)?),
             index_replace: $crate::foreign!($($index_replace)?),
+            view: $crate::foreign!($($view)?),
         }
     }};
     () => { None };
@@ -318,5 +334,26 @@ impl Side for Foreign {
         let (entries, count) = (entries.as_mut_ptr(), entries.len());
         let (new, new_length) = (new.as_ptr(), new.len());
         unsafe { replace(list, list_length, entries, count, place, new, new_length) }
+    }
+
+    fn view(&self, memory: &[u8], start: u64, image: Image, out: &mut [u8]) -> u64 {
+        let Some(view) = self.view else {
+            return packed::view(memory, start, image, out);
+        };
+        let (memory, memory_length) = (memory.as_ptr(), memory.len());
+        let (out, out_length) = (out.as_mut_ptr(), out.len());
+        unsafe {
+            view(
+                memory,
+                memory_length,
+                start,
+                image.address,
+                image.width,
+                image.height,
+                image.size,
+                out,
+                out_length,
+            )
+        }
     }
 }

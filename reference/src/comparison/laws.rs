@@ -3,11 +3,12 @@
 //! between a side's own functions: lengths and decoding, steps and the check.
 
 use crate::check::{check, CHECK_LIMIT};
+use crate::comparison::calls::Call;
 use crate::comparison::rng::Rng;
 use crate::comparison::side::Side;
 use crate::kinds::{commands, wait, words_from, Command};
 use crate::packed::Answer;
-use crate::repair::{bytes_of_command, with_plan, Add};
+use crate::repair::{bytes_of_command, with_plan, Add, WORK_BYTES};
 use crate::words::{word_at, WORD_BYTES};
 
 /// Lists of up to this many commands are searched every time.
@@ -189,6 +190,29 @@ fn with_pipe(list: &[u8], place: usize) -> Vec<u8> {
     push_add(&mut longer, Add::Pipe);
     longer.extend_from_slice(after);
     longer
+}
+
+/// Request #113: a list that passes the check and its second repair, where a side gives
+/// it, are drawn alike by that side: the same refusal number, and the same bytes.
+pub fn test_afresh_drawing(side: &dyn Side, drawn: &Call) -> Result<(), String> {
+    let list = drawn.list.slice();
+    let mut work = vec![0; list.len() / WORD_BYTES * WORK_BYTES];
+    let mut out = vec![0; 2 * list.len()];
+    let repaired = Answer::unpack(side.repair_afresh(list, &mut work, &mut out));
+    if check(list).outcome.is_err() || repaired.number != 0 {
+        return Ok(());
+    }
+    let afresh = &out[..repaired.place as usize * WORD_BYTES];
+    let picture = |list: &[u8]| {
+        let mut memory = drawn.memory.slice().to_vec();
+        let mut texture = drawn.texture.slice().to_vec();
+        let answer = side.draw(list, &mut memory, drawn.start, &mut texture);
+        (Answer::unpack(answer).number, memory, texture)
+    };
+    if picture(list) != picture(afresh) {
+        return Err("the list and its second repair are drawn otherwise".to_string());
+    }
+    Ok(())
 }
 
 /// Tests that a side's decoding takes exactly the words that its lengths give: a byte

@@ -20,3 +20,4 @@ pub mod run;
 pub mod scenes;
 pub mod side;
 pub mod textures;
+pub mod views;

@@ -48,7 +48,7 @@ fn run_case(
         let compared = compare(other, &call);
         let outcome = compared.same().and_then(|()| {
             counts.count(call.function, compared.reference.number);
-            compared.laws(other, &mut rng, counts)
+            compared.laws(other, &call, &mut rng, counts)
         });
         outcome.map_err(|what| {
             Box::new(Difference {
@@ -101,9 +101,15 @@ impl Compared {
         Err(format!("buffer {buffer} differs first at {place}"))
     }
 
-    /// The laws of an accepted repair, of a check's missing syncs and of a command's
-    /// words.
-    fn laws(&self, other: &dyn Side, rng: &mut Rng, counts: &mut Counts) -> Result<(), String> {
+    /// The laws of an accepted repair, of a check's missing syncs, of a command's words
+    /// and of drawing, for the call as it was made.
+    fn laws(
+        &self,
+        other: &dyn Side,
+        made: &Call,
+        rng: &mut Rng,
+        counts: &mut Counts,
+    ) -> Result<(), String> {
         let call = &self.reference_after;
         let list = call.list.slice();
         match (call.function, self.reference.number) {
@@ -112,6 +118,7 @@ impl Compared {
             (Function::Check, 0) => laws::test_steps(other, list, self.reference),
             (Function::Check, 7..=9) => laws::test_steps(other, list, self.reference)
                 .and_then(|()| laws::test_cause(list, self.reference)),
+            (Function::Draw, _) => laws::test_afresh_drawing(other, made),
             (Function::Words, _) => laws::test_words(other, rng, call.word),
             (Function::Stream, _) => test_record(other, rng, list, &call.portions),
             _ => Ok(()),

@@ -2,6 +2,7 @@
 
 use crate::packed;
 use crate::record::Record;
+use crate::view::Image;
 
 /// The C functions, over slices. Every answer is one packed 64-bit number, but
 /// for the plain count of a command's words.
@@ -22,6 +23,7 @@ pub trait Side {
     fn index_build(&self, list: &[u8], entries: &mut [u32]) -> u64;
     fn index_ask(&self, list: &[u8], entries: &[u32], place: u32) -> u64;
     fn index_replace(&self, list: &mut [u8], entries: &mut [u32], place: u32, new: &[u8]) -> u64;
+    fn view(&self, memory: &[u8], start: u64, image: Image, out: &mut [u8]) -> u64;
 }
 
 /// This crate.
@@ -90,5 +92,9 @@ impl Side for Reference {
 
     fn index_replace(&self, list: &mut [u8], entries: &mut [u32], place: u32, new: &[u8]) -> u64 {
         packed::index_replace(list, entries, place, new)
+    }
+
+    fn view(&self, memory: &[u8], start: u64, image: Image, out: &mut [u8]) -> u64 {
+        packed::view(memory, start, image, out)
     }
 }

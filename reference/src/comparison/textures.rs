@@ -217,7 +217,7 @@ fn is_loadable(tile: &TileDescriptor) -> bool {
 
 fn is_copyable(tile: &TileDescriptor) -> bool {
     let size = tile.size.unwrap_or_default();
-    is_loadable(tile) && (size.upper_left_s | size.upper_left_t) % 4 == 0
+    is_loadable(tile) && (size.upper_left_s | size.upper_left_t).is_multiple_of(4)
 }
 
 /// COPY mode, seldom with something on that copying needs off.

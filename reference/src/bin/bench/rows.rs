@@ -7,6 +7,7 @@ use crate::versions::Version;
 use reference::comparison::side::Side;
 use reference::record::NUMBERS;
 use reference::texture::TEXTURE_BYTES;
+use reference::view::Image;
 
 pub enum Job {
     Check,
@@ -19,6 +20,8 @@ pub enum Job {
     Compare(Vec<u8>),
     /// The display list at an offset: the row's list is the memory that it lies in.
     Translate(u32),
+    /// An image of a size number viewed: the row's list is the memory that it lies in.
+    View(u32),
     /// Drawing, with the runs of bytes that the list paints.
     Draw(Vec<Range<usize>>),
     /// Drawing that copies textures, with the runs of memory and, for each, those of
@@ -57,6 +60,7 @@ impl Row {
                 compared ^ side.rest(&self.list, other, buffers.entries.len())
             }
             Job::Translate(start) => side.translate(&self.list, *start, &mut buffers.out),
+            Job::View(size) => side.view(&self.list, 0, picture(*size), &mut buffers.out),
             Job::Draw(_) | Job::Copy(_) | Job::Load(_) => {
                 let (memory, texture) = buffers.drawn();
                 side.draw(&self.list, memory, 0, texture)
@@ -72,6 +76,16 @@ fn stream(side: &dyn Side, list: &[u8], portion: usize) -> u64 {
         side.feed(&mut record, bytes);
     }
     side.close(&mut record)
+}
+
+/// A picture at the start of memory.
+fn picture(size: u32) -> Image {
+    Image {
+        address: 0,
+        width: WIDTH as u32,
+        height: HEIGHT as u32,
+        size,
+    }
 }
 
 /// What a row lends, the same to every version.
@@ -157,6 +171,7 @@ pub fn rows() -> Vec<Row> {
     rows.push(copies(64, 32));
     rows.push(load(64, 32));
     rows.push(block(64, 32));
+    rows.extend([1, 2, 3].map(view));
     rows
 }
 
@@ -327,6 +342,18 @@ fn block(width: u64, height: u64) -> Row {
         name: format!("draw, one Load Block of {texels} texels"),
         list: lists::block(width, height),
         job: Job::Load(vec![moved((0..2 * texels, 0..2 * texels))]),
+    }
+}
+
+/// A picture of 8, 16 or 32 bits a pixel as RGBA rows. Its bytes are as long as those of
+/// the largest pixels, so that what is lent is the same.
+fn view(size: u32) -> Row {
+    let mut memory = vec![0; MEMORY];
+    fill_any(&mut memory);
+    Row {
+        name: format!("view, {WIDTH}x{HEIGHT}, {} bits", 4 << size),
+        list: memory,
+        job: Job::View(size),
     }
 }
 

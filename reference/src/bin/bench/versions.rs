@@ -16,6 +16,7 @@ pub struct Version {
 /// The proved library.
 static LIBRARY: Foreign = Foreign {
     translate: Some(lanyardrove_translate),
+    view: Some(lanyardrove_view),
     repair_afresh: Some(lanyardrove_repair_afresh),
     compare: Some(lanyardrove_compare),
     rest: Some(lanyardrove_rest),
@@ -31,6 +32,7 @@ static LIBRARY: Foreign = Foreign {
 /// The plain C version.
 static PLAIN: Foreign = Foreign {
     translate: Some(plain_translate),
+    view: Some(plain_view),
     repair_afresh: Some(plain_repair_afresh),
     compare: Some(plain_compare),
     rest: Some(plain_rest),
@@ -101,6 +103,28 @@ extern "C" {
         memory: *const u8,
         memory_length: usize,
         start: u32,
+        out: *mut u8,
+        out_length: usize,
+    ) -> u64;
+    fn lanyardrove_view(
+        memory: *const u8,
+        memory_length: usize,
+        start: u64,
+        address: u64,
+        width: u32,
+        height: u32,
+        size: u32,
+        out: *mut u8,
+        out_length: usize,
+    ) -> u64;
+    fn plain_view(
+        memory: *const u8,
+        memory_length: usize,
+        start: u64,
+        address: u64,
+        width: u32,
+        height: u32,
+        size: u32,
         out: *mut u8,
         out_length: usize,
     ) -> u64;
