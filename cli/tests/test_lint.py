@@ -151,6 +151,7 @@ def a_list_that_reads_as_swapped():
     assert "data-run" in {name for name, *_ in linted(swapped(data), "-Wno-swapped")}
     same(linted(swapped(data), "--swap"), [])
     same("swapped" in [name for name, *_ in linted(data)], False)
+    same("swapped" in [name for name, *_ in linted(data, "--swap")], False)  # it is not to be tried twice
     same(run("lint", "list.rdp")[2], "")
 
 
