@@ -2139,20 +2139,20 @@ static void translate_most_memory(void) {
 #define OLD_NUMBER 0xA5A5A5A5u
 
 /* Entries with guards on both sides, and what a walk from the first command on finds. */
-static uint32_t all_entries[16 + LANYARDROVE_INDEX_NUMBERS + 16], *const entries = all_entries + 16;
+static uint32_t index_numbers[16 + LANYARDROVE_INDEX_NUMBERS + 16], *const entries = index_numbers + 16;
 static uint32_t places[MOST_COMMANDS + 1], before[MOST_COMMANDS];
 static size_t commands;
 
-static void fresh_entries(void) {
+static void fresh_index(void) {
     size_t i;
-    for (i = 0; i < COUNT(all_entries); i++) all_entries[i] = OLD_NUMBER;
+    for (i = 0; i < COUNT(index_numbers); i++) index_numbers[i] = OLD_NUMBER;
 }
 
 /* Nothing is written from a number on, nor before the entries. */
 static int entries_end_at(size_t from) {
     size_t i;
-    for (i = 0; i < COUNT(all_entries); i++)
-        if ((i < 16 || i >= 16 + from) && all_entries[i] != OLD_NUMBER) return 0;
+    for (i = 0; i < COUNT(index_numbers); i++)
+        if ((i < 16 || i >= 16 + from) && index_numbers[i] != OLD_NUMBER) return 0;
     return 1;
 }
 
@@ -2198,12 +2198,12 @@ static void index_of(size_t length, int line) {
     size_t numbers, i, k = 0;
     walk_list(length);
     numbers = 2 * ((commands + 63) / 64);
-    fresh_entries();
+    fresh_index();
     if (numbers) expect_answer(lanyardrove_index_build(a_list.bytes, length, entries, numbers - 1), 14, 0, (unsigned)numbers / 2, line);
     expect(entries_end_at(0), "14 leaves the entries", line);
     expect_answer(lanyardrove_index_build(a_list.bytes, length, entries, numbers), 0, 0, (unsigned)numbers / 2, line);
     expect(are_entries(entries) && entries_end_at(numbers), "the entries, and nothing beyond", line);
-    fresh_entries();
+    fresh_index();
     expect_answer(lanyardrove_index_build(a_list.bytes, length, entries, LANYARDROVE_INDEX_NUMBERS), 0, 0, (unsigned)numbers / 2, line);
     expect(are_entries(entries) && entries_end_at(numbers), "the entries, with room to spare", line);
     for (i = 0; i <= length / 8; i++) {
@@ -2259,7 +2259,7 @@ static void index_refusals(void) {
     const uint64_t three[] = {R, L, C}, cut[] = {R, 0x0800000000000000u, 0, 0}, longer[] = {R, TEXTURED, 0, C};
     const uint8_t sync[8] = {0x27}, rectangle[16] = {0x24};
     size_t n;
-    fresh_entries();
+    fresh_index();
     fresh(&a_list);
     ANSWERS(lanyardrove_index_build(a_list.bytes, 32776, entries, 0), 1, 0, 4096);
     ANSWERS(lanyardrove_index_ask(a_list.bytes, 32769, entries, 0, 5), 1, 0, 4096);
@@ -2295,7 +2295,7 @@ static void index_foreign_entries(void) {
     const uint64_t triangle[] = {N, 0x0800000000000000u, 0, 0, PIPE, R};
     const uint8_t sync[8] = {0x27};
     size_t n = LIST(triangle), i;
-    fresh_entries();
+    fresh_index();
     entries[0] = 1, entries[1] = 0;
     ANSWERS(lanyardrove_index_ask(a_list.bytes, n, entries, 2, 0), 26, 0, 0); /* beyond the place */
     ANSWERS(lanyardrove_index_ask(a_list.bytes, n, entries, 1, 1), 26, 0, 1); /* half an entry */
