@@ -157,6 +157,7 @@ bool next_shown(const Command *command, size_t *at, Shown *shown);
 
 /* -- hint.c -------------------------------------------------------------- */
 
+bool looks_swapped(const List *list, const Input *input);
 void hint_swapped(const char *path, const List *list, const Input *input);
 
 /* -- hazards.c: the hazards along a list -------------------------------- */
@@ -275,6 +276,12 @@ void version_text(char text[VERSION_ROOM]);
 /* -- check.c: the forms in which it tells lists -------------------------- */
 
 const struct Format *format_of(const char *name);
+void print_annotation(const char *kind, const char *path, const char *text);
+
+/* -- lint.c, warnings.c: the forms in which lint tells warnings, and their names */
+
+const struct LintFormat *lint_format_of(const char *name);
+bool take_warning(const char *text, unsigned *silenced);
 
 /* -- values.c: the values of options ------------------------------------ */
 
@@ -288,12 +295,14 @@ bool take_image(const char *text, Image *image);
 
 typedef struct {
     const char *command;
-    char **paths; /* the lists, or the memory to translate; of edit the list, a place and words */
+    char **paths; /* the lists, the memory to translate, or the text of a list; of edit the list, a place and a command */
     int count;
     Input input;
     const char *output; /* NULL where -o is not given */
-    bool help, brief, quiet, verbose, failures, all, afresh, dry, in_place, json, steps, has_memory, has_image;
+    bool help, brief, text, quiet, verbose, failures, all, afresh, dry, in_place, json, steps, has_memory, has_image;
     const struct Format *format; /* of what check tells */
+    const struct LintFormat *lint_format;
+    unsigned silenced; /* kinds of warnings, a bit each */
     Number from, to, around; /* places that dump shows */
     const char *memory_file, *texture; /* files of memory and of texture memory; NULL where they are zeros */
     uint64_t memory, start; /* the length of zeros, and the address of the first byte */
@@ -302,8 +311,8 @@ typedef struct {
 
 /* The commands of the tool, a bit each. */
 enum {
-    OF_CHECK = 1, OF_REPAIR = 2, OF_DUMP = 4, OF_DRAW = 8, OF_REPORT = 16, OF_DIFF = 32, OF_TRANSLATE = 64, OF_EDIT = 128,
-    OF_LISTS = OF_CHECK | OF_REPAIR | OF_DUMP | OF_DRAW | OF_REPORT | OF_DIFF | OF_EDIT, OF_ALL = OF_LISTS | OF_TRANSLATE
+    OF_CHECK = 1, OF_REPAIR = 2, OF_DUMP = 4, OF_DRAW = 8, OF_REPORT = 16, OF_DIFF = 32, OF_TRANSLATE = 64, OF_EDIT = 128, OF_ASM = 256, OF_LINT = 512,
+    OF_LISTS = OF_CHECK | OF_REPAIR | OF_DUMP | OF_DRAW | OF_REPORT | OF_DIFF | OF_EDIT | OF_LINT, OF_ALL = OF_LISTS | OF_TRANSLATE | OF_ASM
 };
 
 /* A command of the tool. */
@@ -358,5 +367,7 @@ int run_report(const Arguments *arguments);
 int run_diff(const Arguments *arguments);
 int run_translate(const Arguments *arguments);
 int run_edit(const Arguments *arguments);
+int run_asm(const Arguments *arguments);
+int run_lint(const Arguments *arguments);
 
 #endif

@@ -1,6 +1,6 @@
 /* lanyardrove dump: a list command by command. */
 #define _POSIX_C_SOURCE 200809L
-#include "cli.h"
+#include "asm.h"
 
 #include <inttypes.h>
 #include <stdlib.h>
@@ -197,7 +197,10 @@ int run_dump(const Arguments *arguments)
     if (arguments->around.is_given && !find_around(&dump, arguments->around.value))
         complain("%s: no command has word %" PRIu64, arguments->paths[0], arguments->around.value);
     else {
-        print_list(&dump);
+        if (arguments->text)
+            asm_print(&list, dump.first, dump.last, arguments->brief);
+        else
+            print_list(&dump);
         hint_swapped(arguments->paths[0], &list, &arguments->input);
         status = status_of(list.verdict);
     }

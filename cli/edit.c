@@ -1,7 +1,9 @@
 /* lanyardrove edit: one command of a list is replaced by another of equal length. */
 #define _POSIX_C_SOURCE 200809L
-#include "cli.h"
+#include "asm.h"
+#include "report.h"
 
+#include <stdlib.h>
 #include <string.h>
 #include <unistd.h>
 
@@ -46,16 +48,54 @@ static const char *name_of(const Replacement *replacement)
     return name_at(&command, 0);
 }
 
-/* The place and the words that are given; why they are none, or NULL. */
+/* A command in the text form of asm begins with a letter, and has more signs than hexadecimal digits. */
+static bool is_text(const char *argument)
+{
+    size_t digits = 0;
+    while (digit_of(argument[digits]) < 16)
+        digits++;
+    return argument[digits] != '\0' && digit_of(argument[0]) >= 10;
+}
+
+/* The one command of a list. */
+static const char *take_assembled(const List *list, Replacement *replacement)
+{
+    size_t words = list->length / 8;
+    if (words == 0)
+        return "edit needs a list, a place and a command";
+    if (words > LANYARDROVE_MOST_WORDS || words > words_at(list->bytes))
+        return "more words are given than the command has";
+    memcpy(replacement->bytes, list->bytes, list->length);
+    replacement->words = words;
+    return NULL;
+}
+
+/* The command in the text form, of one argument or of several; why it is none, or NULL. Errors in it are told as asm does. */
+static const char *take_text(const Arguments *arguments, Replacement *replacement)
+{
+    Text text = { 0 };
+    List list = { 0 };
+    for (int i = 2; i < arguments->count; i++)
+        text_add(&text, "%s ", arguments->paths[i]);
+    bool read = !text.failed && assembled("COMMAND", text.bytes, text.length, &list);
+    const char *fault = read ? take_assembled(&list, replacement) : "the command cannot be read";
+    list_free(&list);
+    free(text.bytes);
+    return fault;
+}
+
+/* The place and the command that are given; why they are none, or NULL. */
 static const char *take_replacement(const Arguments *arguments, Replacement *replacement)
 {
     uint64_t place;
     *replacement = (Replacement){ 0 };
     if (arguments->count < 3)
-        return "edit needs a list, a place and the words of a command";
+        return "edit needs a list, a place and a command";
     if (!take_offset(arguments->paths[1], &place))
         return "the place is no number of 32 bits";
     replacement->place = (uint32_t)place;
+    if (is_text(arguments->paths[2]))
+        return take_text(arguments, replacement);
     for (int i = 2; i < arguments->count; i++) {
         if (replacement->words == LANYARDROVE_MOST_WORDS || (replacement->words > 0 && replacement->words == words_at(replacement->bytes)))
             return "more words are given than the command has";

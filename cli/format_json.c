@@ -9,14 +9,27 @@
 static json_t *told; /* an array of what was told; NULL before the first */
 static bool failed;  /* memory was short, and the document is not printed */
 
-static void tell(json_t *value)
+/* A value that could not be made, or has no room, is remembered. */
+void json_append(json_t *array, json_t *value)
+{
+    failed = json_array_append_new(array, value) != 0 || failed;
+}
+
+/* Adds to what is told. */
+void json_add(json_t *value)
 {
     if (told == NULL)
         told = json_array();
-    failed = json_array_append_new(told, value) != 0 || failed;
+    json_append(told, value);
 }
 
-static bool print_document(json_t *document)
+/* All that was told, for a document. */
+json_t *json_told(void)
+{
+    return told != NULL ? told : json_array();
+}
+
+bool print_document(json_t *document)
 {
     bool done = !failed && document != NULL && json_dumpf(document, stdout, JSON_INDENT(2)) == 0;
     if (done)
@@ -45,7 +58,7 @@ json_t *json_text(const char *text)
 /* -- json ---------------------------------------------------------------- */
 
 /* The offset in memory of a word of a translated list. */
-static void add_offset(json_t *object, const List *list, size_t place)
+void add_offset(json_t *object, const List *list, size_t place)
 {
     uint32_t offset;
     if (object != NULL && offset_at(list, place, &offset))
@@ -76,7 +89,7 @@ static json_t *findings_json(const Checked *checked)
 {
     json_t *findings = json_array();
     for (size_t i = 0; i < checked->findings->count; i++)
-        failed = json_array_append_new(findings, finding_json(checked->list, checked->findings->answers[i])) != 0 || failed;
+        json_append(findings, finding_json(checked->list, checked->findings->answers[i]));
     return findings;
 }
 
@@ -86,7 +99,7 @@ void json_tell(const Arguments *arguments, const Checked *checked)
     uint32_t saved;
     (void)arguments;
     if (list == NULL) {
-        tell(json_pack("{s:o, s:s}", "file", json_text(checked->path), "verdict", "unread"));
+        json_add(json_pack("{s:o, s:s}", "file", json_text(checked->path), "verdict", "unread"));
         return;
     }
     json_t *entry = json_pack("{s:o, s:s, s:i, s:I, s:I, s:b, s:o}", "file", json_text(checked->path), "verdict",
@@ -95,7 +108,7 @@ void json_tell(const Arguments *arguments, const Checked *checked)
                               findings_json(checked));
     if (entry != NULL && cycles_saved(list, &saved))
         json_object_set_new(entry, "saved", json_integer(saved));
-    tell(entry);
+    json_add(entry);
 }
 
 bool json_end(const Arguments *arguments, const Tally *tally)
@@ -103,7 +116,7 @@ bool json_end(const Arguments *arguments, const Tally *tally)
     char version[VERSION_ROOM];
     (void)arguments;
     version_text(version);
-    return print_document(json_pack("{s:s, s:o, s:i, s:i, s:i, s:i}", "version", version, "lists", told != NULL ? told : json_array(), "accepted",
+    return print_document(json_pack("{s:s, s:o, s:i, s:i, s:i, s:i}", "version", version, "lists", json_told(), "accepted",
                                     (int)tally->accepted, "empty", (int)tally->empty, "refused", (int)tally->refused, "unread", (int)tally->unread));
 }
 
@@ -133,11 +146,11 @@ static bool byte_of(const Arguments *arguments, const List *list, size_t place, 
 }
 
 /* The word of a list that a place names; the file alone where the word comes from no place that is known. */
-static json_t *location_json(const Arguments *arguments, const Checked *checked, size_t place, const char *text)
+json_t *location_json(const Arguments *arguments, const char *path, const List *list, size_t place, const char *text)
 {
-    json_t *physical = json_pack("{s:{s:o}}", "artifactLocation", "uri", uri_json(checked->path));
+    json_t *physical = json_pack("{s:{s:o}}", "artifactLocation", "uri", uri_json(path));
     uint64_t byte;
-    if (physical != NULL && byte_of(arguments, checked->list, place, &byte))
+    if (physical != NULL && byte_of(arguments, list, place, &byte))
         json_object_set_new(physical, "region", json_pack("{s:I, s:i}", "byteOffset", (json_int_t)byte, "byteLength", 8));
     json_t *location = json_pack("{s:o}", "physicalLocation", physical);
     if (location != NULL && text != NULL)
@@ -156,11 +169,11 @@ void sarif_tell(const Arguments *arguments, const Checked *checked)
         Answer answer = checked->findings->answers[i];
         Meaning meaning = meaning_of(checked->list, answer, FOR_CHECK);
         json_t *result = json_pack("{s:o, s:s, s:{s:s}, s:[o]}", "ruleId", rule_id(answer.number), "level", "error", "message", "text", meaning.text,
-                                   "locations", location_json(arguments, checked, answer.place, NULL));
+                                   "locations", location_json(arguments, checked->path, checked->list, answer.place, NULL));
         if (result != NULL && is_missing_sync(answer))
-            json_object_set_new(result, "relatedLocations", json_pack("[o]", location_json(arguments, checked, answer.third,
+            json_object_set_new(result, "relatedLocations", json_pack("[o]", location_json(arguments, checked->path, checked->list, answer.third,
                                                                                           meaning.text + meaning.cause)));
-        tell(result);
+        json_add(result);
     }
 }
 
@@ -171,17 +184,23 @@ static json_t *rules_json(void)
     for (unsigned number = LANYARDROVE_TOO_LONG; number <= LANYARDROVE_RECORD_DAMAGED; number++) {
         const char *reason = reason_of(number);
         if (reason[0] != '\0')
-            failed = json_array_append_new(rules, json_pack("{s:o, s:{s:s}}", "id", rule_id(number), "fullDescription", "text", reason)) != 0 || failed;
+            json_append(rules, json_pack("{s:o, s:{s:s}}", "id", rule_id(number), "fullDescription", "text", reason));
     }
     return rules;
 }
 
-bool sarif_end(const Arguments *arguments, const Tally *tally)
+/* What was told as results, under their rules. */
+bool sarif_print(json_t *rules, bool read)
 {
     char version[VERSION_ROOM];
-    (void)arguments;
     version_text(version);
-    json_t *run = json_pack("{s:{s:{s:s, s:s, s:o}}, s:[{s:b}], s:o}", "tool", "driver", "name", "lanyardrove", "version", version, "rules", rules_json(),
-                            "invocations", "executionSuccessful", tally->unread == 0, "results", told != NULL ? told : json_array());
+    json_t *run = json_pack("{s:{s:{s:s, s:s, s:o}}, s:[{s:b}], s:o}", "tool", "driver", "name", "lanyardrove", "version", version, "rules", rules,
+                            "invocations", "executionSuccessful", read, "results", json_told());
     return print_document(json_pack("{s:s, s:s, s:[o]}", "$schema", "https://json.schemastore.org/sarif-2.1.0.json", "version", "2.1.0", "runs", run));
+}
+
+bool sarif_end(const Arguments *arguments, const Tally *tally)
+{
+    (void)arguments;
+    return sarif_print(rules_json(), tally->unread == 0);
 }

@@ -110,10 +110,10 @@ static void print_github(const char *text, const char *signs)
             putchar((unsigned char)*text < 32 ? '?' : *text);
 }
 
-/* No line is named: a list has none, and the text has the word. */
-static void print_note(const char *path, const char *text)
+/* No line is named: a list has none, and the text has the word. The kind is error or warning. */
+void print_annotation(const char *kind, const char *path, const char *text)
 {
-    printf("::error file=");
+    printf("::%s file=", kind);
     print_github(path, "%\r\n:,");
     printf("::");
     print_github(text, "%\r\n");
@@ -124,10 +124,10 @@ void github_tell(const Arguments *arguments, const Checked *checked)
 {
     (void)arguments;
     if (checked->list == NULL)
-        print_note(checked->path, "the list could not be read");
+        print_annotation("error", checked->path, "the list could not be read");
     for (size_t i = 0; checked->list != NULL && i < checked->findings->count; i++) {
         Answer answer = checked->findings->answers[i];
         Meaning meaning = meaning_of(checked->list, answer, FOR_CHECK);
-        print_note(checked->path, meaning.text);
+        print_annotation("error", checked->path, meaning.text);
     }
 }

@@ -23,17 +23,24 @@ static bool looks_well(const List *list)
     return count >= LEAST;
 }
 
-void hint_swapped(const char *path, const List *list, const Input *input)
+/* Whether a list that no sync mends would look well with the bytes of its words swapped. */
+bool looks_swapped(const List *list, const Input *input)
 {
     size_t words = (list->length < LIST_LIMIT ? list->length : LIST_LIMIT) / 8;
     if (input->swap || input->display.is_given || !is_beyond_repair(list->verdict))
-        return;
+        return false;
     List swapped = { .bytes = calloc(words + LANYARDROVE_MOST_WORDS, 8), .length = 8 * words };
     if (swapped.bytes == NULL)
-        return;
+        return false;
     memcpy(swapped.bytes, list->bytes, swapped.length);
     swap_words(swapped.bytes, words);
-    if (looks_well(&swapped))
-        complain("%s: its words look little-endian: try --swap", path);
+    bool looks = looks_well(&swapped);
     list_free(&swapped);
+    return looks;
+}
+
+void hint_swapped(const char *path, const List *list, const Input *input)
+{
+    if (looks_swapped(list, input))
+        complain("%s: its words look little-endian: try --swap", path);
 }

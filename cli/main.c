@@ -55,12 +55,27 @@ static const Entry entries[] = {
       "and what it means: number 0 and the words written, or the first refusal and\n"
       "the offset of its command. Nothing is written at a refusal." },
     { OF_EDIT, "edit", run_edit, 1, INT_MAX, "list",
-      "edit FILE PLACE WORD.. [-o OUT|--in-place]\n"
-      "Replaces the command at a place by another that has as many words, each given\n"
-      "with sixteen hexadecimal digits. Prints 'number place' and what it means, the\n"
+      "edit FILE PLACE COMMAND.. [-o OUT|--in-place]\n"
+      "Replaces the command at a place by another that has as many words. It is given\n"
+      "as words of sixteen hexadecimal digits, or as 'dump --asm' prints it, such as\n"
+      "set_fill_color color=0x10001. Prints 'number place' and what it means, the\n"
       "hazards before the command, and what check says of the new list. Without -o\n"
       "and --in-place the list goes to standard output and the text to standard error.\n"
-      "Nothing is written where the replacement is refused." }
+      "Nothing is written where the replacement is refused." },
+    { OF_ASM, "asm", run_asm, 1, 1, "text of a list",
+      "asm FILE [-o OUT]\n"
+      "Writes the list that a text stands for, as 'dump --asm' prints it: the name of\n"
+      "a command, its fields as NAME=VALUE in any order, those that are 0 may be left\n"
+      "out, and of a triangle the words after them. Spaces, lines and commas separate,\n"
+      "# begins a comment. Errors are told as compilers do, FILE:LINE:COLUMN: error:,\n"
+      "and nothing is written then: status 1. Without -o the list goes to standard\n"
+      "output." },
+    { OF_LINT, "lint", run_lint, 1, INT_MAX, "list",
+      "lint [OPTION].. FILE..\n"
+      "Warns of what the check does not say, and may still go wrong on a console.\n"
+      "Warnings are no verdict, and nothing proves them: check says whether a list is\n"
+      "accepted. Each has a name, and can be left out. Exit status: 0 where there is\n"
+      "no warning, 1 where there is one, 2 where a list cannot be read to its end." }
 };
 
 static void print_version(void)

@@ -37,6 +37,18 @@ static bool set_format(void *member, const char *value)
     return *format != NULL;
 }
 
+static bool set_lint_format(void *member, const char *value)
+{
+    const struct LintFormat **format = member;
+    *format = lint_format_of(value);
+    return *format != NULL;
+}
+
+static bool set_warning(void *member, const char *value)
+{
+    return take_warning(value, member);
+}
+
 /* Text is what diff tells if nothing is said. */
 static bool set_json(void *member, const char *value)
 {
@@ -92,9 +104,17 @@ static const Option options[] = {
     { OF_CHECK, "format", 0, "FORM", set_format, offsetof(Arguments, format), "one of text, gcc, github, json and sarif",
       "how lists are told: text, gcc (as compilers do), github\n"
       "(annotations), json or sarif" },
+    { OF_LINT, "format", 0, "FORM", set_lint_format, offsetof(Arguments, lint_format), "one of text, gcc, github, json and sarif",
+      "how warnings are told: text, gcc (as compilers do), github\n"
+      "(annotations), json or sarif" },
+    { OF_LINT, "warn", 'W', "[no-]NAME", set_warning, offsetof(Arguments, silenced), "a warning or all, or no- before it",
+      "leave a warning out, such as -Wno-sync-full, or take it in\n"
+      "again: fill-texture, depth-image, combine-mode,\n"
+      "texture-memory, sync-full, data-run, swapped, or all" },
     { OF_DIFF, "quiet", 'q', FLAG(quiet), "count what differs, and tell no more" },
     { OF_DIFF, "format", 0, "FORM", set_json, offsetof(Arguments, json), "one of text and json", "how it is told: text or json" },
     { OF_DUMP, "brief", 0, FLAG(brief), "leave out the fields that are 0" },
+    { OF_DUMP, "asm", 0, FLAG(text), "print the text that asm makes the list of again" },
     { OF_DUMP, "from", 0, NUMBER("PLACE", from), "show the commands from this word on" },
     { OF_DUMP, "to", 0, NUMBER("PLACE", to), "show the commands up to this word" },
     { OF_DUMP, "around", 0, NUMBER("PLACE", around), "show eight commands before the one of this word, and\neight after" },
@@ -131,12 +151,13 @@ static const Option options[] = {
       "all of memory, or with --image for the picture's bytes" },
     { OF_REPORT, "output", 'o', OUTPUT, "the file to write" },
     { OF_DIFF, "output", 'o', OUTPUT, "write a page in HTML too: both lists side by side" },
+    { OF_ASM, "output", 'o', OUTPUT, "the file to write; standard output if not given" },
     { OF_TRANSLATE, "output", 'o', OUTPUT, "the file to write; with - the text goes to standard error" },
     { OF_LISTS, "offset", 0, NUMBER("BYTE", input.offset), "where the list begins in the file; 0 if not given" },
     { OF_LISTS, "length", 0, NUMBER("BYTES", input.length), "the list's length; to the end of the file if not given" },
     { OF_LISTS, "swap", 0, FLAG(input.swap), "the file has its words least significant byte first" },
     { OF_LISTS, "hex", 0, FLAG(input.hex), "the file is text, of hexadecimal digits" },
-    { OF_CHECK | OF_DUMP | OF_DRAW | OF_REPORT, "f3dex2", 0, DISPLAY,
+    { OF_CHECK | OF_DUMP | OF_DRAW | OF_REPORT | OF_LINT, "f3dex2", 0, DISPLAY,
       "the file is memory, and the list the one that the display\n"
       "list at this offset stands for, as translate writes it" },
     { OF_ALL, "help", 'h', FLAG(help), "print this" }

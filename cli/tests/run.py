@@ -12,7 +12,7 @@ if len(sys.argv) < 2:
     sys.exit(__doc__)
 sys.dont_write_bytecode = True
 import support  # noqa: E402
-import test_arguments, test_check, test_formats, test_pipes, test_inputs, test_unassigned, test_dump, test_repair, test_draw, test_copy, test_diff, test_translate, test_edit, test_files, test_report, test_steps, test_browser, test_readme, test_start, test_header, test_install  # noqa: E401, E402, F401
+import test_arguments, test_check, test_formats, test_pipes, test_inputs, test_unassigned, test_dump, test_asm, test_repair, test_draw, test_copy, test_diff, test_translate, test_edit, test_lint, test_files, test_report, test_steps, test_browser, test_readme, test_start, test_header, test_install  # noqa: E401, E402, F401
 
 
 def passes(function):

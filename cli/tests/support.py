@@ -10,7 +10,7 @@ import zlib
 TOOL = os.path.abspath(sys.argv[1])
 TOP = os.path.dirname(os.path.dirname(os.path.dirname(os.path.abspath(__file__))))
 LIST_COMMANDS = ("check", "repair", "dump", "draw", "report")
-COMMANDS = (*LIST_COMMANDS, "diff", "translate", "edit")
+COMMANDS = (*LIST_COMMANDS, "diff", "translate", "edit", "asm", "lint")
 TESTS = []
 
 # 01's examples

@@ -241,18 +241,19 @@ def completion_offers_commands_options_and_files():
     same(sorted(completed_by_fish("check", "--format", "")), ["gcc", "github", "json", "sarif", "text"])
     assert "lists/" in completed_by_fish("check", "l") and not completed_by_fish("draw", "--start", "l")
     same(sorted(completed_by_fish("diff", "--format", "")), ["json", "text"])
+    same(sorted(completed_by_fish("lint", "--warn", "no-s")), ["no-swapped", "no-sync-full"])
     for typed, expected in ((["d"], ["dump", "draw", "diff"]), (["draw", "--m"], ["--memory"]), (["diff", "--format", ""], ["text", "json"]), (["check", "--fo"], ["--format"]), (["check", "--format", "g"], ["gcc", "github"]),
                             (["check", "li"], ["list one.rdp", "lists"]), (["check", "-q", "list "], ["list one.rdp"]),
                             (["repair", "x", "-o", "li"], ["list one.rdp", "lists"]), (["draw", "--start", "l"], []),
                             (["draw", "--memory", "6"], ["64K"]),
                             (["report", "--memory", "li"], ["list one.rdp", "lists"]), (["draw", "--texture", "li"], ["list one.rdp", "lists"]),
-                            (["what", "li"], [])):
+                            (["what", "li"], []), (["lint", "-W", "no-s"], ["no-sync-full", "no-swapped"]), (["lint", "--warn", "s"], ["sync-full", "swapped"])):
         same(sorted(completed(*typed)), sorted(expected), typed)
 
 
 def options_of(command):
     """The options that a command's help lists: letter, name and value. The tool prints them from the table that it reads them by."""
-    return re.findall(r"^  (?:-([a-z]), )?--([a-z0-9-]+)(?: (\S+))?(?=  |$)", run(command, "--help")[1], re.M)
+    return re.findall(r"^  (?:-([a-zA-Z]), )?--([a-z0-9-]+)(?: (\S+))?(?=  |$)", run(command, "--help")[1], re.M)
 
 
 def page_options():
