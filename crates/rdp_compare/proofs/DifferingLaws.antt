@@ -3,13 +3,13 @@ use Prim.Native.Nat.{ℕ, zero, suc, _+_, _*_, _/_, _%_, _^_, _≤_, _<_}
 use mathlib.Core.Bool.{Bool, true, false, cond, not, _&&_}
 use mathlib.Core.List.{List, [], _∷_, _++_}
 use mathlib.Core.Path.{_≡_, refl, ap, sym, _∙_}
-use native.Mathlib.Nat.{le-refl, add-zero, zero-add, mod-eq-of-lt, one-mul}
+use native.Mathlib.Nat.{le-refl, add-zero, zero-add}
 use native.Mathlib.Numerals.{add-one}
 use native.Mathlib.Omega.{arith}
 use borrow.Author.Tests.{eq-eqb, ne-eqb, le-ltb, ltb-true, ltb-false}
 use lib.Dec.{eqb, ltb, ltb→lt}
 use lib.ListN.{length, getD, take, drop, length-drop, drop-of-length-le}
-use lib.Pow.{pow-lt, pow-mono}
+use lib.Pow.{pow-mono}
 use lib.Seq.{drop-cons, drop-length, take-all}
 use Rattle.rdp_words.specs.Words.{wordAt, numberIn, overwrite}
 use Rattle.rdp_words.specs.Kinds.{wordsOf}
@@ -28,15 +28,12 @@ use Rattle.rdp_command.proofs.ReadLaws.{decodes}
 use Rattle.rdp_command.proofs.BoundLaws.{lines-most}
 use Rattle.rdp_encode.specs.Encode.{numbersOf}
 use Rattle.rdp_encode.specs.Numbers.{fieldsAnswer, fieldsOut}
+use Rattle.rdp_encode.proofs.PackLaws.{power}
 use Rattle.rdp_encode.proofs.BoundLaws.{fields-decoded, fields-place}
 use Rattle.rdp_compare.specs.Differing.{numbersIn, fieldsIn, unlike, sameBytes, fieldsDiffer, unnamedBefore, lineIndex, bitsFrom, differingFields}
 use Rattle.rdp_compare.specs.Entries.{differ}
 use Rattle.rdp_compare.specs.Steps.{OneCommand, Alike, DifferenceIs}
 use Rattle.rdp_compare.proofs.WordLaws.{same-same, bytes-same}
-
--- a power of two as the code shifts it
-power : (k : ℕ) → k < 64 → 1 * 2 ^ k % 2 ^ 64 ≡ 2 ^ k
-power k h = ap (λ (x : ℕ). x % 2 ^ 64) (one-mul (2 ^ k)) ∙ mod-eq-of-lt (pow-lt h)
 
 -- a bit at an index of at most 40
 pub bit-most : {i j : ℕ} → i ≡ j → j ≤ 40 → (1 * 2 ^ j % 2 ^ 64 ≡ 2 ^ i) × (1 * 2 ^ j % 2 ^ 64 ≤ 2 ^ 40)
@@ -185,8 +182,9 @@ own-word c one k =
 
 -- the base of a command gives what decoding does
 pub base-decodes :
-    (c : List ℕ) → OneCommand c → {n w₀ w₁ w₂ w₃ : ℕ} → n ≡ firstNumber c → w₀ ≡ wordAt c 0 → w₁ ≡ wordAt c 1 → w₂ ≡ wordAt c 2 → w₃ ≡ wordAt c 3 → {r : Decoded} →
-    r ≡ decodedFrom 3 (record { ok = true; number = n; w0 = w₀; w1 = w₁; w2 = w₂; w3 = w₃ }) → r ≡ decodeOf c
+    (c : List ℕ) → OneCommand c →
+    {n w₀ w₁ w₂ w₃ : ℕ} → n ≡ firstNumber c → w₀ ≡ wordAt c 0 → w₁ ≡ wordAt c 1 → w₂ ≡ wordAt c 2 → w₃ ≡ wordAt c 3 →
+    {r : Decoded} → r ≡ decodedFrom 3 (record { ok = true; number = n; w0 = w₀; w1 = w₁; w2 = w₂; w3 = w₃ }) → r ≡ decodeOf c
 unfolding decodedFrom
 base-decodes c one is-n e₀ e₁ e₂ e₃ e =
     e ∙
@@ -237,7 +235,8 @@ module _ {c d : List ℕ} {n : ℕ} (a : Alike c d n) where
   suffixes = λ i. sameBytes (suffix-is c (a .one) i) (suffix-is d (a .two) i)
 
   module _ {x y bits : ℕ} {xs ys : List ℕ} (is-x : x ≡ length (fieldsIn c)) (is-y : y ≡ length (fieldsIn d))
-      (is-xs : xs ≡ fieldsIn c) (is-ys : ys ≡ fieldsIn d) (is-bits : bits ≡ bitsFrom n 0 (unlike xs ys)) {s : Bool} (is-s : s ≡ sameBytes (drop 32 c) (drop 32 d)) where
+      (is-xs : xs ≡ fieldsIn c) (is-ys : ys ≡ fieldsIn d) (is-bits : bits ≡ bitsFrom n 0 (unlike xs ys))
+      {s : Bool} (is-s : s ≡ sameBytes (drop 32 c) (drop 32 d)) where
     together : differingFields c d ≡ bits + cond (not s) (2 ^ lineIndex n x) 0
     unfolding differingFields
     together =

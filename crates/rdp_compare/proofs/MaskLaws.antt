@@ -1,10 +1,11 @@
 -- The bits of the fields that differ, one by one. Promises: `mask-bit`, a bit is set exactly where a field of that index differs; `field-set`, the bit of
--- each field; `suffix-set`, that of a triangle's suffix, bit 21; `unnamed-are`, the bit lines that name no field by their places. Assumes nothing.
+-- each field, whatever the suffix; `value-clear`, `clear-value`, it is clear exactly where the values are the same; `suffix-set`, that of a triangle's suffix,
+-- bit 21; `unnamed-are`, the bit lines that name no field by their places. Assumes nothing.
 use Prim.Native.Nat.{ℕ, zero, suc, _+_, _-_, _*_, _/_, _%_, _^_, _≤_, _<_}
 use mathlib.Core.Bool.{Bool, true, false, cond, not, _&&_, _||_}
-use mathlib.Core.List.{List, [], _∷_, _++_}
+use mathlib.Core.List.{List, [], _∷_, _++_, map}
 use mathlib.Core.Path.{_≡_, refl, ap, sym, _∙_}
-use native.Mathlib.Nat.{zero-mul, one-mul, add-mul, mul-assoc, mul-comm, pow-suc, add-zero, zero-add, add-comm, lt-of-le-of-lt}
+use native.Mathlib.Nat.{zero-mul, one-mul, add-mul, mul-assoc, mul-comm, pow-suc, suc-ne-zero, add-zero, zero-add, add-comm, lt-of-le-of-lt}
 use native.Mathlib.Omega.{arith}
 use borrow.Author.Tests.{eq-eqb, ne-eqb, le-leb, leb-true, ltb-true, ltb-false, eqb-true, eqb-false}
 use lib.Dec.{eqb, leb, ltb, eqb→eq, lit≤}
@@ -14,12 +15,21 @@ use lib.Seq.{getD-append-seam}
 use mir.Val.{boolByte}
 use Rattle.rdp_words.specs.Lengths.{firstNumber, suffixOf}
 use Rattle.rdp_words.proofs.Tests.{below, by-test}
-use Rattle.rdp_command.specs.Layout.{bits, otherModesLines}
+use Rattle.rdp_command.specs.Layout.{Line, bits, otherModesLines, layout}
+use Rattle.rdp_command.specs.Fields.{Value}
+use Rattle.rdp_command.specs.Commands.{valuesOf}
+use Rattle.rdp_command.specs.Decode.{decodeOf}
+use Rattle.rdp_command.specs.declared.Decoded.{Decoded}
+use Rattle.rdp_command.specs.declared.Decoded.the-variants.{Whole, Refused}
+use Rattle.rdp_command.proofs.ReadLaws.{decodes, decoded-number}
+use Rattle.rdp_encode.specs.Placed.{numberOfValue}
+use Rattle.rdp_encode.specs.Numbers.{valueFrom, valuesFrom}
+use Rattle.rdp_encode.proofs.FieldLaws.{values-decoded}
 use Rattle.rdp_command.proofs.Signed.{bool-le}
 use Rattle.rdp_command.proofs.Triangles.{layout-at}
-use Rattle.rdp_compare.specs.Differing.{fieldsIn, unlike, sameBytes, fieldsDiffer, unnamedBefore, lineIndex, bitsFrom, differingFields}
-use Rattle.rdp_compare.specs.Steps.{Alike}
-use Rattle.rdp_compare.proofs.DifferingLaws.{length-unlike, fields-long, as-many}
+use Rattle.rdp_compare.specs.Differing.{numbersIn, fieldsIn, unlike, sameBytes, fieldsDiffer, unnamedBefore, lineIndex, bitsFrom, differingFields}
+use Rattle.rdp_compare.specs.Steps.{OneCommand, Alike}
+use Rattle.rdp_compare.proofs.DifferingLaws.{there, length-unlike, fields-long, as-many}
 
 -- ---- the indices rise
 
@@ -95,7 +105,8 @@ past b i e {r} h m =
     let f : e ≡ suc i + (e - suc i) = omega arith in
     let x = cond b (2 ^ i) 0 in
     let q = m .times in
-    let one : (x + r) / 2 ^ suc i ≡ q = ap (λ (y : ℕ). (x + y) / 2 ^ suc i) (m .is) ∙ ap (λ (y : ℕ). y / 2 ^ suc i) (add-comm x (q * 2 ^ suc i)) ∙ high q (suc i) (small-bit b i) in
+    let turned = ap (λ (y : ℕ). y / 2 ^ suc i) (add-comm x (q * 2 ^ suc i)) in
+    let one : (x + r) / 2 ^ suc i ≡ q = ap (λ (y : ℕ). (x + y) / 2 ^ suc i) (m .is) ∙ turned ∙ high q (suc i) (small-bit b i) in
     let two : r / 2 ^ suc i ≡ q = ap (λ (y : ℕ). y / 2 ^ suc i) (m .is) ∙ shl-shr q (suc i) in
     ap (λ (k : ℕ). (x + r) / 2 ^ k) f ∙
     sym (shr-shr (x + r) (suc i) (e - suc i)) ∙
@@ -145,7 +156,8 @@ bits-set n k (b ∷ bs) j =
     (λ u.
     let h : j ≤ i = ltb-false i j u in
     let l : j < i = omega (arith, h, g) in
-    rw (f, and-false b, none-set n (suc k) bs j (omega (arith, l, rises n k))) (below-clear (cond b (2 ^ i) 0 + bitsFrom n (suc k) bs) i j l (stack-multiple b i r))))
+    rw (f, and-false b, none-set n (suc k) bs j (omega (arith, l, rises n k)))
+    (below-clear (cond b (2 ^ i) 0 + bitsFrom n (suc k) bs) i j l (stack-multiple b i r))))
 
 index-least : (n k m : ℕ) → lineIndex n k ≤ lineIndex n (k + m)
 index-least n k zero = rw (add-zero k) (omega arith)
@@ -168,12 +180,48 @@ set-field n k (b ∷ bs) (suc m) =
     rw (ne-eqb (lineIndex n k) (lineIndex n (suc k + m)) (λ q. omega (arith, q, h, rises n k)), and-false b) (set-field n (suc k) bs m)
 
 unlike-at :
-    (xs ys : List ℕ) → length xs ≡ length ys → (more : List Bool) (k : ℕ) → k < length xs → getD (unlike xs ys ++ more) k false ≡ not (eqb (getD xs k 0) (getD ys k 0))
+    (xs ys : List ℕ) → length xs ≡ length ys → (more : List Bool) (k : ℕ) → k < length xs →
+    getD (unlike xs ys ++ more) k false ≡ not (eqb (getD xs k 0) (getD ys k 0))
 unfolding unlike
 unlike-at [] ys e more k h = absurd (omega arith)
 unlike-at (x ∷ xs) [] e more k h = absurd (omega arith)
 unlike-at (x ∷ xs) (y ∷ ys) e more zero h = refl
 unlike-at (x ∷ xs) (y ∷ ys) e more (suc k) h = unlike-at xs ys (omega arith) more k (omega arith)
+
+-- ---- values and their numbers
+
+-- the values of a command's fields
+abbrev pub valuesIn : Decoded → List Value
+valuesIn (Whole x) = valuesOf x
+valuesIn (Refused r) = []
+
+value-at :
+    (ls : List Line) (ns : List ℕ) (k : ℕ) (v : Value) → length ls ≡ length ns → k < length ns →
+    getD (valuesFrom ls ns) k v ≡ valueFrom (getD ls k (bits 0 0 0) .isSigned) (getD ns k 0)
+value-at [] [] k v e h = absurd (omega arith)
+value-at [] (n ∷ ns) k v e h = absurd (omega arith)
+value-at (l ∷ ls) [] k v e h = absurd (omega arith)
+value-at (l ∷ ls) (n ∷ ns) zero v e h = refl
+value-at (l ∷ ls) (n ∷ ns) (suc k) v e h = value-at ls ns k v (omega arith) (omega arith)
+
+of-map : (vs : List Value) (k : ℕ) (v : Value) → k < length (map numberOfValue vs) → getD (map numberOfValue vs) k 0 ≡ numberOfValue (getD vs k v)
+of-map [] k v h = absurd (omega arith)
+of-map (x ∷ vs) zero v h = refl
+of-map (x ∷ vs) (suc k) v h = of-map vs k v (omega arith)
+
+number-at : (r : Decoded) (k : ℕ) (v : Value) → k < length (numbersIn r) → getD (numbersIn r) k 0 ≡ numberOfValue (getD (valuesIn r) k v)
+number-at (Whole x) k v h = of-map (valuesOf x) k v h
+number-at (Refused r) k v h = absurd (omega arith)
+
+values-are : (c : List ℕ) {n : ℕ} → OneCommand c → n ≡ firstNumber c → valuesFrom (layout n) (fieldsIn c) ≡ valuesIn (decodeOf c)
+values-are c one e =
+    let d = decodes c (there c one) in
+    (λ i. valuesFrom (layout ((e ∙ sym (decoded-number c (there c one))) i)) (numbersIn (d i))) ∙
+    values-decoded c d ∙
+    ap valuesIn (sym d)
+
+no-byte : (x y : ℕ) → boolByte (not (eqb x y)) ≡ 0 → x ≡ y
+no-byte x y e = by-test (eqb x y) (λ t. eqb-true x y t) (λ f. absurd (suc-ne-zero 0 (rw f at e)))
 
 -- ---- the bits of two commands of one number
 
@@ -197,6 +245,33 @@ module _ {c d : List ℕ} {n : ℕ} (a : Alike c d n) where
   pub field-set :
       (k : ℕ) → k < length (fieldsIn c) → differingFields c d / 2 ^ lineIndex n k % 2 ≡ boolByte (not (eqb (getD (fieldsIn c) k 0) (getD (fieldsIn d) k 0)))
   field-set k h = bit-at k ∙ ap boolByte (unlike-at (fieldsIn c) (fieldsIn d) (as-many a) (not (sameBytes (suffixOf c) (suffixOf d)) ∷ []) k h)
+
+  fields-of-first : valuesFrom (layout n) (fieldsIn c) ≡ valuesIn (decodeOf c)
+  fields-of-first = values-are c (a .one) (a .first)
+
+  fields-of-second : valuesFrom (layout n) (fieldsIn d) ≡ valuesIn (decodeOf d)
+  fields-of-second = values-are d (a .two) (a .second)
+
+  -- the bit is clear exactly where the values of the field are the same
+  pub value-clear :
+      (k : ℕ) (v : Value) → k < length (fieldsIn c) → differingFields c d / 2 ^ lineIndex n k % 2 ≡ 0 →
+      getD (valuesIn (decodeOf c)) k v ≡ getD (valuesIn (decodeOf d)) k v
+  value-clear k v h z =
+      let s = getD (layout n) k (bits 0 0 0) .isSigned in
+      let e = no-byte (getD (fieldsIn c) k 0) (getD (fieldsIn d) k 0) (sym (field-set k h) ∙ z) in
+      let long : length (layout n) ≡ length (fieldsIn c) = ap (λ (m : ℕ). length (layout m)) (a .first) ∙ sym (fields-long c (a .one)) in
+      ap (λ (vs : List Value). getD vs k v) (sym fields-of-first) ∙
+      value-at (layout n) (fieldsIn c) k v long h ∙
+      ap (valueFrom s) e ∙
+      sym (value-at (layout n) (fieldsIn d) k v (long ∙ as-many a) (omega (arith, h, as-many a))) ∙
+      ap (λ (vs : List Value). getD vs k v) fields-of-second
+
+  pub clear-value :
+      (k : ℕ) (v : Value) → k < length (fieldsIn c) → getD (valuesIn (decodeOf c)) k v ≡ getD (valuesIn (decodeOf d)) k v →
+      differingFields c d / 2 ^ lineIndex n k % 2 ≡ 0
+  clear-value k v h e =
+      let f = number-at (decodeOf c) k v h ∙ ap numberOfValue e ∙ sym (number-at (decodeOf d) k v (omega (arith, h, as-many a))) in
+      field-set k h ∙ ap (λ (b : Bool). boolByte (not b)) (eq-eqb _ _ f)
 
   -- a triangle's suffix has bit 21
   pub suffix-set : n / 8 ≡ 1 → differingFields c d / 2 ^ 21 % 2 ≡ boolByte (not (sameBytes (suffixOf c) (suffixOf d)))

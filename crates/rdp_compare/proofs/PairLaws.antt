@@ -248,7 +248,8 @@ pub record Writing (first : List ℕ) (n : ℕ) (second : List ℕ) (m : ℕ) (o
   pub whole : done ++ due first second a b ≡ entriesOf first second
 
 pub writing-first :
-    {first second old : List ℕ} {n m : ℕ} → Sound first n → Sound second m → length (entriesOf first second) ≤ length old → Writing first n second m old old 0 0 0
+    {first second old : List ℕ} {n m : ℕ} → Sound first n → Sound second m → length (entriesOf first second) ≤ length old →
+    Writing first n second m old old 0 0 0
 unfolding overwrite
 writing-first s t h = record { one = at-first s; two = at-first t; room = h; done = []; output = refl; index = refl; whole = refl }
 

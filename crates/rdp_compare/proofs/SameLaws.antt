@@ -21,6 +21,7 @@ use Rattle.rdp_command.specs.declared.Decoded.the-variants.{Whole, Refused}
 use Rattle.rdp_command.proofs.ReadLaws.{decoded, decodes, decoded-number}
 use Rattle.rdp_encode.specs.Encode.{numbersOf, encodeOut}
 use Rattle.rdp_encode.specs.Numbers.{fromNumbers}
+use Rattle.rdp_encode.proofs.Bytes.{empty}
 use Rattle.rdp_encode.proofs.FieldLaws.{from-fields-decoded}
 use Rattle.rdp_check.specs.Commands.{commandsOf}
 use Rattle.rdp_check.proofs.JoinLaws.{AllAlone, parsed}
@@ -120,10 +121,6 @@ same-encoding c d {x} {y} dx dy s out =
 no-entry : (b : Bool) (x y m : ℕ) → length (entryWith b x y m) ≡ 0 → b ≡ false
 no-entry true x y m e = absurd (suc-ne-zero 3 e)
 no-entry false x y m e = refl
-
-empty : (xs : List ℕ) → length xs ≡ 0 → xs ≡ []
-empty [] e = refl
-empty (x ∷ xs) e = absurd (omega arith)
 
 none-entries : (a b : ℕ) (cs ds : List (List ℕ)) → AllAlone cs → AllAlone ds → entriesFrom a b cs ds ≡ [] → AllSame cs ds
 unfolding entriesFrom

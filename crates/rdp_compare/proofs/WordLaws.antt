@@ -95,7 +95,8 @@ module _ (c d : List ℕ) (long : length c ≡ length d) where
       let w : wordOf xs ≡ wordOf ys = sym (word-whole c i h) ∙ e ∙ word-whole d i (omega (arith, long)) in
       let n : 8 * i + 8 ≡ 8 * (i + 1) = omega arith in
       sym
-      (word-step xs ys (bytes-drop (8 * i) c hc) (bytes-drop (8 * i) d hd) (omega (arith, length-drop (8 * i) c)) (omega (arith, length-drop (8 * i) d, long)) w ∙
+      (word-step xs ys (bytes-drop (8 * i) c hc) (bytes-drop (8 * i) d hd)
+      (omega (arith, length-drop (8 * i) c)) (omega (arith, length-drop (8 * i) d, long)) w ∙
       (λ j. sameBytes (drop-drop 8 (8 * i) c j) (drop-drop 8 (8 * i) d j)) ∙
       (λ j. sameBytes (drop (n j) c) (drop (n j) d)))
 

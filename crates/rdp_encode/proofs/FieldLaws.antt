@@ -105,12 +105,25 @@ pub from-fields-of :
     (c : Command) (suffix out : List ℕ) → (encodeAnswer c suffix out .number ≡ 15 → ⊥) → fromNumbers (numberOf c) (numbersOf c) ≡ Whole c
 from-fields-of c suffix out n = let p = parts c suffix (fits-of c suffix out n) in from-own c (p .0) (p .1 .0)
 
--- and so do those of a command that was decoded
-pub from-fields-decoded : (bs : List ℕ) {c : Command} → decodeOf bs ≡ Whole c → fromNumbers (numberOf c) (numbersOf c) ≡ Whole c
-from-fields-decoded bs {c} d =
-    let out : List ℕ = replicate (8 * wordsOf (numberOf c)) 0 in
-    let room : wordsOf (numberOf c) ≤ length out / 8 = omega (arith, length-replicate {A = ℕ} (8 * wordsOf (numberOf c)) 0) in
-    from-fields-of c (suffixOf bs) out (λ e. suc-ne-zero 14 (sym e ∙ ap (λ (a : Answer). a .number) (encode-decoded-answer bs d out room)))
+-- ---- a command that was decoded
+
+module _ (bs : List ℕ) {c : Command} (d : decodeOf bs ≡ Whole c) where
+  decoded-fits : encodable c (suffixOf bs) ≡ true
+  decoded-fits =
+      let out : List ℕ = replicate (8 * wordsOf (numberOf c)) 0 in
+      let room : wordsOf (numberOf c) ≤ length out / 8 = omega (arith, length-replicate {A = ℕ} (8 * wordsOf (numberOf c)) 0) in
+      fits-of c (suffixOf bs) out (λ e. suc-ne-zero 14 (sym e ∙ ap (λ (a : Answer). a .number) (encode-decoded-answer bs d out room)))
+
+  -- its number and its fields give it back
+  pub from-fields-decoded : fromNumbers (numberOf c) (numbersOf c) ≡ Whole c
+  from-fields-decoded = let p = parts c (suffixOf bs) decoded-fits in from-own c (p .0) (p .1 .0)
+
+  -- and each field's number its value
+  pub values-decoded : valuesFrom (layout (numberOf c)) (numbersOf c) ≡ valuesOf c
+  values-decoded =
+      let p = parts c (suffixOf bs) decoded-fits in
+      let s = standing c (p .0) in
+      values-again (layout (numberOf c)) (valuesOf c) (layout-readable (numberOf c) (s .1)) (s .0) (p .1 .0)
 
 -- ---- the other way round
 

@@ -20,7 +20,7 @@ use Rattle.rdp_encode.specs.Numbers.{valueFrom, valuesFrom}
 use Rattle.rdp_encode.proofs.TwosLaws.{signed-fits}
 
 -- a power of two as the code shifts it
-power : (k : ℕ) → k < 64 → 1 * 2 ^ k % 2 ^ 64 ≡ 2 ^ k
+pub power : (k : ℕ) → k < 64 → 1 * 2 ^ k % 2 ^ 64 ≡ 2 ^ k
 power k h = ap (λ (x : ℕ). x % 2 ^ 64) (one-mul (2 ^ k)) ∙ mod-eq-of-lt (pow-lt h)
 
 -- ---- one bit line
