@@ -1,4 +1,5 @@
 // Wrong versions of the library, to see that the drivers find faults: WRONG=1.. chooses one. The functions right_.. are the library's own, renamed.
+#include "fields.h"
 #include "lists.h"
 #include "record.h"
 #include <stddef.h>

@@ -1,8 +1,8 @@
 -- A Load Block by its strip: refusals, and what is moved. Assumes nothing.
 use mathlib.Core.Path.{_≡_, refl, sym, ap, _∙_}
 use mathlib.Core.Bool.{true, false, _&&_}
-use mathlib.Core.List.{List, _++_}
-use Prim.Native.Nat.{ℕ, _+_, _*_, _/_, _%_, _≤_, _<_}
+use mathlib.Core.List.{List}
+use Prim.Native.Nat.{ℕ, _+_, _*_, _%_, _≤_, _<_}
 use native.Mathlib.Omega.{arith}
 use borrow.Author.Tests.{leb-true, eq-eqb}
 use lib.Dec.{leb}
@@ -11,14 +11,13 @@ use Rattle.rdp_command.specs.declared.LoadFields.{LoadFields}
 use Rattle.rdp_words.proofs.Tests.{by-test}
 use Rattle.rdp_check.specs.Order.{firstOf}
 use Rattle.rdp_pixels.proofs.BoolLaws.{and-is}
-use Rattle.rdp_texels.specs.Texels.{Move, loaded}
+use Rattle.rdp_texels.specs.Texels.{loaded}
 use Rattle.rdp_texels.specs.Load.{loadNeeds}
-use Rattle.rdp_texels.proofs.RowLaws.{loaded-append}
 use Rattle.rdp_texels.proofs.ActLaws.{never, both-lie}
 use Rattle.rdp_block.specs.declared.Strip.{Strip}
 use Rattle.rdp_block.specs.Block.{blockCount, blockNeeds, blockMoves, blockRefusals, blockRefusal, blockTexture}
 use Rattle.rdp_block.specs.Strips.{Small, stripMoves, stripOf, flat, stripRefusal, Fits}
-use Rattle.rdp_block.proofs.StripLaws.{block-strip, strip-parts}
+use Rattle.rdp_block.proofs.StripLaws.{block-strip}
 use Rattle.rdp_block.proofs.EndLaws.{strip-refusal}
 
 module _ (l : LoadFields) where
@@ -76,19 +75,6 @@ module _ (l : LoadFields) where
   pub block-loaded : (start : ℕ) (memory texture : List ℕ) {q : Strip} {after : List ℕ} → q ≡ stripOf l
       → after ≡ loaded start memory (stripMoves q 0 (q .count)) texture → after ≡ loaded start memory (blockMoves l) texture
   block-loaded start memory texture e is = is ∙ rw (e, block-strip l)
-
--- the whole words, then the rest
-pub words-and-rest : (q : Strip) (start : ℕ) (memory texture : List ℕ) {one two : List ℕ} → one ≡ loaded start memory (stripMoves q 0 (4 * (q .count / 4))) texture
-    → two ≡ loaded start memory (stripMoves q (4 * (q .count / 4)) (q .count % 4)) one → two ≡ loaded start memory (stripMoves q 0 (q .count)) texture
-words-and-rest q start memory texture first second =
-    let w : ℕ = 4 * (q .count / 4) in
-    let at : 0 + w ≡ w = omega arith in
-    let all : w + q .count % 4 ≡ q .count = omega arith in
-    second
-    ∙ ap (loaded start memory (stripMoves q w (q .count % 4))) first
-    ∙ sym (loaded-append start memory (stripMoves q 0 w) (stripMoves q w (q .count % 4)) texture)
-    ∙ ap (λ (ms : List Move). loaded start memory ms texture)
-    (sym (ap (stripMoves q 0) (sym all) ∙ strip-parts q 0 w (q .count % 4) ∙ ap (λ (k : ℕ). stripMoves q 0 w ++ stripMoves q k (q .count % 4)) at))
 
 -- what is left where nothing is refused
 pub block-leaves : (start : ℕ) (memory texture : List ℕ) → length texture ≡ 4096 → (l : LoadFields) → blockRefusal l start (length memory) ≡ 0

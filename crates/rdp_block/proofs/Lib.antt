@@ -3,3 +3,4 @@ pub mod WordLaws
 pub mod LineLaws
 pub mod EndLaws
 pub mod BlockLaws
+pub mod ExampleTests

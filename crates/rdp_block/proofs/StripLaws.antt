@@ -3,7 +3,7 @@ use mathlib.Core.Path.{_≡_, refl, sym, ap, _∙_, subst}
 use mathlib.Core.Bool.{Bool, true, false, cond}
 use mathlib.Core.List.{List, [], _∷_, _++_}
 use Prim.Native.Nat.{ℕ, _+_, _-_, _*_, _/_, _%_, _≤_, _<_}
-use native.Mathlib.Nat.{zero-add, sub-zero}
+use native.Mathlib.Nat.{zero-add}
 use native.Mathlib.Omega.{arith}
 use lib.Dec.{eqb}
 use lib.ListN.{length}
@@ -72,20 +72,19 @@ module _ (q : Strip) (start : ℕ) (memory texture : List ℕ) (fits : Fits q st
 pub word-line : (dxt j k : ℕ) → 4 * j ≤ k → k < 4 * j + 4 → k / 4 * dxt / 2048 ≡ j * dxt / 2048
 word-line dxt j k l h = let same : k / 4 ≡ j = omega arith in ap (λ (n : ℕ). n * dxt / 2048) same
 
--- ---- in a loop: what is still to come of n texels gives what was promised
+-- ---- in a loop: what is still to come of the texels from one up to another gives what was promised
 
-pub record Due (q : Strip) (start n : ℕ) (memory before after : List ℕ) (k : ℕ) : Type 0 where
+pub record Due (q : Strip) (start first n : ℕ) (memory before after : List ℕ) (k : ℕ) : Type 0 where
   pub to : k ≤ n
   pub long : length after ≡ length before
-  pub is : loaded start memory (stripMoves q k (n - k)) after ≡ loaded start memory (stripMoves q 0 n) before
+  pub is : loaded start memory (stripMoves q k (n - k)) after ≡ loaded start memory (stripMoves q first (n - first)) before
 
-pub due-first : {q : Strip} {start n : ℕ} {memory before : List ℕ} → Due q start n memory before before 0
-due-first {q} {start} {n} {memory} {before} =
-    record { to = omega arith; long = refl; is = ap (λ (m : ℕ). loaded start memory (stripMoves q 0 m) before) (sub-zero n) }
+pub due-first : {q : Strip} {start first n : ℕ} {memory before : List ℕ} → first ≤ n → Due q start first n memory before before first
+due-first h = record { to = h; long = refl; is = refl }
 
-pub due-next : {q : Strip} {start n : ℕ} {memory before after : List ℕ} {k : ℕ} → Due q start n memory before after k → (m : ℕ) → k + m ≤ n → {then : List ℕ}
-    → length then ≡ length after → then ≡ loaded start memory (stripMoves q k m) after → Due q start n memory before then (k + m)
-due-next {q} {start} {n} {memory} {before} {after} {k} d m h long e =
+pub due-next : {q : Strip} {start first n : ℕ} {memory before after : List ℕ} {k : ℕ} → Due q start first n memory before after k → (m : ℕ) → k + m ≤ n
+    → {then : List ℕ} → length then ≡ length after → then ≡ loaded start memory (stripMoves q k m) after → Due q start first n memory before then (k + m)
+due-next {q} {start} {first} {n} {memory} {before} {after} {k} d m h long e =
     let count : n - k ≡ m + (n - (k + m)) = omega arith in
     record {
       to = h;
@@ -97,9 +96,21 @@ due-next {q} {start} {n} {memory} {before} {after} {k} d m h long e =
           ∙ d .is;
     }
 
-pub due-done : {q : Strip} {start n : ℕ} {memory before after : List ℕ} {k : ℕ} → Due q start n memory before after k → n ≤ k
-    → after ≡ loaded start memory (stripMoves q 0 n) before
-due-done {q} {start} {n} {memory} {after = after} {k} d h = strip-none q k (n - k) start memory after (omega arith) ∙ d .is
+pub due-done : {q : Strip} {start first n : ℕ} {memory before after : List ℕ} {k : ℕ} → Due q start first n memory before after k → n ≤ k
+    → after ≡ loaded start memory (stripMoves q first (n - first)) before
+due-done {q} {start} {first} {n} {memory} {after = after} {k} d h = strip-none q k (n - k) start memory after (omega arith) ∙ d .is
+
+-- the texels up to one, then those from it on
+pub two-parts : (q : Strip) (start : ℕ) (memory texture : List ℕ) (r : ℕ) → r ≤ q .count → {one two : List ℕ} → one ≡ loaded start memory (stripMoves q 0 r) texture
+    → two ≡ loaded start memory (stripMoves q r (q .count - r)) one → two ≡ loaded start memory (stripMoves q 0 (q .count)) texture
+two-parts q start memory texture r h first second =
+    let at : 0 + r ≡ r = omega arith in
+    let all : r + (q .count - r) ≡ q .count = omega arith in
+    second
+    ∙ ap (loaded start memory (stripMoves q r (q .count - r))) first
+    ∙ sym (loaded-append start memory (stripMoves q 0 r) (stripMoves q r (q .count - r)) texture)
+    ∙ ap (λ (ms : List Move). loaded start memory ms texture)
+    (sym (ap (stripMoves q 0) (sym all) ∙ strip-parts q 0 r (q .count - r) ∙ ap (λ (k : ℕ). stripMoves q 0 r ++ stripMoves q k (q .count - r)) at))
 
 -- ---- what the functions move
 
@@ -133,28 +144,16 @@ module _ (q : Strip) (start : ℕ) (memory texture : List ℕ) (fits : Fits q st
       back true = refl
       back false = refl
 
-  -- the texels after the last whole word
-  pub rest-loaded : {s d n line : ℕ} {odd : Bool} {after : List ℕ} → s ≡ q .address - start + 8 * (q .count / 4) → d ≡ q .ahead + 8 * (q .count / 4)
-      → n ≡ 2 * (q .count % 4) → line ≡ q .count / 4 * q .dxt / 2048 → odd ≡ eqb (line % 2) 1 → after ≡ runTexture s d n odd memory texture
-      → after ≡ loaded start memory (stripMoves q (4 * (q .count / 4)) (q .count % 4)) texture
-  rest-loaded is-s is-d is-n is-line is-odd e =
-      let w : ℕ = q .count / 4 in
-      let in-memory : q .address - start + 8 * w ≡ q .address - start + 2 * (4 * w) = omega arith in
-      let in-texture : q .ahead + 8 * w ≡ q .ahead + 2 * (4 * w) = omega arith in
-      run-loaded (4 * w) (q .count % 4) (w * q .dxt / 2048) (omega arith)
-      (λ k l u. word-line (q .dxt) w k l (let few : k < 4 * w + 4 = omega arith in few))
-      (is-s ∙ in-memory) (is-d ∙ in-texture) is-n (is-odd ∙ ap (λ (x : ℕ). eqb (x % 2) 1) is-line) e
-
 -- a word more, and a line more
-module _ {q : Strip} {start n : ℕ} {memory before after : List ℕ} where
-  pub due-word : (j : ℕ) → Due q start (4 * n) memory before after (4 * j) → j < n → {then : List ℕ} → length then ≡ length after
-      → then ≡ loaded start memory (stripMoves q (4 * j) 4) after → Due q start (4 * n) memory before then (4 * (j + 1))
+module _ {q : Strip} {start first n : ℕ} {memory before after : List ℕ} where
+  pub due-word : (j : ℕ) → Due q start first (4 * n) memory before after (4 * j) → j < n → {then : List ℕ} → length then ≡ length after
+      → then ≡ loaded start memory (stripMoves q (4 * j) 4) after → Due q start first (4 * n) memory before then (4 * (j + 1))
   due-word j d h {then} long e =
       let on : 4 * j + 4 ≡ 4 * (j + 1) = omega arith in
-      subst (λ (k : ℕ). Due q start (4 * n) memory before then k) on (due-next d 4 (omega arith) long e)
+      subst (λ (k : ℕ). Due q start first (4 * n) memory before then k) on (due-next d 4 (omega arith) long e)
 
-  pub due-line : (k end : ℕ) → Due q start n memory before after k → k ≤ end → end ≤ n → {then : List ℕ} → length then ≡ length after
-      → then ≡ loaded start memory (stripMoves q k (end - k)) after → Due q start n memory before then end
+  pub due-line : (k end : ℕ) → Due q start first n memory before after k → k ≤ end → end ≤ n → {then : List ℕ} → length then ≡ length after
+      → then ≡ loaded start memory (stripMoves q k (end - k)) after → Due q start first n memory before then end
   due-line k end d l h {then} long e =
       let on : k + (end - k) ≡ end = omega arith in
-      subst (λ (x : ℕ). Due q start n memory before then x) on (due-next d (end - k) (omega arith) long e)
+      subst (λ (x : ℕ). Due q start first n memory before then x) on (due-next d (end - k) (omega arith) long e)

@@ -1,10 +1,10 @@
-// The texels of a strip loaded. A line is the words between which floor(word · dxt / 2048) stays the same: long lines go run by run, and short ones word by word,
-// which takes as long for every dxt.
+// The texels of a strip loaded. A line is the words between which floor(word · dxt / 2048) stays the same: long lines go run by run, short ones word by
+// word, which takes as long for every dxt, and then the texels after the last whole word as runs.
 use crate::Strip;
 ghost use mathlib.Core.Bool.{false, cond};
 ghost use mathlib.Core.Logic.{_⊎_};
 ghost use mathlib.Core.Path.{_≡_};
-ghost use Prim.Native.Nat.{_+_, _*_, _/_, _%_, _<_, _≤_};
+ghost use Prim.Native.Nat.{_+_, _-_, _*_, _/_, _%_, _<_, _≤_};
 ghost use lib.Dec.{eqb};
 ghost use lib.ListN.{length};
 ghost use Rattle.rdp_texels.specs.Texels.{loaded};
@@ -61,19 +61,6 @@ fn load_words(memory: &[u8], start: u64, texture: &mut [u8], strip: Strip)
     }
 }
 
-// The texels after the last whole word.
-fn load_rest(memory: &[u8], start: u64, texture: &mut [u8], strip: Strip)
-    requires { ⌜ (length (now texture) ≡ 4096) × Fits strip start (length (now memory)) ⌝ }
-    ensures { λ _. ⌜ now (texture .exit) ≡ loaded start (now (memory .entry)) (stripMoves strip (4 * (strip .count / 4)) (strip .count % 4)) (now (texture .entry)) ⌝ }
-{
-    let word = strip.count / 4;
-    let s = strip.address - start + 8 * word;
-    let d = strip.ahead + 8 * word;
-    let n = 2 * (strip.count % 4);
-    let odd = line_of(word, strip.dxt) % 2 == 1;
-    rdp_texels::load_run(memory, s as usize, texture, d as usize, n as usize, odd);
-}
-
 // The line of a word.
 fn line_of(word: u64, dxt: u64) -> u64
     requires { ⌜ (word ≤ 65536) × (dxt ≤ 65536) ⌝ }
@@ -94,15 +81,15 @@ fn line_end(line: u64, dxt: u64, count: u64) -> u64
     if 4 * words < count { 4 * words } else { count }
 }
 
-// The texels of a strip, line by line.
-fn load_lines(memory: &[u8], start: u64, texture: &mut [u8], strip: Strip)
-    requires { ⌜ (length (now texture) ≡ 4096) × Fits strip start (length (now memory)) ⌝ }
-    ensures { λ _. ⌜ now (texture .exit) ≡ loaded start (now (memory .entry)) (stripMoves strip 0 (strip .count)) (now (texture .entry)) ⌝ }
+// The texels of a strip from one on, line by line.
+fn load_lines(memory: &[u8], start: u64, texture: &mut [u8], strip: Strip, first: u64)
+    requires { ⌜ (length (now texture) ≡ 4096) × Fits strip start (length (now memory)) × (first ≤ strip .count) ⌝ }
+    ensures { λ _. ⌜ now (texture .exit) ≡ loaded start (now (memory .entry)) (stripMoves strip first (strip .count - first)) (now (texture .entry)) ⌝ }
 {
     let from = strip.address - start;
     let to = strip.ahead;
     let count = strip.count;
-    let mut k: u64 = 0;
+    let mut k = first;
     while k < count {
         let line = line_of(k / 4, strip.dxt);
         let end = line_end(line, strip.dxt, count);
@@ -121,15 +108,23 @@ fn load_lines(memory: &[u8], start: u64, texture: &mut [u8], strip: Strip)
     }
 }
 
-// The texels of a strip of which all are there.
+// The whole words of a strip of short lines; of one of long lines nothing. It answers the texels that are loaded.
+fn load_short(memory: &[u8], start: u64, texture: &mut [u8], strip: Strip) -> u64
+    requires { ⌜ (length (now texture) ≡ 4096) × Fits strip start (length (now memory)) ⌝ }
+    ensures { λ r. ⌜ (r ≤ strip .count) × (now (texture .exit) ≡ loaded start (now (memory .entry)) (stripMoves strip 0 r) (now (texture .entry))) ⌝ }
+{
+    if strip.dxt <= 128 {
+        return 0;
+    }
+    load_words(memory, start, texture, strip);
+    4 * (strip.count / 4)
+}
+
+// The texels of a strip of which all are there. The lines' loop has one call, where the compiler puts it.
 pub fn load_strip(memory: &[u8], start: u64, texture: &mut [u8], strip: Strip)
     requires { ⌜ (length (now texture) ≡ 4096) × Fits strip start (length (now memory)) ⌝ }
     ensures { λ _. ⌜ now (texture .exit) ≡ loaded start (now (memory .entry)) (stripMoves strip 0 (strip .count)) (now (texture .entry)) ⌝ }
 {
-    if strip.dxt <= 256 {
-        load_lines(memory, start, texture, strip);
-        return;
-    }
-    load_words(memory, start, texture, strip);
-    load_rest(memory, start, texture, strip);
+    let first = load_short(memory, start, texture, strip);
+    load_lines(memory, start, texture, strip, first);
 }

@@ -34,7 +34,7 @@ copyWords file t =
 abbrev pub loadWords : List ℕ → ℕ → LoadWords
 loadWords file t = record { image = word file 12; tile = word file (15 + t) }
 
--- the fill rectangle, the texture rectangle and the load at a place of a list
+-- the fill rectangle, the texture rectangle and the load at a place of a list; a Load Block has the fields of a Load Tile, see `blockArea`
 abbrev pub fillAt : List ℕ → List ℕ → ℕ → FillFields
 fillAt file list at = fillFields (fillWords file) (wordAt list at)
 

@@ -1,4 +1,4 @@
-// Drawing of a list into memory: fill rectangles, loads of tiles and copy rectangles.
+// Drawing of a list into memory: fill rectangles, loads of tiles and blocks, and copy rectangles.
 ghost use mathlib.Core.Path.{_≡_};
 ghost use lib.ListN.{length};
 ghost use Rattle.rdp_draw.specs.Draw.{drawAnswer, drawn, memories};

@@ -86,7 +86,7 @@ pub fn copy_at(list: &[u8], place: usize, file: &[u64; 32]) -> CopyFields
     rdp_command::copy_fields(set, word, rdp_words::word_at(list, place + 1))
 }
 
-// A Load Tile at a place, with what it is done under.
+// A Load Tile or a Load Block at a place, with what it is done under.
 pub fn load_at(list: &[u8], place: usize, file: &[u64; 32]) -> LoadFields
     ensures { λ r. ⌜ r ≡ loadAt (now (file .entry)) (now (list .entry)) place ⌝ }
 {

@@ -10,16 +10,16 @@ use Rattle.rdp_block.proofs.loading.load_lines.Statement.{statement}
 use Rattle.rdp_block.proofs.loading.load_lines.Tie as tie
 
 abbrev Inv-loop : tie.InvT-loop
-Inv-loop memory start texture₀ strip from to count k₀ texture k = Due strip start count memory texture₀ texture k
+Inv-loop memory start texture₀ strip first from to count k₀ texture k = Due strip start first count memory texture₀ texture k
 
 abbrev μ-loop : tie.MeasureT-loop
-μ-loop memory start texture₀ strip from to count k₀ texture k = count - k
+μ-loop memory start texture₀ strip first from to count k₀ texture k = count - k
 
 sub-from : tie.Need-sub-from Inv-loop μ-loop
 sub-from c = c .before .before .before .pre .1 .from
 
 loop-holds : tie.Need-loop-holds Inv-loop μ-loop
-loop-holds c = due-first
+loop-holds c = due-first (c .before .before .before .pre .2)
 
 line-of-requires : tie.Need-line-of-requires Inv-loop μ-loop
 line-of-requires c κs = let f = c .before .before .before .before .before .pre .1 in (omega (arith, c .loop-test .taken, f .small .count), f .small .dxt)

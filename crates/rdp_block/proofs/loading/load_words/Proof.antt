@@ -1,17 +1,20 @@
 -- `rdp_block::loading::load_words` meets its contract. The loop's invariant: what is still to come of the whole words gives what was promised. Assumes nothing.
-use mathlib.Core.Path.{refl, _∙_}
-use Prim.Native.Nat.{_-_, _*_, _/_, _%_, _≤_}
+use mathlib.Core.Path.{refl, ap, _∙_}
+use Prim.Native.Nat.{ℕ, _-_, _*_, _/_, _%_, _≤_}
+use native.Mathlib.Nat.{sub-zero}
 use native.Mathlib.Omega.{arith}
 use lib.Dec.{eqb}
 use borrow.Author.Needs.{needs}
 use denote.Ref.{now}
+use Rattle.rdp_texels.specs.Texels.{loaded}
+use Rattle.rdp_block.specs.Strips.{stripMoves}
 use Rattle.rdp_block.proofs.StripLaws.{Due, due-first, due-word, due-done, word-loaded}
 use Rattle.rdp_block.proofs.WordLaws.{four-most, four-or-none}
 use Rattle.rdp_block.proofs.loading.load_words.Statement.{statement}
 use Rattle.rdp_block.proofs.loading.load_words.Tie as tie
 
 abbrev Inv-loop : tie.InvT-loop
-Inv-loop memory start texture₀ strip from to words j₀ texture j = (j ≤ words) × Due strip start (4 * words) memory texture₀ texture (4 * j)
+Inv-loop memory start texture₀ strip from to words j₀ texture j = (j ≤ words) × Due strip start 0 (4 * words) memory texture₀ texture (4 * j)
 
 abbrev μ-loop : tie.MeasureT-loop
 μ-loop memory start texture₀ strip from to words j₀ texture j = words - j
@@ -20,7 +23,7 @@ sub-from : tie.Need-sub-from Inv-loop μ-loop
 sub-from c = c .before .before .before .pre .1 .from
 
 loop-holds : tie.Need-loop-holds Inv-loop μ-loop
-loop-holds c = (search needs, due-first)
+loop-holds c = (search needs, due-first (omega arith))
 
 mul-s : tie.Need-mul-s Inv-loop μ-loop
 mul-s c = let f = c .before .before .before .before .before .before .pre .1 in omega (arith, c .loop-test .taken, f .small .count)
@@ -77,7 +80,10 @@ same-length : tie.Need-same-length Inv-loop μ-loop
 same-length c = c .before .loop .inv .1 .long
 
 returns : tie.Need-returns Inv-loop μ-loop
-returns c = due-done (c .before .loop .inv .1) (omega (arith, c .loop-test .left))
+returns c =
+    let s = c .before .before .before .before .before .before .args in
+    due-done (c .before .loop .inv .1) (omega (arith, c .loop-test .left)) ∙
+    ap (λ (n : ℕ). loaded (s .start) (now (s .memory)) (stripMoves (s .strip) 0 n) (now (s .texture))) (sub-zero (4 * (s .strip .count / 4)))
 
 pub load-words-spec : {M : Type 1} → statement M
 load-words-spec =
