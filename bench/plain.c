@@ -545,6 +545,25 @@ uint64_t plain_check(const uint8_t *list, size_t list_length)
     return judged | (uint64_t)cause_of(list, list_length, judged) << 32;
 }
 
+/* The hazards before the command at a place, without an index: a full walk from the first command. The third number is what
+   lanyardrove_index_ask answers by entries that were built: hazards, and 16 times the commands that it reads. */
+uint64_t plain_index_ask(const uint8_t *list, size_t list_length, const uint32_t *entries, size_t count, uint32_t place)
+{
+    uint64_t refusal = length_refusal(list_length, 4096);
+    unsigned hazards = 0;
+    size_t at = 0, passed = 0, words = list_length / 8;
+    (void)entries;
+    (void)count;
+    if (is_refusal(refusal))
+        return refusal;
+    for (; at < place && at < words; passed++) {
+        unsigned number = number_at(list + 8 * at);
+        hazards = steps[number][hazards] % 16;
+        at += words_in(number);
+    }
+    return at == place && at < words ? answer(0, hazards + 16 * (passed % 64 + 1), place) : answer(24, 0, place);
+}
+
 /* The repair. A choice is the next hazards plus 16 times the option: nothing, Load, Tile or Pipe before the command. */
 
 static const uint8_t option_cycles[4] = {0, 25, 33, 50};

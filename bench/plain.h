@@ -18,6 +18,9 @@ struct plain_stream;
 uint64_t plain_stream_feed(struct plain_stream *stream, const uint8_t *portion, size_t portion_length);
 uint64_t plain_stream_close(struct plain_stream *stream);
 
+/* The hazards before the command at a place, by a full walk; answered as lanyardrove_index_ask does by entries of this list. */
+uint64_t plain_index_ask(const uint8_t *list, size_t list_length, const uint32_t *entries, size_t count, uint32_t place);
+
 /* The RDP list of a display list in memory; bits 55:32 are the display list commands read. */
 uint64_t plain_translate(const uint8_t *memory, size_t memory_length, uint32_t start, uint8_t *out, size_t out_length);
 

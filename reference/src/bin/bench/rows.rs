@@ -5,6 +5,8 @@ use std::ops::Range;
 use crate::lists::{self, Pixels, Rectangle, HEIGHT, WIDTH};
 use crate::versions::Version;
 use reference::comparison::side::Side;
+use reference::index::entries_of;
+use reference::kinds::commands;
 use reference::record::NUMBERS;
 use reference::texture::TEXTURE_BYTES;
 use reference::view::Image;
@@ -18,6 +20,8 @@ pub enum Job {
     RepairAfresh,
     /// The list compared with another, and the rest of the longer one.
     Compare(Vec<u8>),
+    /// A question about the command at a place, by the entries of the list.
+    Ask(u32),
     /// The display list at an offset: the row's list is the memory that it lies in.
     Translate(u32),
     /// An image of a size number viewed: the row's list is the memory that it lies in.
@@ -59,6 +63,7 @@ impl Row {
                 let compared = side.compare(&self.list, other, &mut buffers.entries);
                 compared ^ side.rest(&self.list, other, buffers.entries.len())
             }
+            Job::Ask(place) => side.index_ask(&self.list, &buffers.entries, *place),
             Job::Translate(start) => side.translate(&self.list, *start, &mut buffers.out),
             Job::View(size) => side.view(&self.list, 0, picture(*size), &mut buffers.out),
             Job::Draw(_) | Job::Copy(_) | Job::Load(_) => {
@@ -124,6 +129,7 @@ impl Buffers {
         match row.job {
             Job::Copy(_) => fill_any(texture),
             Job::Load(_) => fill_any(memory),
+            Job::Ask(_) => buffers.entries = entries_of(&row.list).concat(),
             _ => (),
         }
         buffers
@@ -159,6 +165,7 @@ pub fn rows() -> Vec<Row> {
     rows.push(whole_stream("a game's mix", lists::mixed(4_096)));
     rows.extend(LENGTHS.map(|length| cut_stream("setters", lists::setters(length))));
     rows.push(cut_stream("a game's mix", lists::mixed(4_096)));
+    rows.push(ask(lists::quiet(4_096)));
     rows.push(repair(lists::needy(2_048)));
     rows.push(repair_afresh("small commands", lists::needy(2_048)));
     rows.push(repair_afresh("full of syncs", lists::full_of_syncs(2_048)));
@@ -233,6 +240,17 @@ fn compare(what: &str, other: Vec<u8>) -> Row {
         name: format!("compare, {what}, {} words", other.len() / 8),
         list: lists::mixed(other.len() / 8),
         job: Job::Compare(other),
+    }
+}
+
+/// A question about a command near the end of a list, beside which the other versions
+/// walk from its first command on.
+fn ask(list: Vec<u8>) -> Row {
+    let last = commands(&list).last().expect("a list of commands");
+    Row {
+        name: format!("index, a question in {} words", list.len() / 8),
+        job: Job::Ask(last.place as u32),
+        list,
     }
 }
 

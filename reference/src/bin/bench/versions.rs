@@ -15,6 +15,7 @@ pub struct Version {
 
 /// The proved library.
 static LIBRARY: Foreign = Foreign {
+    index_ask: Some(lanyardrove_index_ask),
     translate: Some(lanyardrove_translate),
     view: Some(lanyardrove_view),
     repair_afresh: Some(lanyardrove_repair_afresh),
@@ -31,6 +32,7 @@ static LIBRARY: Foreign = Foreign {
 
 /// The plain C version.
 static PLAIN: Foreign = Foreign {
+    index_ask: Some(plain_index_ask),
     translate: Some(plain_translate),
     view: Some(plain_view),
     repair_afresh: Some(plain_repair_afresh),
@@ -46,6 +48,20 @@ static PLAIN: Foreign = Foreign {
 };
 
 extern "C" {
+    fn lanyardrove_index_ask(
+        list: *const u8,
+        list_length: usize,
+        entries: *const u32,
+        count: usize,
+        place: u32,
+    ) -> u64;
+    fn plain_index_ask(
+        list: *const u8,
+        list_length: usize,
+        entries: *const u32,
+        count: usize,
+        place: u32,
+    ) -> u64;
     fn lanyardrove_compare(
         first: *const u8,
         first_length: usize,
