@@ -71,9 +71,7 @@ fn start_of(entries: &[u32], asked: u32) -> Result<(usize, Marks), Ground> {
     let not_beyond = |entry: &&[u32]| entry[0] <= asked;
     let last = entries.chunks_exact(ENTRY).rfind(not_beyond);
     match last {
-        Some(entry) if entry[1] <= MOST_MARKS => {
-            Ok((entry[0] as usize, Marks::of_sum(entry[1])))
-        }
+        Some(entry) if entry[1] <= MOST_MARKS => Ok((entry[0] as usize, Marks::of_sum(entry[1]))),
         _ => Err(Ground::NoEntry),
     }
 }

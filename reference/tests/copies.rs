@@ -88,15 +88,19 @@ fn refuses(words: &[u64], lent: Lent, number: u8, place: usize) {
     assert!(after == lent);
 }
 
+/// The second word's halves change places, and the lines can be copied; by request
+/// #112 after Load Block as after Load Tile.
 #[test]
 fn a_load_and_a_copy() {
-    let list = copying(&[TILE, LOAD, SYNC_LOAD, CORNERS, STEPS]);
     let expected = lent()
         .with_texture(0, &[64, 65, 66, 67, 68, 69, 70, 71])
         .with_texture(8, &[76, 77, 78, 79, 72, 73, 74, 75])
         .with(18, &[64, 65, 66, 67])
         .with(34, &[72, 73, 74, 75]);
-    leaves(&list, expected);
+    for load in [LOAD, BLOCK] {
+        let list = copying(&[TILE, load, SYNC_LOAD, CORNERS, STEPS]);
+        leaves(&list, expected.clone());
+    }
 }
 
 /// Columns 2 to 3 and rows 1 to 2: the block starts there, and so does the tile. The
@@ -249,18 +253,6 @@ fn loads_that_are_not_drawn() {
     leaves(&[TEXTURE, TILE ^ 3 << 51, TILE, LOAD & !0xFFFF], {
         lent().with_texture(0, &[64, 65])
     });
-}
-
-/// Request #112: the second word's halves change places, and the lines can be copied.
-#[test]
-fn a_block_and_a_copy() {
-    let list = copying(&[TILE, BLOCK, SYNC_LOAD, CORNERS, STEPS]);
-    let expected = lent()
-        .with_texture(0, &[64, 65, 66, 67, 68, 69, 70, 71])
-        .with_texture(8, &[76, 77, 78, 79, 72, 73, 74, 75])
-        .with(18, &[64, 65, 66, 67])
-        .with(34, &[72, 73, 74, 75]);
-    leaves(&list, expected);
 }
 
 /// From texel 3 of row 2, ten texels, which run past the end of their row of four.

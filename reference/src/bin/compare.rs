@@ -6,30 +6,11 @@
 use std::env;
 use std::process::ExitCode;
 
+use reference::archive;
 use reference::comparison::foreign::Foreign;
 use reference::comparison::run::run;
-use reference::foreign;
 
-/// The archive.
-static ARCHIVE: Foreign = foreign!(
-    lanyardrove_check,
-    lanyardrove_repair,
-    lanyardrove_draw,
-    lanyardrove_stream_feed,
-    lanyardrove_stream_close,
-    lanyardrove_decode,
-    lanyardrove_encode,
-    lanyardrove_words,
-    lanyardrove_step,
-    lanyardrove_translate,
-    lanyardrove_repair_afresh,
-    lanyardrove_compare,
-    lanyardrove_rest,
-    lanyardrove_index_build,
-    lanyardrove_index_ask,
-    lanyardrove_index_replace,
-    lanyardrove_view
-);
+static ARCHIVE: Foreign = archive!();
 
 /// The arguments: seed, number of cases, first case.
 fn arguments() -> Option<(u64, u64, u64)> {

@@ -33,32 +33,33 @@ pub struct Foreign {
     pub draw: Draw,
     pub feed: Feed,
     pub close: Close,
+    pub translate: Translate,
+    pub repair_afresh: Repair,
+    pub compare: Compare,
+    pub rest: Rest,
+    pub view: View,
     /// Where there is none, this crate's stands in.
     pub decode: Option<Decode>,
     pub encode: Option<Encode>,
     pub words: Option<Words>,
     pub step: Option<Step>,
-    pub translate: Option<Translate>,
-    pub repair_afresh: Option<Repair>,
-    pub compare: Option<Compare>,
-    pub rest: Option<Rest>,
     pub index_build: Option<IndexBuild>,
     pub index_ask: Option<IndexAsk>,
     pub index_replace: Option<IndexReplace>,
-    pub view: Option<View>,
 }
 
-/// Declares functions of C by their names, and gives them as a `Foreign`: check,
-/// repair, draw, feed and close, and the others where there are such. They touch no
-/// bytes but those lent, and write only those lent for writing.
+/// Declares functions of C by their names, and gives them as a `Foreign`: those
+/// that the plain C version has too, and the others where there are such. They touch
+/// no bytes but those lent, and write only those lent for writing.
 #[macro_export]
 macro_rules! foreign {
     (
-        $check:ident, $repair:ident, $draw:ident, $feed:ident, $close:ident
+        $check:ident, $repair:ident, $draw:ident, $feed:ident, $close:ident,
+        $translate:ident, $repair_afresh:ident, $compare:ident, $rest:ident,
+        $view:ident
         $(
-            , $decode:ident, $encode:ident, $words:ident, $step:ident, $translate:ident,
-            $repair_afresh:ident, $compare:ident, $rest:ident, $index_build:ident,
-            $index_ask:ident, $index_replace:ident, $view:ident
+            , $decode:ident, $encode:ident, $words:ident, $step:ident,
+            $index_build:ident, $index_ask:ident, $index_replace:ident
         )?
     ) => {{
         extern "C" {
@@ -86,6 +87,47 @@ macro_rules! foreign {
                 portion_length: usize,
             ) -> u64;
             fn $close(record: *mut $crate::record::Record) -> u64;
+            fn $translate(
+                memory: *const u8,
+                memory_length: usize,
+                start: u32,
+                out: *mut u8,
+                out_length: usize,
+            ) -> u64;
+            fn $repair_afresh(
+                list: *const u8,
+                list_length: usize,
+                work: *mut u8,
+                work_length: usize,
+                out: *mut u8,
+                out_length: usize,
+            ) -> u64;
+            fn $compare(
+                first: *const u8,
+                first_length: usize,
+                second: *const u8,
+                second_length: usize,
+                entries: *mut u32,
+                count: usize,
+            ) -> u64;
+            fn $rest(
+                first: *const u8,
+                first_length: usize,
+                second: *const u8,
+                second_length: usize,
+                count: usize,
+            ) -> u64;
+            fn $view(
+                memory: *const u8,
+                memory_length: usize,
+                start: u64,
+                address: u64,
+                width: u32,
+                height: u32,
+                size: u32,
+                out: *mut u8,
+                out_length: usize,
+            ) -> u64;
             $(
                 fn $decode(
                     list: *const u8,
@@ -104,36 +146,6 @@ macro_rules! foreign {
                 ) -> u64;
                 fn $words(first_word: u64) -> u64;
                 fn $step(hazards: u32, number: u32) -> u64;
-                fn $translate(
-                    memory: *const u8,
-                    memory_length: usize,
-                    start: u32,
-                    out: *mut u8,
-                    out_length: usize,
-                ) -> u64;
-                fn $repair_afresh(
-                    list: *const u8,
-                    list_length: usize,
-                    work: *mut u8,
-                    work_length: usize,
-                    out: *mut u8,
-                    out_length: usize,
-                ) -> u64;
-                fn $compare(
-                    first: *const u8,
-                    first_length: usize,
-                    second: *const u8,
-                    second_length: usize,
-                    entries: *mut u32,
-                    count: usize,
-                ) -> u64;
-                fn $rest(
-                    first: *const u8,
-                    first_length: usize,
-                    second: *const u8,
-                    second_length: usize,
-                    count: usize,
-                ) -> u64;
                 fn $index_build(
                     list: *const u8,
                     list_length: usize,
@@ -156,17 +168,6 @@ macro_rules! foreign {
                     new: *const u8,
                     new_length: usize,
                 ) -> u64;
-                fn $view(
-                    memory: *const u8,
-                    memory_length: usize,
-                    start: u64,
-                    address: u64,
-                    width: u32,
-                    height: u32,
-                    size: u32,
-                    out: *mut u8,
-                    out_length: usize,
-                ) -> u64;
             )?
         }
         $crate::comparison::foreign::Foreign {
@@ -175,22 +176,67 @@ macro_rules! foreign {
             draw: $draw,
             feed: $feed,
             close: $close,
+            translate: $translate,
+            repair_afresh: $repair_afresh,
+            compare: $compare,
+            rest: $rest,
+            view: $view,
             decode: $crate::foreign!($($decode)?),
             encode: $crate::foreign!($($encode)?),
             words: $crate::foreign!($($words)?),
             step: $crate::foreign!($($step)?),
-            translate: $crate::foreign!($($translate)?),
-            repair_afresh: $crate::foreign!($($repair_afresh)?),
-            compare: $crate::foreign!($($compare)?),
-            rest: $crate::foreign!($($rest)?),
             index_build: $crate::foreign!($($index_build)?),
             index_ask: $crate::foreign!($($index_ask)?),
             index_replace: $crate::foreign!($($index_replace)?),
-            view: $crate::foreign!($($view)?),
         }
     }};
     () => { None };
     ($function:ident) => { Some($function) };
+}
+
+/// The proved library.
+#[macro_export]
+macro_rules! archive {
+    () => {
+        $crate::foreign!(
+            lanyardrove_check,
+            lanyardrove_repair,
+            lanyardrove_draw,
+            lanyardrove_stream_feed,
+            lanyardrove_stream_close,
+            lanyardrove_translate,
+            lanyardrove_repair_afresh,
+            lanyardrove_compare,
+            lanyardrove_rest,
+            lanyardrove_view,
+            lanyardrove_decode,
+            lanyardrove_encode,
+            lanyardrove_words,
+            lanyardrove_step,
+            lanyardrove_index_build,
+            lanyardrove_index_ask,
+            lanyardrove_index_replace
+        )
+    };
+}
+
+/// The plain C version of the benchmark.
+#[macro_export]
+macro_rules! plain {
+    () => {
+        $crate::foreign!(
+            plain_check,
+            plain_repair,
+            plain_draw,
+            plain_stream_feed,
+            plain_stream_close,
+            plain_translate,
+            plain_repair_afresh,
+            plain_compare,
+            plain_rest,
+            plain_view
+        )
+    };
 }
 
 fn call_repair(repair: Repair, list: &[u8], work: &mut [u8], out: &mut [u8]) -> u64 {
@@ -276,38 +322,26 @@ impl Side for Foreign {
     }
 
     fn translate(&self, memory: &[u8], start: u32, out: &mut [u8]) -> u64 {
-        let Some(translate) = self.translate else {
-            return packed::translate(memory, start, out);
-        };
         let (memory, memory_length) = (memory.as_ptr(), memory.len());
         let (out, out_length) = (out.as_mut_ptr(), out.len());
-        unsafe { translate(memory, memory_length, start, out, out_length) }
+        unsafe { (self.translate)(memory, memory_length, start, out, out_length) }
     }
 
     fn repair_afresh(&self, list: &[u8], work: &mut [u8], out: &mut [u8]) -> u64 {
-        match self.repair_afresh {
-            Some(repair_afresh) => call_repair(repair_afresh, list, work, out),
-            None => packed::repair_afresh(list, work, out),
-        }
+        call_repair(self.repair_afresh, list, work, out)
     }
 
     fn compare(&self, first: &[u8], second: &[u8], entries: &mut [u32]) -> u64 {
-        let Some(compare) = self.compare else {
-            return packed::compare(first, second, entries);
-        };
         let (first, first_length) = (first.as_ptr(), first.len());
         let (second, second_length) = (second.as_ptr(), second.len());
         let (entries, count) = (entries.as_mut_ptr(), entries.len());
-        unsafe { compare(first, first_length, second, second_length, entries, count) }
+        unsafe { (self.compare)(first, first_length, second, second_length, entries, count) }
     }
 
     fn rest(&self, first: &[u8], second: &[u8], count: usize) -> u64 {
-        let Some(rest) = self.rest else {
-            return packed::rest(first, second, count);
-        };
         let (first, first_length) = (first.as_ptr(), first.len());
         let (second, second_length) = (second.as_ptr(), second.len());
-        unsafe { rest(first, first_length, second, second_length, count) }
+        unsafe { (self.rest)(first, first_length, second, second_length, count) }
     }
 
     fn index_build(&self, list: &[u8], entries: &mut [u32]) -> u64 {
@@ -337,13 +371,10 @@ impl Side for Foreign {
     }
 
     fn view(&self, memory: &[u8], start: u64, image: Image, out: &mut [u8]) -> u64 {
-        let Some(view) = self.view else {
-            return packed::view(memory, start, image, out);
-        };
         let (memory, memory_length) = (memory.as_ptr(), memory.len());
         let (out, out_length) = (out.as_mut_ptr(), out.len());
         unsafe {
-            view(
+            (self.view)(
                 memory,
                 memory_length,
                 start,

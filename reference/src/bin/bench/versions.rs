@@ -3,7 +3,7 @@
 use reference::comparison::foreign::{Check, Foreign};
 use reference::comparison::mixed;
 use reference::comparison::side::{Reference, Side};
-use reference::foreign;
+use reference::{archive, plain};
 
 pub struct Version {
     pub name: &'static str,
@@ -14,135 +14,21 @@ pub struct Version {
 }
 
 /// The proved library.
-static LIBRARY: Foreign = Foreign {
-    index_ask: Some(lanyardrove_index_ask),
-    translate: Some(lanyardrove_translate),
-    view: Some(lanyardrove_view),
-    repair_afresh: Some(lanyardrove_repair_afresh),
-    compare: Some(lanyardrove_compare),
-    rest: Some(lanyardrove_rest),
-    ..foreign!(
-        lanyardrove_check,
-        lanyardrove_repair,
-        lanyardrove_draw,
-        lanyardrove_stream_feed,
-        lanyardrove_stream_close
-    )
-};
+static LIBRARY: Foreign = archive!();
 
-/// The plain C version.
+/// The plain C version. Its question walks the list and reads no entry.
 static PLAIN: Foreign = Foreign {
     index_ask: Some(plain_index_ask),
-    translate: Some(plain_translate),
-    view: Some(plain_view),
-    repair_afresh: Some(plain_repair_afresh),
-    compare: Some(plain_compare),
-    rest: Some(plain_rest),
-    ..foreign!(
-        plain_check,
-        plain_repair,
-        plain_draw,
-        plain_stream_feed,
-        plain_stream_close
-    )
+    ..plain!()
 };
 
 extern "C" {
-    fn lanyardrove_index_ask(
-        list: *const u8,
-        list_length: usize,
-        entries: *const u32,
-        count: usize,
-        place: u32,
-    ) -> u64;
     fn plain_index_ask(
         list: *const u8,
         list_length: usize,
         entries: *const u32,
         count: usize,
         place: u32,
-    ) -> u64;
-    fn lanyardrove_compare(
-        first: *const u8,
-        first_length: usize,
-        second: *const u8,
-        second_length: usize,
-        entries: *mut u32,
-        count: usize,
-    ) -> u64;
-    fn lanyardrove_rest(
-        first: *const u8,
-        first_length: usize,
-        second: *const u8,
-        second_length: usize,
-        count: usize,
-    ) -> u64;
-    fn plain_compare(
-        first: *const u8,
-        first_length: usize,
-        second: *const u8,
-        second_length: usize,
-        entries: *mut u32,
-        count: usize,
-    ) -> u64;
-    fn plain_rest(
-        first: *const u8,
-        first_length: usize,
-        second: *const u8,
-        second_length: usize,
-        count: usize,
-    ) -> u64;
-    fn lanyardrove_repair_afresh(
-        list: *const u8,
-        list_length: usize,
-        work: *mut u8,
-        work_length: usize,
-        out: *mut u8,
-        out_length: usize,
-    ) -> u64;
-    fn plain_repair_afresh(
-        list: *const u8,
-        list_length: usize,
-        work: *mut u8,
-        work_length: usize,
-        out: *mut u8,
-        out_length: usize,
-    ) -> u64;
-    fn lanyardrove_translate(
-        memory: *const u8,
-        memory_length: usize,
-        start: u32,
-        out: *mut u8,
-        out_length: usize,
-    ) -> u64;
-    fn plain_translate(
-        memory: *const u8,
-        memory_length: usize,
-        start: u32,
-        out: *mut u8,
-        out_length: usize,
-    ) -> u64;
-    fn lanyardrove_view(
-        memory: *const u8,
-        memory_length: usize,
-        start: u64,
-        address: u64,
-        width: u32,
-        height: u32,
-        size: u32,
-        out: *mut u8,
-        out_length: usize,
-    ) -> u64;
-    fn plain_view(
-        memory: *const u8,
-        memory_length: usize,
-        start: u64,
-        address: u64,
-        width: u32,
-        height: u32,
-        size: u32,
-        out: *mut u8,
-        out_length: usize,
     ) -> u64;
     fn lanyardrove_bench_registers(list: *const u8, list_length: usize) -> u64;
     fn plain_registers(list: *const u8, list_length: usize) -> u64;
