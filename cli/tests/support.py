@@ -1,5 +1,6 @@
 """What the tests share: the tool, document 01's lists, files and pictures. run.py names the tool and runs each test in a folder of its own."""
 import os
+import pty
 import struct
 import subprocess
 import sys
@@ -39,6 +40,16 @@ def run(*arguments, stdin=b"", **more):
     """Exit status, output and errors of the tool."""
     done = subprocess.run([TOOL, *arguments], input=stdin, capture_output=True, timeout=60, **more)
     return done.returncode, done.stdout.decode(), done.stderr.decode()
+
+
+def refuses_a_terminal(*arguments):
+    """A list is bytes: where standard output is a terminal, the tool writes none."""
+    terminal, end = pty.openpty()
+    done = subprocess.run([TOOL, *arguments], stdout=end, stderr=subprocess.PIPE, timeout=60)
+    os.close(end)
+    os.close(terminal)
+    same(done.returncode, 2)
+    assert b"standard output is a terminal: give -o OUT" in done.stderr, done.stderr
 
 
 def arriving(arguments, *portions):

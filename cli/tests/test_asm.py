@@ -1,12 +1,11 @@
 """lanyardrove asm, and the text that dump --asm prints for it."""
 import os
-import pty
 import random
 import re
 import subprocess
 
 from rules import NAMES, commands_of, fields_of, random_command, vectors, words_of
-from support import C, FULL, R, S, TOOL, example, files, read, run, same, test, words, write
+from support import C, FULL, R, S, TOOL, example, files, read, refuses_a_terminal, run, same, test, words, write
 
 MNEMONICS = [f"unassigned_{number:02x}" if name == "Unassigned" else re.sub(r"[()]", "", name).replace(" ", "_").lower() for number, name in enumerate(NAMES)]
 
@@ -217,13 +216,8 @@ def an_output_is_written_whole_or_not_at_all():
 
 @test
 def a_list_does_not_reach_a_terminal():
-    terminal, end = pty.openpty()
     write("list.asm", b"sync_full")
-    done = subprocess.run([TOOL, "asm", "list.asm"], stdout=end, stderr=subprocess.PIPE)
-    os.close(end)
-    os.close(terminal)
-    same(done.returncode, 2)
-    assert b"standard output is a terminal: give -o OUT" in done.stderr, done.stderr
+    refuses_a_terminal("asm", "list.asm")
 
 
 @test

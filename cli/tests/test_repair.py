@@ -1,12 +1,11 @@
 """lanyardrove repair."""
 import os
-import pty
 import random
 import re
 import subprocess
 
 from rules import NAMES, commands_of, cycles_of, words_of
-from support import BLOCK, C, FULL, L, LOAD, N, ONE_CYCLE, PIPE, R, S, SET_TILE, TILE, TOOL, chosen, example, files, inserted, read, run, same, test, words, write
+from support import BLOCK, C, FULL, L, LOAD, N, ONE_CYCLE, PIPE, R, S, SET_TILE, TILE, TOOL, chosen, example, files, inserted, read, refuses_a_terminal, run, same, test, words, write
 
 
 @test
@@ -74,12 +73,7 @@ def repair_to_standard_output():
 
 @test
 def repair_writes_no_list_to_a_terminal():
-    terminal, end = pty.openpty()
-    done = subprocess.run([TOOL, "repair", example("j.rdp")], stdout=end, stderr=subprocess.PIPE)
-    os.close(end)
-    os.close(terminal)
-    same(done.returncode, 2)
-    assert b"standard output is a terminal: give -o OUT" in done.stderr, done.stderr
+    refuses_a_terminal("repair", example("j.rdp"))
 
 
 @test
