@@ -12,7 +12,7 @@ use lib.Seq.{drop-cons}
 use Rattle.rdp_words.specs.Words.{wordAt, numberIn}
 use Rattle.rdp_words.specs.Kinds.{isAmong, wordsOf}
 use Rattle.rdp_command.specs.Reads.{headOf}
-use Rattle.rdp_hazards.specs.Hazards.{nextOf, requiredOf, entryOf}
+use Rattle.rdp_hazards.specs.Hazards.{nextOf, entryOf}
 use Rattle.rdp_check.specs.Commands.{commandsFrom, restFrom}
 use Rattle.rdp_check.specs.View.{viewAfter, refusalWith, viewRefusal, Watches, stopAt, settleView, judgeView, judgedView}
 use Rattle.rdp_command.specs.declared.Head.{Head}
@@ -41,17 +41,15 @@ pub first :
     Walked strict list words (judgedView strict v 0 list) v 0
 first strict list words v low whole few = record { low = low; whole = whole; few = few; within = omega arith; same = refl }
 
-no-required : (b : Bool) → _≡_ {A = ℕ} (cond b 0 0) 0
-no-required true = refl
-no-required false = refl
+-- below the bound no sync counts as missing
+none-counts : (strict : Bool) (e : ℕ) → e < cond strict 16 0xFF → _≡_ {A = ℕ} (cond strict (e / 32) 0) 0
+none-counts true e h = omega arith
+none-counts false e h = refl
 
 and-not : (a b : Bool) → a && not b ≡ true → (a ≡ true) × (b ≡ false)
 and-not true false e = (refl, refl)
 and-not true true e = absurd (false≢true e)
 and-not false b e = absurd (false≢true e)
-
-div-of-lt : (e : ℕ) → e < 32 → e / 32 ≡ 0
-div-of-lt e h = omega arith
 
 settled : (g at : ℕ) (v : View) (next : Stop) → (g ≡ 0 → ⊥) → stopAt g at v ≡ settleView g at v next
 settled zero at v next ne = absurd (ne refl)
@@ -112,12 +110,12 @@ module _ {strict : Bool} {list : List ℕ} {words : ℕ} {goal : Stop} {v : View
                 w .same;
           }
 
--- a turn at a command that is not watched and whose entry e in the table says that it misses no sync
+-- a turn at a command that is not watched and whose entry e in the table says that it misses no sync that counts
 pub record Quick {strict : Bool} {list : List ℕ} {words : ℕ} {goal : Stop} {v : View} {at : ℕ} (w : Walked strict list words goal v at) (h : Head) (e : ℕ) : Type 0 where
   pub more : at < words
   pub is-h : h ≡ headOf (wordAt list at)
   pub is-e : e ≡ entryOf (v .hazards) (h .number)
-  pub low : e < 16
+  pub clear : _≡_ {A = ℕ} (cond strict (e / 32) 0) 0
   pub still : Unwatched (v .rest) (h .number)
 
 number-is : (h : Head) (w : ℕ) → h ≡ headOf w → h .number ≡ numberIn w
@@ -129,14 +127,15 @@ small h w is-h = rw (number-is h w is-h) (number-small w)
 module _ {strict : Bool} {list : List ℕ} {words : ℕ} {goal : Stop} {v : View} {at : ℕ} where
   pub turn :
       (w : Walked strict list words goal v at) (numbers : ℕ) → Watches numbers (v .rest) → at < words → (h : Head) → h ≡ headOf (wordAt list at) → (e : ℕ) →
-      e ≡ entryOf (v .hazards) (h .number) → (b : Bool) → b ≡ isAmong numbers (h .number) → ltb e 16 && not b ≡ true → Quick w h e
-  turn w numbers watches more h is-h e is-e b is-b t =
-      let k = and-not (ltb e 16) b t in
+      e ≡ entryOf (v .hazards) (h .number) → (b : Bool) → b ≡ isAmong numbers (h .number) → (bound : ℕ) → bound ≡ cond strict 16 0xFF →
+      ltb e bound && not b ≡ true → Quick w h e
+  turn w numbers watches more h is-h e is-e b is-b bound is-bound t =
+      let k = and-not (ltb e bound) b t in
       record {
         more = more;
         is-h = is-h;
         is-e = is-e;
-        low = ltb-true e 16 (k .0);
+        clear = none-counts strict e (rw is-bound at (ltb-true e bound (k .0)));
         still = unwatched (v .rest) (h .number) (sym (watches (h .number) (small h _ is-h)) ∙ sym is-b ∙ k .1);
       }
 
@@ -147,12 +146,11 @@ module _ {strict : Bool} {list : List ℕ} {words : ℕ} {goal : Stop} {v : View
     unrefused : 0 ≡ viewRefusal strict v (h .number)
     unfolding refusalWith
     unrefused =
-        let none : requiredOf (v .hazards) (h .number) ≡ 0 = sym (parts .required) ∙ div-of-lt e (omega (arith, q .low)) in
-        rw (q .still .before-end, q .still .fits, none, no-required strict)
+        rw (q .still .before-end, q .still .fits, ← parts .required, q .clear)
 
     -- the hazards stay where the entry is no other
     pub stays : e ≡ v .hazards → v .hazards ≡ nextOf (v .hazards) (h .number)
-    stays same = sym same ∙ sym (mod-eq-of-lt (q .low)) ∙ parts .next
+    stays same = sym same ∙ sym (mod-eq-of-lt (rw same (w .low))) ∙ parts .next
 
     module _ {next : ℕ} (is-next : next ≡ nextOf (v .hazards) (h .number)) where
       pub quick : (count : ℕ) → count ≡ wordsOf (h .number) → count ≤ words - at → Walked strict list words goal (record { hazards = next; rest = v .rest }) (at + count)

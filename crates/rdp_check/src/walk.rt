@@ -158,6 +158,16 @@ fn required_if(strict: bool, required: u8) -> u8
     0
 }
 
+// What the entry of a command in the table is below where no sync counts as missing: all are where the walk is not strict.
+fn clear_below(strict: bool) -> u8
+    ensures { λ r. ⌜ r ≡ cond strict 16 0xFF ⌝ }
+{
+    if strict {
+        return 16;
+    }
+    0xFF
+}
+
 // 19 of an unassigned number; the refusal of a command as a draw; or 0.
 fn own_refusal(rest: Rest, number: u8) -> u8
     requires { ⌜ number < 64 ⌝ }
@@ -215,12 +225,13 @@ fn walk(table: &[u8; 1024], list: &[u8], words: usize, view: View, strict: bool)
     let mut hazards = view.hazards;
     let mut rest = view.rest;
     let mut watched = watched_of(rest);
+    let clear = clear_below(strict);
     let mut at: usize = 0;
     while at < words {
         let head = rdp_command::head_at(list, at);
         let number = head.number;
         let e = hazards::entry(table, hazards, number);
-        if (e < 16) & !rdp_words::is_among(watched, number) {
+        if (e < clear) & !rdp_words::is_among(watched, number) {
             if !rdp_words::is_among(rdp_words::LONG, number) {
                 at += 1;
                 if e == hazards {

@@ -12,23 +12,26 @@ use Rattle.rdp_check.proofs.walk.walk.Statement.{statement}
 use Rattle.rdp_check.proofs.walk.walk.Tie as tie
 
 abbrev Inv-loop : tie.InvT-loop
-Inv-loop table list words strict hazards₀ rest₀ watched₀ at₀ hazards rest watched at =
+Inv-loop table list words strict hazards₀ rest₀ watched₀ clear at₀ hazards rest watched at =
     Walked strict list words (judgedView strict (record { hazards = hazards₀; rest = rest₀ }) 0 list) (record { hazards = hazards; rest = rest }) at × Watches watched rest
 
 abbrev μ-loop : tie.MeasureT-loop
-μ-loop table list words strict hazards₀ rest₀ watched₀ at₀ hazards rest watched at = words - at
+μ-loop table list words strict hazards₀ rest₀ watched₀ clear at₀ hazards rest watched at = words - at
 
 watched-of-requires : tie.Need-watched-of-requires Inv-loop μ-loop
 watched-of-requires c κs = search needs
 
+clear-below-requires : tie.Need-clear-below-requires Inv-loop μ-loop
+clear-below-requires c κs = search needs
+
 loop-holds : tie.Need-loop-holds Inv-loop μ-loop
-loop-holds c = let p = c .before .before .before .pre in (first _ _ _ _ (p .1 .1 .1) (p .1 .0) (p .1 .1 .0), c .watched-of .ensures)
+loop-holds c = let p = c .before .before .before .before .pre in (first _ _ _ _ (p .1 .1 .1) (p .1 .0) (p .1 .1 .0), c .before .watched-of .ensures)
 
 head-at-requires : tie.Need-head-at-requires Inv-loop μ-loop
 head-at-requires c κs = search needs
 
 entry-requires : tie.Need-entry-requires Inv-loop μ-loop
-entry-requires c κs = (c .before .before .before .before .before .before .pre .0, (c .before .before .loop .inv .0 .low, rw (c .head-at .ensures) (number-small _)))
+entry-requires c κs = (c .before .before .before .before .before .before .before .pre .0, (c .before .before .loop .inv .0 .low, rw (c .head-at .ensures) (number-small _)))
 
 is-among-requires : tie.Need-is-among-requires Inv-loop μ-loop
 is-among-requires c κs = search needs
@@ -47,9 +50,9 @@ loop-again c =
     let t = c .before .before .before in
     let l = t .before .before .before .before .before .loop in
     let h = t .before .before .before in
-    let agree = h .before .before .before .before .before .before .pre .0 in
+    let agree = h .before .before .before .before .before .before .before .pre .0 in
     let small : h .head-at .result .number < 64 = rw (h .head-at .ensures) (number-small _) in
-    let q = turn (l .inv .0) _ (l .inv .1) (h .before .loop-test .taken) _ (h .head-at .ensures) _ (t .before .before .entry .ensures) _ (t .before .is-among .ensures) (t .if1 .taken) in
+    let q = turn (l .inv .0) _ (l .inv .1) (h .before .loop-test .taken) _ (h .head-at .ensures) _ (t .before .before .entry .ensures) _ (t .before .is-among .ensures) _ (h .before .before .before .clear-below .ensures) (t .if1 .taken) in
     (quick-one q (stays q (c .if3 .taken)) _ (c .before .before .is-among2 .ensures) (c .before .if2 .taken), l .inv .1)
 
 next-requires : tie.Need-next-requires Inv-loop μ-loop
@@ -63,9 +66,9 @@ loop-again-2 c =
     let t = c .before .before .before .before in
     let l = t .before .before .before .before .before .loop in
     let h = t .before .before .before in
-    let agree = h .before .before .before .before .before .before .pre .0 in
+    let agree = h .before .before .before .before .before .before .before .pre .0 in
     let small : h .head-at .result .number < 64 = rw (h .head-at .ensures) (number-small _) in
-    let q = turn (l .inv .0) _ (l .inv .1) (h .before .loop-test .taken) _ (h .head-at .ensures) _ (t .before .before .entry .ensures) _ (t .before .is-among .ensures) (t .if1 .taken) in
+    let q = turn (l .inv .0) _ (l .inv .1) (h .before .loop-test .taken) _ (h .head-at .ensures) _ (t .before .before .entry .ensures) _ (t .before .is-among .ensures) _ (h .before .before .before .clear-below .ensures) (t .if1 .taken) in
     (quick-one q (c .next .ensures ∙ next-read _ agree _ _ (l .inv .0 .low) small) _ (c .before .before .before .is-among2 .ensures) (c .before .before .if2 .taken), l .inv .1)
 
 words-of-requires : tie.Need-words-of-requires Inv-loop μ-loop
@@ -99,9 +102,9 @@ loop-again-3 c =
     let t = c .before .before .before .before .before in
     let l = t .before .before .before .before .before .loop in
     let h = t .before .before .before in
-    let agree = h .before .before .before .before .before .before .pre .0 in
+    let agree = h .before .before .before .before .before .before .before .pre .0 in
     let small : h .head-at .result .number < 64 = rw (h .head-at .ensures) (number-small _) in
-    let q = turn (l .inv .0) _ (l .inv .1) (h .before .loop-test .taken) _ (h .head-at .ensures) _ (t .before .before .entry .ensures) _ (t .before .is-among .ensures) (t .if1 .taken) in
+    let q = turn (l .inv .0) _ (l .inv .1) (h .before .loop-test .taken) _ (h .head-at .ensures) _ (t .before .before .entry .ensures) _ (t .before .is-among .ensures) _ (h .before .before .before .clear-below .ensures) (t .if1 .taken) in
     (quick q (c .next2 .ensures ∙ next-read _ agree _ _ (l .inv .0 .low) small) _ (c .before .before .words-of .ensures) (c .before .if4 .left), l .inv .1)
 
 advance-requires : tie.Need-advance-requires Inv-loop μ-loop
@@ -165,6 +168,7 @@ walk-spec =
     Inv-loop
     μ-loop
     watched-of-requires
+    clear-below-requires
     loop-holds
     head-at-requires
     entry-requires
