@@ -17,9 +17,9 @@
  * Answers. Each function but lanyardrove_version and lanyardrove_words answers one 64-bit number, whose parts
  * lanyardrove_number, lanyardrove_place and lanyardrove_third give (or by their meaning _cause, _cycles, _command,
  * _commands_read, _list, _hazards, _required, _hazards_before, _index_read). Number 0 says that all went well; any other is
- * the first refusal that holds: 1 and 2 of the list, then command by command 3, 4, 19, 5, 6 and 7 to 9, then those that the
- * function adds, in the order of its description. A refusal leaves every byte as it was, but for the repair's work buffer at
- * 14 and a stream's record, which remembers it.
+ * the first refusal that holds, in this order unless the function's description gives another: 1 and 2 of the list, then
+ * command by command 3, 4, 19, 5, 6 and 7 to 9, then those that the function adds. A refusal leaves every byte as it was, but
+ * for the repair's work buffer at 14 and a stream's record, which remembers it.
  */
 #ifndef LANYARDROVE_H
 #define LANYARDROVE_H
@@ -42,10 +42,11 @@ uint32_t lanyardrove_version(void);
 
 /* The number of an answer, with the place that it has. */
 enum lanyardrove_ground {
-    LANYARDROVE_ACCEPTED = 0,           /* Accepted; the place is the words of the list, or what was written. */
+    LANYARDROVE_ACCEPTED = 0,           /* Accepted; the place is the words of the list, or what the function says. */
     LANYARDROVE_TOO_LONG = 1,           /* The list is over 32,768 bytes (repair: 16,384); place 4,096 (repair: 2,048). */
     LANYARDROVE_NOT_WORDS = 2,          /* The byte length is no multiple of 8; place length / 8, rounded down. */
-    LANYARDROVE_PAST_END = 3,           /* A command runs past the end of the list; place its first word. */
+    LANYARDROVE_PAST_END = 3,           /* A command runs past the end of the list; place its first word. Decoding: place 0.
+                                           Index: a command that a question reads, or a new one, is cut; the place asked. */
     LANYARDROVE_AFTER_SYNC_FULL = 4,    /* A command stands after a Sync Full; place its first word. */
     LANYARDROVE_NOT_SET = 5,            /* A draw with modes, colour image or scissor not set in this list; the same place. */
     LANYARDROVE_FILL_ON_FOUR_BITS = 6,  /* A draw in FILL mode on a 4-bit image, which crashes a console; the same place. */
@@ -81,7 +82,8 @@ enum lanyardrove_ground {
                                            are none of 0 to 15; the place asked. */
     LANYARDROVE_NOT_VIEWABLE = 27,      /* Viewing: the width or the height is 0 or above 1,024, or the size is none of 1 to 3;
                                            place 0. */
-    LANYARDROVE_RECORD_DAMAGED = 28     /* Stream: the record is none that feeding and closing leave; place 0. */
+    LANYARDROVE_RECORD_DAMAGED = 28     /* Stream: the record is damaged, for a reason that lanyardrove_stream_feed lists;
+                                           place 0. */
 };
 
 /* The parts of an answer: bits 63:56, 31:0 and 55:32. */
@@ -105,7 +107,8 @@ static inline uint32_t lanyardrove_required(uint64_t stepped) { return lanyardro
 static inline uint32_t lanyardrove_hazards_before(uint64_t asked) { return lanyardrove_third(asked) % 16; }
 static inline uint32_t lanyardrove_index_read(uint64_t asked) { return lanyardrove_third(asked) / 16; }
 
-/* The check of a list: 0 at the number of its words, or the first of refusals 1 to 9 and 19. The list is read only.
+/* The check of a list: 0 at the number of its words, or the first of refusals 1 to 9 and 19, in the order above. The list is
+   read only.
    The third number is the cause. At 7, 8 and 9 it is the place of the command that the missing sync has to wait for, the
    latest of its kind before the refused one: for a refused draw a load, for a load a draw, for a Set Tile a textured draw
    (a triangle with texture, a texture rectangle) or a load, for a command that sets an attribute a draw.
@@ -122,8 +125,10 @@ struct lanyardrove_stream {
 };
 
 /* Takes the next portion of a list into its record. Portions are cut anywhere, also inside a word, and may be empty.
-   A command is judged when its last byte is in. Answers 0, the words of the commands accepted so far as the place; or the
-   first refusal, which the record remembers: 4 to 9 and 19 as in the check, and 1 at 4,096 where a byte comes after 32,768.
+   A command is judged when its last byte is in. Answers 0, the words of the commands accepted so far as the place; or 28, as
+   below; or the refusal that the record remembers; or the first refusal of what comes in, which the record remembers from then
+   on: at each command that becomes complete 4, 19, 5, 6 and 7 to 9 in this order, as in the check, and 1 at 4,096 where a byte
+   comes after 32,768.
    At 1 all else in the record is as after byte 32,768, at the others as before the refused command's first byte; further bytes
    of the portion are not looked at. Calls after a refusal repeat it and change nothing.
    The third number, lanyardrove_cycles, is the cycles that the accepted commands' syncs have waited, all since the record was
@@ -176,9 +181,9 @@ uint64_t lanyardrove_index_build(const uint8_t *list, size_t list_length, uint32
 /* The hazards before the command at a place, from an index: lend it the entries that building has written, count being twice
    their number. It starts at the last entry whose place is not beyond the one asked, and reads at most 64 commands, the one
    asked included, none that starts past it or outside the list.
-   Answers 0 with lanyardrove_hazards_before and lanyardrove_index_read, the number of commands read; or 1 and 2 of the list; 26
-   where there is no such entry or its hazards are above 15; 3 where a command that is read is cut; 24 where none that is read
-   starts at the place. The place is the one asked, but at 1 and 2.
+   Answers 0 with lanyardrove_hazards_before and lanyardrove_index_read, the number of commands read; or, in this order, 1 and 2
+   of the list; 26 where there is no such entry or its hazards are above 15; 3 where a command that is read is cut; 24 where none
+   that is read starts at the place. The place is the one asked, but at 1 and 2.
    With the entries of this list the answer is 0 at the place of every command, and the hazards are those of the walk from the
    first one. Whatever the entries are, the answer is as described. */
 uint64_t lanyardrove_index_ask(const uint8_t *list, size_t list_length, const uint32_t *entries, size_t count, uint32_t place);
@@ -187,9 +192,10 @@ uint64_t lanyardrove_index_ask(const uint8_t *list, size_t list_length, const ui
    Of the list only that command's bytes change. Entry 0 to the command's own, whose number is that of the commands before it
    divided by 64, are not touched, nor are numbers beyond the entries; the later ones become those that building gives of the
    new list, whatever they were. So an index of the list becomes the index of the new list.
-   Answers 0 at the place; or refuses as building does, at its places; then as the question does; then by 24 where no command
-   of the list starts at the place, also where the entries, of another list, say otherwise; 3 where the new command is cut; 25
-   where it has not as many words as the old one; all at the place asked. Bytes after the new command are not read.
+   Answers 0 at the place; or refuses, in this order, as building does, at its places; as the question does; by 24 where no
+   command of the list starts at the place, also where the entries, of another list, say otherwise; by 3 where the new command is
+   cut; by 25 where it has not as many words as the old one; all but building's at the place asked. Bytes after the new command
+   are not read.
    A refusal leaves the list and the entries as they were. The check is not asked: see what it says of the new list. */
 uint64_t lanyardrove_index_replace(uint8_t *list, size_t list_length, uint32_t *entries, size_t count, uint32_t place,
                                    const uint8_t *command, size_t command_length);
@@ -200,7 +206,7 @@ uint64_t lanyardrove_index_replace(uint8_t *list, size_t list_length, uint32_t *
    are what it repairs), then 13 at the number of commands, then 14 at the words needed.
    work: 16 bytes for each command of the list; a command has at least one word, so 2 * list_length bytes always suffice.
    out:  at most one sync is put before a command, so 2 * list_length bytes always suffice. None is put before the first
-         four commands, so n words come out as at most 2 * n - 4 (as n, below four): 4,092 words for the longest list.
+         command, so n words come out as at most 2 * n - 1, and none as none.
          To learn the words needed, lend an out of length 0 and read the place of 14.
    At 0 and at 14 the first 16 bytes a command of work are left zero, and its rest as received. Every other refusal leaves
    both buffers as received. Bytes of out beyond the words written are not touched. */
@@ -273,9 +279,11 @@ uint64_t lanyardrove_view(const uint8_t *memory, size_t memory_length, uint64_t 
    LANYARDROVE_SUFFIX_BIT that of the words after a triangle's first four, as one field. They are all zero where the numbers
    of the commands differ.
    Answers 0 at the numbers written; or the first of refusals 1, 2 and 3 of the first list, then of the second, each at the
-   place that the check gives it; then 14 at the numbers needed. The third number is 0. No other refusal is looked at: a list
-   that the check refuses by 4 and up is compared too. Both lists are read only, and may be the same bytes.
-   entries: count is its length in numbers; 4 for each command of the shorter list always suffice. */
+   place that the check gives it; then 14 at the numbers needed. So 3 of the first list comes before 1 and 2 of the second. The
+   third number is 0. No other refusal is looked at: a list that the check refuses by 4 and up is compared too. Both lists are
+   read only, and may be the same bytes.
+   entries: count is its length in numbers; 4 for each command of the shorter list always suffice. A refusal leaves every number
+   as it was, and numbers beyond those written are not touched. */
 uint64_t lanyardrove_compare(const uint8_t *first, size_t first_length,
                              const uint8_t *second, size_t second_length,
                              uint32_t *entries, size_t count);
