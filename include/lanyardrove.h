@@ -48,8 +48,8 @@ enum lanyardrove_ground {
     LANYARDROVE_PAST_END = 3,           /* A command runs past the end of the list; place its first word. Decoding: place 0.
                                            Index: a command that a question reads, or a new one, is cut; the place asked. */
     LANYARDROVE_AFTER_SYNC_FULL = 4,    /* A command stands after a Sync Full; place its first word. */
-    LANYARDROVE_NOT_SET = 5,            /* A draw with modes, colour image or scissor not set in this list; the same place. */
-    LANYARDROVE_FILL_ON_FOUR_BITS = 6,  /* A draw in FILL mode on a 4-bit image, which crashes a console; the same place. */
+    LANYARDROVE_NOT_SET = 5,            /* A draw with modes, colour image or scissor not set in this list; its first word. */
+    LANYARDROVE_FILL_ON_FOUR_BITS = 6,  /* A draw in FILL mode on a 4-bit image, which crashes a console; its first word. */
     LANYARDROVE_SYNC_LOAD_MISSING = 7,  /* A Sync Load is missing before the command at the place. */
     LANYARDROVE_SYNC_TILE_MISSING = 8,  /* A Sync Tile is missing before the command at the place. */
     LANYARDROVE_SYNC_PIPE_MISSING = 9,  /* A Sync Pipe is missing before the command at the place. */
@@ -63,8 +63,8 @@ enum lanyardrove_ground {
     LANYARDROVE_NOT_ENCODABLE = 15,     /* Encoding: a field exceeds its bits, the number is none of 0 to 63, or the fields or
                                            suffix bytes are not as many as are due; place 0. */
     LANYARDROVE_TEXTURE_LENGTH = 16,    /* Drawing: the texture memory is not 4,096 bytes long; place 0. */
-    LANYARDROVE_NOT_COPYABLE = 17,      /* Drawing: a load or COPY rectangle that is none of those described below; place its
-                                           first word. */
+    LANYARDROVE_NOT_COPYABLE = 17,      /* Drawing: a load or COPY rectangle that is none of those that lanyardrove_draw
+                                           describes; place its first word. */
     LANYARDROVE_OUTSIDE_TEXTURE = 18,   /* Drawing: a byte loaded to, or read for a kept pixel, is outside the texture memory;
                                            the draw's or load's first word. */
     LANYARDROVE_UNASSIGNED = 19,        /* A number that no command has (0x01-0x07, 0x10-0x23, 0x31); place its word. */
@@ -92,7 +92,8 @@ static inline uint32_t lanyardrove_place(uint64_t answer) { return (uint32_t)ans
 static inline uint32_t lanyardrove_third(uint64_t answer) { return (uint32_t)(answer >> 32) & 0xFFFFFFu; }
 
 /* The third number by its meaning: the cause that the check gives; the cycles, of a repair those that it inserted, of a repair
-   afresh all that the written list waits, of a stream those that its syncs have waited; the number of a decoded command; the display list commands that translating has read.
+   afresh all that the written list waits, of a stream those that its syncs have waited; the number of a decoded command; the
+   display list commands that translating has read.
    Those of a repair and of decoding are 0 at a refusal. In the answers of drawing, viewing and encoding the third number is 0.
    Of a step's answer the place is the hazards after it, and the third number's low two bits are the sync required. Of the
    answer of a question to an index the third number has the hazards, and above them the commands read; both are 0 at a
@@ -139,7 +140,8 @@ struct lanyardrove_stream {
    are below 0 or no multiple of 8, the remembered number is none that these calls give (0 to 9 and 19), or the cycles are above
    204,800. From a fresh record they never are; where a record was set otherwise, a call may lead above, and the next one is
    refused. */
-uint64_t lanyardrove_stream_feed(struct lanyardrove_stream *stream, const uint8_t *portion, size_t portion_length);
+uint64_t lanyardrove_stream_feed(struct lanyardrove_stream *stream,
+                                 const uint8_t *portion, size_t portion_length);
 
 /* Closes a list after its last portion: 28 as above, then the remembered refusal; 2 at the whole words taken where the bytes
    taken are no multiple of 8; 3 at its first word where a command is not complete; else 0 at the words of the list.
@@ -176,7 +178,8 @@ uint64_t lanyardrove_step(uint32_t hazards, uint32_t number);
    Answers 0 and the entries written as the place (half as many as numbers); or 1, 2 and 3 of the list, at the places that the
    check gives, then 14 at the entries needed. Numbers beyond the entries are not touched.
    To learn the entries needed, lend a count of 0. An index of one list says nothing about another. */
-uint64_t lanyardrove_index_build(const uint8_t *list, size_t list_length, uint32_t *entries, size_t count);
+uint64_t lanyardrove_index_build(const uint8_t *list, size_t list_length,
+                                 uint32_t *entries, size_t count);
 
 /* The hazards before the command at a place, from an index: lend it the entries that building has written, count being twice
    their number. It starts at the last entry whose place is not beyond the one asked, and reads at most 64 commands, the one
@@ -186,7 +189,8 @@ uint64_t lanyardrove_index_build(const uint8_t *list, size_t list_length, uint32
    that is read starts at the place. The place is the one asked, but at 1 and 2.
    With the entries of this list the answer is 0 at the place of every command, and the hazards are those of the walk from the
    first one. Whatever the entries are, the answer is as described. */
-uint64_t lanyardrove_index_ask(const uint8_t *list, size_t list_length, const uint32_t *entries, size_t count, uint32_t place);
+uint64_t lanyardrove_index_ask(const uint8_t *list, size_t list_length,
+                               const uint32_t *entries, size_t count, uint32_t place);
 
 /* Replaces the command at a place by the first command of other bytes, which has as many words, in the list and in its index.
    Of the list only that command's bytes change. Entry 0 to the command's own, whose number is that of the commands before it
@@ -197,7 +201,8 @@ uint64_t lanyardrove_index_ask(const uint8_t *list, size_t list_length, const ui
    cut; by 25 where it has not as many words as the old one; all but building's at the place asked. Bytes after the new command
    are not read.
    A refusal leaves the list and the entries as they were. The check is not asked: see what it says of the new list. */
-uint64_t lanyardrove_index_replace(uint8_t *list, size_t list_length, uint32_t *entries, size_t count, uint32_t place,
+uint64_t lanyardrove_index_replace(uint8_t *list, size_t list_length,
+                                   uint32_t *entries, size_t count, uint32_t place,
                                    const uint8_t *command, size_t command_length);
 
 /* The repair of a list: writes it to the front of out with the Sync Load, Sync Tile and Sync Pipe words inserted that it
@@ -205,9 +210,9 @@ uint64_t lanyardrove_index_replace(uint8_t *list, size_t list_length, uint32_t *
    Answers 0, the words written as the place and the cycles inserted; or the first of refusals 1 to 6 and 19 of the list (7 to 9
    are what it repairs), then 13 at the number of commands, then 14 at the words needed.
    work: 16 bytes for each command of the list; a command has at least one word, so 2 * list_length bytes always suffice.
-   out:  at most one sync is put before a command, so 2 * list_length bytes always suffice. None is put before the first
-         command, so n words come out as at most 2 * n - 1, and none as none.
-         To learn the words needed, lend an out of length 0 and read the place of 14.
+   out: at most one sync is put before a command, so 2 * list_length bytes always suffice. None is put before the first
+   command, so n words come out as at most 2 * n - 1, and none as none.
+   To learn the words needed, lend an out of length 0 and read the place of 14.
    At 0 and at 14 the first 16 bytes a command of work are left zero, and its rest as received. Every other refusal leaves
    both buffers as received. Bytes of out beyond the words written are not touched. */
 uint64_t lanyardrove_repair(const uint8_t *list, size_t list_length,
@@ -230,9 +235,10 @@ uint64_t lanyardrove_repair_afresh(const uint8_t *list, size_t list_length,
 #define LANYARDROVE_TEXTURE_BYTES 4096
 
 /* Draws a list into memory: its Fill Rectangles in FILL mode, its Load Tiles and Load Blocks, and its Texture Rectangles (0x24)
-   in COPY mode, in the list's order. memory[i] is the byte at address start + i of the console's memory, which the colour image's and the
-   texture image's address count in. start is any number, and no sum of it wraps. Texture memory is LANYARDROVE_TEXTURE_BYTES
-   bytes, which a load writes and a copy reads; what it holds at first is the caller's, and what it holds at last stays there.
+   in COPY mode, in the list's order. memory[i] is the byte at address start + i of the console's memory, which the colour
+   image's and the texture image's address count in. start is any number, and no sum of it wraps. Texture memory is
+   LANYARDROVE_TEXTURE_BYTES bytes, which a load writes and a copy reads; what it holds at first is the caller's, and what it
+   holds at last stays there.
    Answers 0 at the words of the list; or the first refusal of the check (1 to 9 and 19), then 16 at 0, then the first along
    the draws and loads: at a draw 10, 11, 17, 12, 18 in this order, at a load 17, 12, 18. 12 is asked of all bytes of a command
    before 18 is of any.
@@ -242,13 +248,14 @@ uint64_t lanyardrove_repair_afresh(const uint8_t *list, size_t list_length,
    Load Block takes s and t as whole texels: from upper left s in row upper left t, lower right s - upper left s + 1 texels, on
    past the image's width too; texel k to byte 8 * tmem + 2 * k, with bit 2 turned over where k / 4 * dxt / 2048 is odd, each
    quotient rounded down. Just these texels are loaded. It leaves its fields as the tile's size as they are, dxt as lower right t.
-   A copied pixel (x, y) reads the texel of row t + y - top - tile top,
-   column likewise, top being the rectangle's own first row, turned over in odd rows too; rows and columns may be negative.
-   Pixels are written row by row, each row from the left, and the later one stays.
+   A copied pixel (x, y) reads the texel of row t + y - top - tile top, column likewise, top being the rectangle's own first row,
+   turned over in odd rows too; rows and columns may be negative. Pixels are written row by row, each row from the left, and the
+   later one stays.
    17 is a Load TLUT, a Load Tile or Load Block without a texture image of 16-bit RGBA, any of these two and copy without a tile
-   descriptor (Set Tile) of 16-bit RGBA, a Load Block of no texel or of more than 2,048, and a copy onto an image not of 16 bits, with dsdx other than 0x1000 or dtdy than
-   0x0400, with s, t or the tile's upper left between texels (a size that was never set has (0, 0)), or with any of mask,
-   shift and mirror of the tile or perspective, look-up and alpha compare on; also where no pixel is kept.
+   descriptor (Set Tile) of 16-bit RGBA, a Load Block of no texel or of more than 2,048, and a copy onto an image not of 16
+   bits, with dsdx other than 0x1000 or dtdy than 0x0400, with s, t or the tile's upper left between texels (a size that was
+   never set has (0, 0)), or with any of mask, shift and mirror of the tile or perspective, look-up and alpha compare on; also
+   where no pixel is kept.
    A refusal leaves every byte of both memories as it was: nothing is drawn before all is tested. */
 uint64_t lanyardrove_draw(const uint8_t *list, size_t list_length,
                           uint8_t *memory, size_t memory_length, uint64_t start,
