@@ -94,9 +94,9 @@ static void make_lists(void) {
     memcpy(picture.bytes, out, picture.length);
     for (number = 0; number < 64; number++) /* every command twice, with other bits in all its fields */
         for (words = lanyardrove_words(number << 56), k = 0; k < words; k++) {
-            const uint64_t first = k == 0 ? number << 56 : 0, bits = k == 0 ? 0x00AAAAAAAAAAAAAAu : 0xAAAAAAAAAAAAAAAAu;
-            add(&every, first | bits);
-            add(&other, first | (bits >> 1 & (k == 0 ? 0x00FFFFFFFFFFFFFFu : ~(uint64_t)0)));
+            const uint64_t head = k == 0 ? (uint64_t)0xFF << 56 : 0, bits = 0xAAAAAAAAAAAAAAAAu;
+            add(&every, (number << 56 & head) | (bits & ~head));
+            add(&other, (number << 56 & head) | (bits >> 1 & ~head));
         }
     for (k = 0; k < 9; k++) {
         add(&display, k < 8 ? 0xDE00000000000000u | 48 * (k + 1) : 0xE700000000000000u);
@@ -182,7 +182,8 @@ static void view(void) {
 }
 
 static void compare(void) {
-    answers(lanyardrove_compare(every.bytes, every.length, other.bytes, other.length, (uint32_t *)(void *)work, sizeof work / 4), 0);
+    static uint32_t differences[4 * 64];
+    answers(lanyardrove_compare(every.bytes, every.length, other.bytes, other.length, differences, COUNT(differences)), 0);
     answers(lanyardrove_compare(every.bytes, every.length, other.bytes, other.length, NULL, 0), 14);
 }
 static void rest(void) { answers(lanyardrove_rest(every.bytes, every.length, other.bytes, other.length, 256), 0); }
