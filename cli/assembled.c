@@ -254,6 +254,11 @@ bool assembled(const char *path, const char *text, size_t length, List *list)
     Assembly assembly = { .path = path, .list = list };
     *list = (List){ .limit = SIZE_MAX };
     append(&assembly, (const uint8_t *)"", 0);
+    if (length > 0 && memchr(text, '\0', length) != NULL) {
+        const Part start = { .text = text, .line = 1, .column = 1 };
+        fail(&assembly, &start, "no text: it has bytes that are 0, as a list has");
+        return false;
+    }
     for (Token token = next_token(&reader); token.kind != TEXT_END; token = next_token(&reader))
         take_token(&assembly, &token);
     end_command(&assembly);

@@ -162,6 +162,7 @@ ERRORS = (
     ("set_fill_color color=18446744073709551616", "1:22: error: '18446744073709551616' is no number of 64 bits"),
     ("word 1 12g", "1:8: error: '12g' is no number of 64 bits"),
     ("word a=1", "1:6: error: word has no fields"),
+    ("sync_full\0", "1:1: error: no text: it has bytes that are 0, as a list has"),
     ("sync_full = 3 word 1", "1:1: error: 'sync_full' belongs to no command"),
     ("set_fill_color color= # 5", "1:16: error: a field is NAME=VALUE"),
     ("sync_full =5", "1:1: error: 'sync_full' belongs to no command"),
