@@ -108,8 +108,8 @@ static inline uint32_t lanyardrove_required(uint64_t stepped) { return lanyardro
 static inline uint32_t lanyardrove_hazards_before(uint64_t asked) { return lanyardrove_third(asked) % 16; }
 static inline uint32_t lanyardrove_index_read(uint64_t asked) { return lanyardrove_third(asked) / 16; }
 
-/* The check of a list: 0 at the number of its words, or the first of refusals 1 to 9 and 19, in the order above. The list is
-   read only.
+/* The check of a list: 0 at the number of its words, or the first refusal: 1 and 2, then command by command 3, 4, 19, 5, 6 and
+   7 to 9. The list is read only.
    The third number is the cause. At 7, 8 and 9 it is the place of the command that the missing sync has to wait for, the
    latest of its kind before the refused one: for a refused draw a load, for a load a draw, for a Set Tile a textured draw
    (a triangle with texture, a texture rectangle) or a load, for a command that sets an attribute a draw.
@@ -143,7 +143,7 @@ struct lanyardrove_stream {
 uint64_t lanyardrove_stream_feed(struct lanyardrove_stream *stream,
                                  const uint8_t *portion, size_t portion_length);
 
-/* Closes a list after its last portion: 28 as above, then the remembered refusal; 2 at the whole words taken where the bytes
+/* Closes a list after its last portion: 28 as in feeding, then the remembered refusal; 2 at the whole words taken where the bytes
    taken are no multiple of 8; 3 at its first word where a command is not complete; else 0 at the words of the list.
    It adds a refusal to the record and nothing else, and leaves the record as it is at 0. The third number is as in feeding.
    Portions of a list of whole words and at most 32,768 bytes, however they are cut, end in the number and the place that
