@@ -1,7 +1,7 @@
 # make        proves the library and writes build/liblanyardrove.a, for C and C++ on x86-64 Linux (some minutes on a fresh machine),
 #             and build/lanyardrove, the command line tool
 # make install PREFIX=/usr/local DESTDIR=   and make uninstall: library, header, tool, manual page
-# make test   compiles tests/c against the archive, as C11 and as C++17, and runs both
+# make test   compiles each of tests/c against the archive, as C11 and as C++17, and runs them
 # make compare   tests the second program, reference/, and runs 200,000 seeded cases through it and the archive
 # make soak   the same with SOAK_CASES cases from SOAK_SEED on
 # make registers   compares the registers after 246 lists, as the second program prints them, with crates/rdp_registers/stdout
@@ -13,7 +13,7 @@ WARNINGS = -Wall -Wextra -Werror
 
 SOURCES = crates.txt $(shell find crates -name '*.rt' -o -name '*.antt')
 ARCHIVE = build/liblanyardrove.a
-TEST = tests/c/test_boundary.c
+TESTS = boundary stack
 
 all: cli-libraries $(ARCHIVE) cli
 
@@ -25,15 +25,16 @@ $(ARCHIVE): $(SOURCES)
 	mkdir -p build
 	cp target/staticlib/liblanyardrove.a $@
 
-build/test_c: $(TEST) include/lanyardrove.h $(ARCHIVE)
-	$(CC) -std=c11 -pedantic $(WARNINGS) -O2 -Iinclude $(TEST) $(ARCHIVE) -o $@
+build/test_%_c: tests/c/test_%.c include/lanyardrove.h $(ARCHIVE)
+	$(CC) -std=c11 -pedantic $(WARNINGS) -O2 -Iinclude $< $(ARCHIVE) -o $@
 
-build/test_cpp: $(TEST) include/lanyardrove.h $(ARCHIVE)
-	$(CXX) -x c++ -std=c++17 $(WARNINGS) -O2 -Iinclude $(TEST) -x none $(ARCHIVE) -o $@
+build/test_%_cpp: tests/c/test_%.c include/lanyardrove.h $(ARCHIVE)
+	$(CXX) -x c++ -std=c++17 $(WARNINGS) -O2 -Iinclude $< -x none $(ARCHIVE) -o $@
 
-test: build/test_c build/test_cpp
-	build/test_c
-	build/test_cpp
+TEST_PROGRAMS = $(foreach name,$(TESTS),build/test_$(name)_c build/test_$(name)_cpp)
+
+test: $(TEST_PROGRAMS)
+	set -e; for program in $(TEST_PROGRAMS); do $$program; done
 
 COMPARE = LANYARDROVE_LIB=$(abspath build) cargo run --quiet --manifest-path reference/Cargo.toml --release --features compare --bin compare --
 SOAK_SEED ?= 2

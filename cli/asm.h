@@ -14,6 +14,7 @@
 
 void mnemonic_of(unsigned number, char text[MNEMONIC_ROOM]);
 bool number_of(const char *text, size_t length, unsigned *number);
+bool nearest_of(const char *text, size_t length, unsigned *number);
 void plain_command(unsigned number, Command *command);
 size_t suffix_count(const Command *command);
 bool is_encoded(const Command *command, const uint8_t *suffix, size_t words, uint8_t *out);

@@ -25,7 +25,7 @@ typedef struct {
 /* FILE:LINE:COLUMN: error: .. */
 __attribute__((format(printf, 3, 4))) static void fail(Assembly *assembly, const Part *part, const char *format, ...)
 {
-    char text[512];
+    char text[1024];
     va_list values;
     va_start(values, format);
     vsnprintf(text, sizeof text, format, values);
@@ -87,11 +87,24 @@ static void fail_of_range(Assembly *assembly, const Part *value, const Command *
     while (low > 0 && !accepts(plain, field, 0 - ((uint64_t)1 << low)))
         low--;
     int64_t most = (int64_t)(((uint64_t)1 << high) - 1);
-    if (!accepts(plain, field, 0))
+    if (!accepts(plain, field, 0) || most == 0)
         fail(assembly, value, "%s=%.*s: not %" PRId64 " [%u]", name, SHOWN(value), most, LANYARDROVE_NOT_ENCODABLE);
     else
         fail(assembly, value, "%s=%.*s: not from %" PRId64 " to %" PRId64 " [%u]", name, SHOWN(value),
              accepts(plain, field, UINT64_MAX) ? -((int64_t)1 << low) : 0, most, LANYARDROVE_NOT_ENCODABLE);
+}
+
+/* Tells which fields the command has. */
+static void fail_of_field(Assembly *assembly, const Part *name)
+{
+    const Command *command = &assembly->command;
+    char all[768];
+    for (size_t i = 0, end = 0; i < command->count && end < sizeof all; i++)
+        end += (size_t)snprintf(all + end, sizeof all - end, "%s%s", i > 0 ? ", " : "", field_name(command->number, i));
+    if (command->count == 0)
+        fail(assembly, name, "%.*s has no fields", SHOWN(&assembly->start));
+    else
+        fail(assembly, name, "%.*s has no field '%.*s'; it has %s", SHOWN(&assembly->start), SHOWN(name), all);
 }
 
 /* The bits of a word that belong to no field. That they do not is asked of the library, where the command is complete. */
@@ -122,7 +135,7 @@ static void take_field(Assembly *assembly, const Token *token)
     while (field < command->count && !part_is(&token->name, field_name(command->number, field)))
         field++;
     if (field == command->count)
-        fail(assembly, &token->name, "%.*s has no field '%.*s'", SHOWN(&assembly->start), SHOWN(&token->name));
+        fail_of_field(assembly, &token->name);
     else if (assembly->given[field])
         fail(assembly, &token->name, "'%.*s' is given twice", SHOWN(&token->name));
     else {
@@ -172,6 +185,18 @@ static void end_command(Assembly *assembly)
         append(assembly, bytes, 8 * command->words);
 }
 
+/* Tells which command was perhaps meant. */
+static void fail_of_command(Assembly *assembly, const Part *name)
+{
+    char near[MNEMONIC_ROOM];
+    unsigned number;
+    if (nearest_of(name->text, name->length, &number)) {
+        mnemonic_of(number, near);
+        fail(assembly, name, "'%.*s' is no command; did you mean %s?", SHOWN(name), near);
+    } else
+        fail(assembly, name, "'%.*s' is no command", SHOWN(name));
+}
+
 static void begin_command(Assembly *assembly, const Part *name)
 {
     unsigned number;
@@ -179,7 +204,7 @@ static void begin_command(Assembly *assembly, const Part *name)
     assembly->raw = part_is(name, RAW_WORDS);
     assembly->known = assembly->raw || number_of(name->text, name->length, &number);
     if (!assembly->known)
-        fail(assembly, name, "'%.*s' is no command", SHOWN(name));
+        fail_of_command(assembly, name);
     else if (!assembly->raw)
         plain_command(number, &assembly->command);
 }
@@ -229,6 +254,11 @@ bool assembled(const char *path, const char *text, size_t length, List *list)
     Assembly assembly = { .path = path, .list = list };
     *list = (List){ .limit = SIZE_MAX };
     append(&assembly, (const uint8_t *)"", 0);
+    if (length > 0 && memchr(text, '\0', length) != NULL) {
+        const Part start = { .text = text, .line = 1, .column = 1 };
+        fail(&assembly, &start, "no text: it has bytes that are 0, as a list has");
+        return false;
+    }
     for (Token token = next_token(&reader); token.kind != TEXT_END; token = next_token(&reader))
         take_token(&assembly, &token);
     end_command(&assembly);

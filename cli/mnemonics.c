@@ -29,6 +29,40 @@ bool number_of(const char *text, size_t length, unsigned *number)
     return false;
 }
 
+/* The letters to leave out, put in or exchange that make one name of the other; capital letters count as small ones. */
+static size_t distance(const char *given, size_t length, const char *name)
+{
+    size_t row[MNEMONIC_ROOM];
+    size_t count = strlen(name);
+    for (size_t j = 0; j <= count; j++)
+        row[j] = j;
+    for (size_t i = 1; i <= length; i++) {
+        size_t corner = row[0]++;
+        for (size_t j = 1; j <= count; j++) {
+            size_t best = corner + (tolower((unsigned char)given[i - 1]) != name[j - 1]);
+            best = best <= row[j] ? best : row[j] + 1;
+            best = best <= row[j - 1] ? best : row[j - 1] + 1;
+            corner = row[j];
+            row[j] = best;
+        }
+    }
+    return row[count];
+}
+
+/* The command whose name was perhaps meant, two letters off at most; false where none is. */
+bool nearest_of(const char *text, size_t length, unsigned *number)
+{
+    char name[MNEMONIC_ROOM];
+    size_t least = 3;
+    for (unsigned i = 0; i < 64 && length > 4 && length < 2 * MNEMONIC_ROOM; i++) {
+        mnemonic_of(i, name);
+        size_t off = distance(text, length, name);
+        *number = off < least ? i : *number;
+        least = off < least ? off : least;
+    }
+    return least < 3;
+}
+
 /* The command with this number, all else of it zero: its fields and words are those of the library. */
 void plain_command(unsigned number, Command *command)
 {

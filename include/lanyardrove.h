@@ -17,9 +17,9 @@
  * Answers. Each function but lanyardrove_version and lanyardrove_words answers one 64-bit number, whose parts
  * lanyardrove_number, lanyardrove_place and lanyardrove_third give (or by their meaning _cause, _cycles, _command,
  * _commands_read, _list, _hazards, _required, _hazards_before, _index_read). Number 0 says that all went well; any other is
- * the first refusal that holds: 1 and 2 of the list, then command by command 3, 4, 19, 5, 6 and 7 to 9, then those that the
- * function adds, in the order of its description. A refusal leaves every byte as it was, but for the repair's work buffer at
- * 14 and a stream's record, which remembers it.
+ * the first refusal that holds, in this order unless the function's description gives another: 1 and 2 of the list, then
+ * command by command 3, 4, 19, 5, 6 and 7 to 9, then those that the function adds. A refusal leaves every byte as it was, but
+ * for the repair's work buffer at 14 and a stream's record, which remembers it.
  */
 #ifndef LANYARDROVE_H
 #define LANYARDROVE_H
@@ -42,13 +42,14 @@ uint32_t lanyardrove_version(void);
 
 /* The number of an answer, with the place that it has. */
 enum lanyardrove_ground {
-    LANYARDROVE_ACCEPTED = 0,           /* Accepted; the place is the words of the list, or what was written. */
+    LANYARDROVE_ACCEPTED = 0,           /* Accepted; the place is the words of the list, or what the function says. */
     LANYARDROVE_TOO_LONG = 1,           /* The list is over 32,768 bytes (repair: 16,384); place 4,096 (repair: 2,048). */
     LANYARDROVE_NOT_WORDS = 2,          /* The byte length is no multiple of 8; place length / 8, rounded down. */
-    LANYARDROVE_PAST_END = 3,           /* A command runs past the end of the list; place its first word. */
+    LANYARDROVE_PAST_END = 3,           /* A command runs past the end of the list; place its first word. Decoding: place 0.
+                                           Index: a command that a question reads, or a new one, is cut; the place asked. */
     LANYARDROVE_AFTER_SYNC_FULL = 4,    /* A command stands after a Sync Full; place its first word. */
-    LANYARDROVE_NOT_SET = 5,            /* A draw with modes, colour image or scissor not set in this list; the same place. */
-    LANYARDROVE_FILL_ON_FOUR_BITS = 6,  /* A draw in FILL mode on a 4-bit image, which crashes a console; the same place. */
+    LANYARDROVE_NOT_SET = 5,            /* A draw with modes, colour image or scissor not set in this list; its first word. */
+    LANYARDROVE_FILL_ON_FOUR_BITS = 6,  /* A draw in FILL mode on a 4-bit image, which crashes a console; its first word. */
     LANYARDROVE_SYNC_LOAD_MISSING = 7,  /* A Sync Load is missing before the command at the place. */
     LANYARDROVE_SYNC_TILE_MISSING = 8,  /* A Sync Tile is missing before the command at the place. */
     LANYARDROVE_SYNC_PIPE_MISSING = 9,  /* A Sync Pipe is missing before the command at the place. */
@@ -62,8 +63,8 @@ enum lanyardrove_ground {
     LANYARDROVE_NOT_ENCODABLE = 15,     /* Encoding: a field exceeds its bits, the number is none of 0 to 63, or the fields or
                                            suffix bytes are not as many as are due; place 0. */
     LANYARDROVE_TEXTURE_LENGTH = 16,    /* Drawing: the texture memory is not 4,096 bytes long; place 0. */
-    LANYARDROVE_NOT_COPYABLE = 17,      /* Drawing: a load or COPY rectangle that is none of those described below; place its
-                                           first word. */
+    LANYARDROVE_NOT_COPYABLE = 17,      /* Drawing: a load or COPY rectangle that is none of those that lanyardrove_draw
+                                           describes; place its first word. */
     LANYARDROVE_OUTSIDE_TEXTURE = 18,   /* Drawing: a byte loaded to, or read for a kept pixel, is outside the texture memory;
                                            the draw's or load's first word. */
     LANYARDROVE_UNASSIGNED = 19,        /* A number that no command has (0x01-0x07, 0x10-0x23, 0x31); place its word. */
@@ -81,7 +82,8 @@ enum lanyardrove_ground {
                                            are none of 0 to 15; the place asked. */
     LANYARDROVE_NOT_VIEWABLE = 27,      /* Viewing: the width or the height is 0 or above 1,024, or the size is none of 1 to 3;
                                            place 0. */
-    LANYARDROVE_RECORD_DAMAGED = 28     /* Stream: the record is none that feeding and closing leave; place 0. */
+    LANYARDROVE_RECORD_DAMAGED = 28     /* Stream: the record is damaged, for a reason that lanyardrove_stream_feed lists;
+                                           place 0. */
 };
 
 /* The parts of an answer: bits 63:56, 31:0 and 55:32. */
@@ -90,7 +92,8 @@ static inline uint32_t lanyardrove_place(uint64_t answer) { return (uint32_t)ans
 static inline uint32_t lanyardrove_third(uint64_t answer) { return (uint32_t)(answer >> 32) & 0xFFFFFFu; }
 
 /* The third number by its meaning: the cause that the check gives; the cycles, of a repair those that it inserted, of a repair
-   afresh all that the written list waits, of a stream those that its syncs have waited; the number of a decoded command; the display list commands that translating has read.
+   afresh all that the written list waits, of a stream those that its syncs have waited; the number of a decoded command; the
+   display list commands that translating has read.
    Those of a repair and of decoding are 0 at a refusal. In the answers of drawing, viewing and encoding the third number is 0.
    Of a step's answer the place is the hazards after it, and the third number's low two bits are the sync required. Of the
    answer of a question to an index the third number has the hazards, and above them the commands read; both are 0 at a
@@ -105,7 +108,8 @@ static inline uint32_t lanyardrove_required(uint64_t stepped) { return lanyardro
 static inline uint32_t lanyardrove_hazards_before(uint64_t asked) { return lanyardrove_third(asked) % 16; }
 static inline uint32_t lanyardrove_index_read(uint64_t asked) { return lanyardrove_third(asked) / 16; }
 
-/* The check of a list: 0 at the number of its words, or the first of refusals 1 to 9 and 19. The list is read only.
+/* The check of a list: 0 at the number of its words, or the first refusal: 1 and 2, then command by command 3, 4, 19, 5, 6 and
+   7 to 9. The list is read only.
    The third number is the cause. At 7, 8 and 9 it is the place of the command that the missing sync has to wait for, the
    latest of its kind before the refused one: for a refused draw a load, for a load a draw, for a Set Tile a textured draw
    (a triangle with texture, a texture rectangle) or a load, for a command that sets an attribute a draw.
@@ -122,8 +126,10 @@ struct lanyardrove_stream {
 };
 
 /* Takes the next portion of a list into its record. Portions are cut anywhere, also inside a word, and may be empty.
-   A command is judged when its last byte is in. Answers 0, the words of the commands accepted so far as the place; or the
-   first refusal, which the record remembers: 4 to 9 and 19 as in the check, and 1 at 4,096 where a byte comes after 32,768.
+   A command is judged when its last byte is in. Answers 0, the words of the commands accepted so far as the place; or 28, as
+   below; or the refusal that the record remembers; or the first refusal of what comes in, which the record remembers from then
+   on: at each command that becomes complete 4, 19, 5, 6 and 7 to 9 in this order, as in the check, and 1 at 4,096 where a byte
+   comes after 32,768.
    At 1 all else in the record is as after byte 32,768, at the others as before the refused command's first byte; further bytes
    of the portion are not looked at. Calls after a refusal repeat it and change nothing.
    The third number, lanyardrove_cycles, is the cycles that the accepted commands' syncs have waited, all since the record was
@@ -134,9 +140,10 @@ struct lanyardrove_stream {
    are below 0 or no multiple of 8, the remembered number is none that these calls give (0 to 9 and 19), or the cycles are above
    204,800. From a fresh record they never are; where a record was set otherwise, a call may lead above, and the next one is
    refused. */
-uint64_t lanyardrove_stream_feed(struct lanyardrove_stream *stream, const uint8_t *portion, size_t portion_length);
+uint64_t lanyardrove_stream_feed(struct lanyardrove_stream *stream,
+                                 const uint8_t *portion, size_t portion_length);
 
-/* Closes a list after its last portion: 28 as above, then the remembered refusal; 2 at the whole words taken where the bytes
+/* Closes a list after its last portion: 28 as in feeding, then the remembered refusal; 2 at the whole words taken where the bytes
    taken are no multiple of 8; 3 at its first word where a command is not complete; else 0 at the words of the list.
    It adds a refusal to the record and nothing else, and leaves the record as it is at 0. The third number is as in feeding.
    Portions of a list of whole words and at most 32,768 bytes, however they are cut, end in the number and the place that
@@ -171,27 +178,31 @@ uint64_t lanyardrove_step(uint32_t hazards, uint32_t number);
    Answers 0 and the entries written as the place (half as many as numbers); or 1, 2 and 3 of the list, at the places that the
    check gives, then 14 at the entries needed. Numbers beyond the entries are not touched.
    To learn the entries needed, lend a count of 0. An index of one list says nothing about another. */
-uint64_t lanyardrove_index_build(const uint8_t *list, size_t list_length, uint32_t *entries, size_t count);
+uint64_t lanyardrove_index_build(const uint8_t *list, size_t list_length,
+                                 uint32_t *entries, size_t count);
 
 /* The hazards before the command at a place, from an index: lend it the entries that building has written, count being twice
    their number. It starts at the last entry whose place is not beyond the one asked, and reads at most 64 commands, the one
    asked included, none that starts past it or outside the list.
-   Answers 0 with lanyardrove_hazards_before and lanyardrove_index_read, the number of commands read; or 1 and 2 of the list; 26
-   where there is no such entry or its hazards are above 15; 3 where a command that is read is cut; 24 where none that is read
-   starts at the place. The place is the one asked, but at 1 and 2.
+   Answers 0 with lanyardrove_hazards_before and lanyardrove_index_read, the number of commands read; or, in this order, 1 and 2
+   of the list; 26 where there is no such entry or its hazards are above 15; 3 where a command that is read is cut; 24 where none
+   that is read starts at the place. The place is the one asked, but at 1 and 2.
    With the entries of this list the answer is 0 at the place of every command, and the hazards are those of the walk from the
    first one. Whatever the entries are, the answer is as described. */
-uint64_t lanyardrove_index_ask(const uint8_t *list, size_t list_length, const uint32_t *entries, size_t count, uint32_t place);
+uint64_t lanyardrove_index_ask(const uint8_t *list, size_t list_length,
+                               const uint32_t *entries, size_t count, uint32_t place);
 
 /* Replaces the command at a place by the first command of other bytes, which has as many words, in the list and in its index.
    Of the list only that command's bytes change. Entry 0 to the command's own, whose number is that of the commands before it
    divided by 64, are not touched, nor are numbers beyond the entries; the later ones become those that building gives of the
    new list, whatever they were. So an index of the list becomes the index of the new list.
-   Answers 0 at the place; or refuses as building does, at its places; then as the question does; then by 24 where no command
-   of the list starts at the place, also where the entries, of another list, say otherwise; 3 where the new command is cut; 25
-   where it has not as many words as the old one; all at the place asked. Bytes after the new command are not read.
+   Answers 0 at the place; or refuses, in this order, as building does, at its places; as the question does; by 24 where no
+   command of the list starts at the place, also where the entries, of another list, say otherwise; by 3 where the new command is
+   cut; by 25 where it has not as many words as the old one; all but building's at the place asked. Bytes after the new command
+   are not read.
    A refusal leaves the list and the entries as they were. The check is not asked: see what it says of the new list. */
-uint64_t lanyardrove_index_replace(uint8_t *list, size_t list_length, uint32_t *entries, size_t count, uint32_t place,
+uint64_t lanyardrove_index_replace(uint8_t *list, size_t list_length,
+                                   uint32_t *entries, size_t count, uint32_t place,
                                    const uint8_t *command, size_t command_length);
 
 /* The repair of a list: writes it to the front of out with the Sync Load, Sync Tile and Sync Pipe words inserted that it
@@ -199,9 +210,9 @@ uint64_t lanyardrove_index_replace(uint8_t *list, size_t list_length, uint32_t *
    Answers 0, the words written as the place and the cycles inserted; or the first of refusals 1 to 6 and 19 of the list (7 to 9
    are what it repairs), then 13 at the number of commands, then 14 at the words needed.
    work: 16 bytes for each command of the list; a command has at least one word, so 2 * list_length bytes always suffice.
-   out:  at most one sync is put before a command, so 2 * list_length bytes always suffice. None is put before the first
-         four commands, so n words come out as at most 2 * n - 4 (as n, below four): 4,092 words for the longest list.
-         To learn the words needed, lend an out of length 0 and read the place of 14.
+   out: at most one sync is put before a command, so 2 * list_length bytes always suffice. None is put before the first
+   command, so n words come out as at most 2 * n - 1, and none as none.
+   To learn the words needed, lend an out of length 0 and read the place of 14.
    At 0 and at 14 the first 16 bytes a command of work are left zero, and its rest as received. Every other refusal leaves
    both buffers as received. Bytes of out beyond the words written are not touched. */
 uint64_t lanyardrove_repair(const uint8_t *list, size_t list_length,
@@ -224,9 +235,10 @@ uint64_t lanyardrove_repair_afresh(const uint8_t *list, size_t list_length,
 #define LANYARDROVE_TEXTURE_BYTES 4096
 
 /* Draws a list into memory: its Fill Rectangles in FILL mode, its Load Tiles and Load Blocks, and its Texture Rectangles (0x24)
-   in COPY mode, in the list's order. memory[i] is the byte at address start + i of the console's memory, which the colour image's and the
-   texture image's address count in. start is any number, and no sum of it wraps. Texture memory is LANYARDROVE_TEXTURE_BYTES
-   bytes, which a load writes and a copy reads; what it holds at first is the caller's, and what it holds at last stays there.
+   in COPY mode, in the list's order. memory[i] is the byte at address start + i of the console's memory, which the colour
+   image's and the texture image's address count in. start is any number, and no sum of it wraps. Texture memory is
+   LANYARDROVE_TEXTURE_BYTES bytes, which a load writes and a copy reads; what it holds at first is the caller's, and what it
+   holds at last stays there.
    Answers 0 at the words of the list; or the first refusal of the check (1 to 9 and 19), then 16 at 0, then the first along
    the draws and loads: at a draw 10, 11, 17, 12, 18 in this order, at a load 17, 12, 18. 12 is asked of all bytes of a command
    before 18 is of any.
@@ -236,13 +248,14 @@ uint64_t lanyardrove_repair_afresh(const uint8_t *list, size_t list_length,
    Load Block takes s and t as whole texels: from upper left s in row upper left t, lower right s - upper left s + 1 texels, on
    past the image's width too; texel k to byte 8 * tmem + 2 * k, with bit 2 turned over where k / 4 * dxt / 2048 is odd, each
    quotient rounded down. Just these texels are loaded. It leaves its fields as the tile's size as they are, dxt as lower right t.
-   A copied pixel (x, y) reads the texel of row t + y - top - tile top,
-   column likewise, top being the rectangle's own first row, turned over in odd rows too; rows and columns may be negative.
-   Pixels are written row by row, each row from the left, and the later one stays.
+   A copied pixel (x, y) reads the texel of row t + y - top - tile top, column likewise, top being the rectangle's own first row,
+   turned over in odd rows too; rows and columns may be negative. Pixels are written row by row, each row from the left, and the
+   later one stays.
    17 is a Load TLUT, a Load Tile or Load Block without a texture image of 16-bit RGBA, any of these two and copy without a tile
-   descriptor (Set Tile) of 16-bit RGBA, a Load Block of no texel or of more than 2,048, and a copy onto an image not of 16 bits, with dsdx other than 0x1000 or dtdy than
-   0x0400, with s, t or the tile's upper left between texels (a size that was never set has (0, 0)), or with any of mask,
-   shift and mirror of the tile or perspective, look-up and alpha compare on; also where no pixel is kept.
+   descriptor (Set Tile) of 16-bit RGBA, a Load Block of no texel or of more than 2,048, and a copy onto an image not of 16
+   bits, with dsdx other than 0x1000 or dtdy than 0x0400, with s, t or the tile's upper left between texels (a size that was
+   never set has (0, 0)), or with any of mask, shift and mirror of the tile or perspective, look-up and alpha compare on; also
+   where no pixel is kept.
    A refusal leaves every byte of both memories as it was: nothing is drawn before all is tested. */
 uint64_t lanyardrove_draw(const uint8_t *list, size_t list_length,
                           uint8_t *memory, size_t memory_length, uint64_t start,
@@ -273,9 +286,11 @@ uint64_t lanyardrove_view(const uint8_t *memory, size_t memory_length, uint64_t 
    LANYARDROVE_SUFFIX_BIT that of the words after a triangle's first four, as one field. They are all zero where the numbers
    of the commands differ.
    Answers 0 at the numbers written; or the first of refusals 1, 2 and 3 of the first list, then of the second, each at the
-   place that the check gives it; then 14 at the numbers needed. The third number is 0. No other refusal is looked at: a list
-   that the check refuses by 4 and up is compared too. Both lists are read only, and may be the same bytes.
-   entries: count is its length in numbers; 4 for each command of the shorter list always suffice. */
+   place that the check gives it; then 14 at the numbers needed. So 3 of the first list comes before 1 and 2 of the second. The
+   third number is 0. No other refusal is looked at: a list that the check refuses by 4 and up is compared too. Both lists are
+   read only, and may be the same bytes.
+   entries: count is its length in numbers; 4 for each command of the shorter list always suffice. A refusal leaves every number
+   as it was, and numbers beyond those written are not touched. */
 uint64_t lanyardrove_compare(const uint8_t *first, size_t first_length,
                              const uint8_t *second, size_t second_length,
                              uint32_t *entries, size_t count);

@@ -133,11 +133,17 @@ def text_may_be_written_in_many_ways():
 
 
 ERRORS = (
-    ("sync_pip", "1:1: error: 'sync_pip' is no command"),
-    ("sync_full\n  Sync_Pipe x=1 2\nsync_full", "2:3: error: 'Sync_Pipe' is no command"),
+    ("sync_pip", "1:1: error: 'sync_pip' is no command; did you mean sync_pipe?"),
+    ("sync_full\n  Sync_Pipe x=1 2\nsync_full", "2:3: error: 'Sync_Pipe' is no command; did you mean sync_pipe?"),
+    ("fil_rectange", "1:1: error: 'fil_rectange' is no command; did you mean fill_rectangle?"),
+    ("set_other_modes_now", "1:1: error: 'set_other_modes_now' is no command"),
+    ("modes", "1:1: error: 'modes' is no command"),
+    ("x" * 5000, f"1:1: error: '{64 * 'x'}' is no command"),
     ("color=5", "1:1: error: 'color' belongs to no command"),
     ("\n\n 5", "3:2: error: '5' belongs to no command"),
-    ("set_fill_color colour=5", "1:16: error: set_fill_color has no field 'colour'"),
+    ("set_fill_color colour=5", "1:16: error: set_fill_color has no field 'colour'; it has color"),
+    ("texture_rectangle lower_right.x=5", "1:19: error: texture_rectangle has no field 'lower_right.x'; it has lrx, lry, tile, ulx, uly, s, t, dsdx, dtdy"),
+    ("sync_full x=1", "1:11: error: sync_full has no fields"),
     ("set_fill_color color=5,\n color=6", "2:2: error: 'color' is given twice"),
     ("set_fill_color color=0x100000000", "1:22: error: color=0x100000000: not from 0 to 4294967295 [15]"),
     ("set_fill_color color=-1", "1:22: error: color=-1: not from 0 to 4294967295 [15]"),
@@ -147,7 +153,7 @@ ERRORS = (
     ("texture_rectangle s=-32769", "1:21: error: s=-32769: not from -32768 to 32767 [15]"),
     ("set_combine_mode mode=0x100000000000000", "1:23: error: mode=0x100000000000000: not from 0 to 72057594037927935 [15]"),
     ("fill_triangle_z zbuffer=0 1 2", "1:25: error: zbuffer=0: not 1 [15]"),
-    ("fill_triangle shade=1", "1:21: error: shade=1: not from 0 to 0 [15]"),
+    ("fill_triangle shade=1", "1:21: error: shade=1: not 0 [15]"),
     ("fill_triangle_z 1", "1:1: error: fill_triangle_z needs 2 words after its fields, not 1 [15]"),
     ("fill_triangle_z 1 2 3", "1:21: error: fill_triangle_z has 2 words after its fields, and no more [15]"),
     ("sync_full 0", "1:11: error: sync_full has 0 words after its fields, and no more [15]"),
@@ -156,6 +162,7 @@ ERRORS = (
     ("set_fill_color color=18446744073709551616", "1:22: error: '18446744073709551616' is no number of 64 bits"),
     ("word 1 12g", "1:8: error: '12g' is no number of 64 bits"),
     ("word a=1", "1:6: error: word has no fields"),
+    ("sync_full\0", "1:1: error: no text: it has bytes that are 0, as a list has"),
     ("sync_full = 3 word 1", "1:1: error: 'sync_full' belongs to no command"),
     ("set_fill_color color= # 5", "1:16: error: a field is NAME=VALUE"),
     ("sync_full =5", "1:1: error: 'sync_full' belongs to no command"),
@@ -163,7 +170,8 @@ ERRORS = (
     ("fill_triangle unused.4=1", "1:15: error: unused.4: not the index of a word with fields, 0 to 3"),
     ("set_fill_color color=0 unused.0=1", "1:1: error: unused bits of set_fill_color belong to a field"),
     ("sync_full unused.0=0x0100000000000000", "1:1: error: unused bits of sync_full belong to a field"),
-    ("set_tile \x1b[31m=1", "1:10: error: set_tile has no field '\\x1B[31m'"),
+    ("set_tile \x1b[31m=1", "1:10: error: set_tile has no field '\\x1B[31m'; it has " + ", ".join(name for *_, name in vectors.LAYOUT[0x35])),
+    ("set_other_modes x=1", "1:17: error: set_other_modes has no field 'x'; it has " + ", ".join(name for *_, name in vectors.LAYOUT[0x2F])),
 )
 
 

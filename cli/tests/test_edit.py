@@ -103,7 +103,8 @@ def edit_takes_a_command_as_text():
 @test
 def errors_in_the_text_of_a_command_are_told():
     write("in.rdp", words(*S, R, N, C))
-    for command, reason in ((["sync_pip"], "1:1: error: 'sync_pip' is no command"), (["set_fill_color", "colour=5"], "1:16: error: set_fill_color has no field 'colour'"),
+    for command, reason in ((["sync_pip"], "1:1: error: 'sync_pip' is no command; did you mean sync_pipe?"),
+                            (["set_fill_color", "colour=5"], "1:16: error: set_fill_color has no field 'colour'; it has color"),
                             (["set_other_modes cycle_type=4"], "1:28: error: cycle_type=4: not from 0 to 3 [15]"),
                             (["fill_triangle_z", "1"], "1:1: error: fill_triangle_z needs 2 words after its fields, not 1 [15]"), (["g" + "0" * 15], f"1:1: error: 'g{'0' * 15}' is no command")):
         status, out, err = run("edit", "in.rdp", "4", *command, "-o", "out.rdp")

@@ -110,6 +110,8 @@ def each_function_has_a_manual_page_of_the_headers_text():
         comment = re.sub(r"\*/.*", "", above[above.rindex("/*") + 2:], flags=re.S)
         said = " ".join(re.sub(r"^ \*", "", comment, flags=re.M).split()).removeprefix("Lanyardrove: ")
         assert said in text, (name, said, text)
+        for ground, number in re.findall(r"(LANYARDROVE_\w+) = (\d+)", HEADER.split("enum lanyardrove_ground {")[1].split("};")[0]) if name == "lanyardrove" else ():
+            assert f" {number} {ground} " in text, ground
     declarations = " ".join(HEADER.split())
     for name in FUNCTIONS:
         page = " ".join(read(f"{root}/usr/share/man/man3/{name}.3").decode().split())

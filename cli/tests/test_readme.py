@@ -4,7 +4,7 @@ import re
 import shlex
 import shutil
 
-from support import TOP, read, run, same, test
+from support import TOP, read, run, same, test, write
 
 README = read(os.path.join(TOP, "README.md")).decode()
 
@@ -34,6 +34,19 @@ def the_readme_shows_what_the_commands_print():
     assert {shlex.split(command)[1] for command, _ in commands} >= {"check", "dump", "repair", "draw"}, commands
     for command, output in commands:
         same(run(*shlex.split(command)[1:])[1:], (output, ""), command)
+
+
+@test
+def the_examples_of_the_manual_page_run():
+    page = read(os.path.join(TOP, "cli", "lanyardrove.1")).decode().split(".SH EXAMPLES\n.nf\n")[1].split("\n.fi")[0]
+    shutil.copytree(os.path.join(TOP, "examples"), "examples")
+    for line in page.replace("\\-", "-").split("\n"):
+        command, _, out = line.partition(" > ")
+        status, text, errors = run(*shlex.split(command)[1:])
+        assert status in (0, 1) and errors == "", (line, status, errors)
+        if out:
+            write(out, text.encode())
+    same(read("g.rdp"), read("examples/g.rdp"))
 
 
 @test

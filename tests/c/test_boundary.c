@@ -355,6 +355,7 @@ static void repair_lists(void) {
     const uint64_t m[] = {S, R, N, C}, m_repaired[] = {S, R, N, PIPE, C};
     const uint64_t h[] = {S, R, PIPE, C};
     const uint64_t block[] = {BLOCK, SET_TILE}, block_repaired[] = {BLOCK, TILE, SET_TILE};
+    const uint64_t tiles[] = {L, SET_TILE, L, SET_TILE}, tiles_repaired[] = {L, TILE, SET_TILE, L, TILE, SET_TILE};
     const uint64_t cut[] = {S, 0x2400000000000000u};
     const uint64_t full[] = {FULL, N};
     const uint64_t bare[] = {R};
@@ -365,7 +366,8 @@ static void repair_lists(void) {
     REPAIRS(k, 6, k_repaired, 50);
     REPAIRS(m, 6, m_repaired, 50);
     REPAIRS(h, 6, h, 0);
-    REPAIRS(block, 2, block_repaired, 33);
+    REPAIRS(block, 2, block_repaired, 33); /* 2 * 2 - 1 words of 2 */
+    REPAIRS(tiles, 4, tiles_repaired, 66);
 
     fresh(&a_list);
     memset(a_list.bytes, 0, 16400);
@@ -383,7 +385,7 @@ static void repair_lists(void) {
         static uint64_t longest[2048];
         REPAIRS(longest, 2048, longest, 0);
     }
-    /* the longest list with a sync before every command that can require one: 2 * 2,048 - 4 words */
+    /* the longest list, with a sync before every command after the setup and a rectangle */
     {
         static uint64_t most[2048], repaired[4092];
         size_t n = 0;
@@ -515,7 +517,7 @@ static void random_repairs(void) {
             }
         }
         CHECK(lanyardrove_number(answer) == 0 && at == n && n + added == lanyardrove_place(answer));
-        CHECK(cycles == lanyardrove_cycles(answer) && (added == 0 || added + 4 <= n));
+        CHECK(cycles == lanyardrove_cycles(answer) && added < n);
         CHECK(untouched_from(&an_out, 8 * (n + added)) && untouched_from(&a_work, 16 * n));
         ANSWERS(lanyardrove_check(an_out.bytes, 8 * (n + added)), 0, (unsigned)(n + added), (unsigned)(n + added));
         answer = lanyardrove_check(a_list.bytes, 8 * n);
@@ -1588,6 +1590,8 @@ static void stream_examples(void) {
     STREAM_ENDS(LIST(k), 7, 0, 4);
     STREAM_ENDS(LIST(m), 9, 0, 5);
     STREAM_ENDS(LIST(o), 0, 0, 5);
+    STREAM_ENDS(LIST(g) + 1, 9, 0, 4);  /* complete commands come before 2 */
+    ANSWERS(lanyardrove_check(a_list.bytes, 5 * 8 + 1), 2, 5, 5);
     STREAM_ENDS(LIST(g) - 1, 2, 0, 4);  /* a command that is not complete is not judged */
     STREAM_ENDS(LIST(c1) - 1, 2, 0, 0); /* 2 comes before 3 */
     CHECK(begins(a_list.bytes, c1, 1) && untouched_from(&a_list, 8));
@@ -2270,6 +2274,7 @@ static void index_refusals(void) {
     n = LIST(cut);
     ANSWERS(lanyardrove_index_build(a_list.bytes, n, entries, 0), 3, 0, 1);
     ANSWERS(lanyardrove_index_replace(a_list.bytes, n, entries, 0, 9, NULL, 0), 3, 0, 1);
+    ANSWERS(lanyardrove_index_ask(a_list.bytes, n, entries, 0, 1), 26, 0, 1); /* before 3 */
     entries[0] = 0, entries[1] = 0;
     ANSWERS(lanyardrove_index_ask(a_list.bytes, n, entries, 2, 0), 0, 16, 0);
     ANSWERS(lanyardrove_index_ask(a_list.bytes, n, entries, 2, 1), 3, 0, 1);
