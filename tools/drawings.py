@@ -1,17 +1,19 @@
 #!/usr/bin/env python3
-"""What the program crates/rdp_drawings must print for the lists in its sources.
+"""What the programs crates/rdp_drawings and crates/rdp_copies must print for the lists in their sources.
 
-    tools/drawings.py           writes crates/rdp_drawings/stdout
-    tools/drawings.py --check   says whether that file is as it would write it
+    tools/drawings.py           writes the file stdout of each
+    tools/drawings.py --check   says which of these files is not as it would write it
 
-The lists, and the memory that each is drawn into, are read from the program's calls. What is drawn follows documents 000, 01 and 02 (#106), pixel by pixel;
-nothing here is taken from crates/rdp_draw or the crates below it, so that the program's output and this file are independent.
+The lists, and the memory that each is drawn into, are read from a program's calls. What is drawn follows documents 000, 01 and 02 (#106, #112), pixel by pixel;
+nothing here is taken from crates/rdp_draw or the crates below it, so that a program's output and this file are independent.
 """
 import pathlib
 import re
 import sys
 
-CRATE = pathlib.Path(__file__).resolve().parent.parent / 'crates' / 'rdp_drawings'
+CRATES = pathlib.Path(__file__).resolve().parent.parent / 'crates'
+PROGRAMS = CRATES / 'rdp_drawings', CRATES / 'rdp_copies'
+WORDS = CRATES / 'rdp_text' / 'src' / 'words.rt'
 BEFORE = 0x55
 
 
@@ -278,18 +280,18 @@ def draw(data, memory, start, texture=bytes(4096)):
     return (0, end), bytes(drawn)
 
 
-# ---- The calls in the program's sources.
+# ---- The calls in a program's sources.
 
-def sources():
+def sources(crate):
     """The text of each module whose lists are drawn, in the order of main.rt."""
-    names = re.findall(r'(\w+)::show_\w+\(\);', (CRATE / 'src' / 'main.rt').read_text())
-    return [(CRATE / 'src' / (name + '.rt')).read_text() for name in names]
+    names = re.findall(r'(\w+)::show_\w+\(\);', (crate / 'src' / 'main.rt').read_text())
+    return [(crate / 'src' / (name + '.rt')).read_text() for name in names]
 
 
-def constants():
+def constants(crate):
     """The text of each constant of the sources, a word or an array of words."""
     table = {}
-    for path in sorted((CRATE / 'src').glob('*.rt')):
+    for path in (WORDS, *sorted((crate / 'src').glob('*.rt'))):
         for name, value in re.findall(r'const (\w+): [^=]* = ([^;]*);', path.read_text()):
             assert name not in table, name
             table[name] = value
@@ -304,17 +306,38 @@ def words_from(text, table):
     return found
 
 
-CALL = re.compile(r'\b(drawn|drawn_zeros|drawn_long|picture|picture_on_zeros|picture_with_small_texture)\(\s*b"([^"]*)",\s*(?:&(\w+|\[[^\]]*\]))?([^;]*)\);')
+CALL = re.compile(r'(\w+)\(\s*b"([^"]*)",([^;]*)\);')
+HELPER = re.compile(r'fn (\w+)\(name: &\[u8\]((?:, \w+: (?:u64|usize))+)\) \{\s*(\w+)\(\s*name,([^;]*)\);\s*\}')
 
 
-def cases():
+def helpers(crate):
+    """The functions that are one call with their numbers put in: the parameters, the function called, the text of its arguments."""
+    text = '\n'.join(path.read_text() for path in sorted((crate / 'src').glob('*.rt')))
+    found = [(name, (re.findall(r'(\w+):', parameters), function, arguments)) for name, parameters, function, arguments in HELPER.findall(text)]
+    assert len(dict(found)) == len(found), 'two functions have one name'
+    return dict(found)
+
+
+def written_out(function, arguments, known):
+    """A call without helpers."""
+    while function in known:
+        parameters, function, text = known[function]
+        values = dict(zip(parameters, re.findall(r'\w+', arguments), strict=True))
+        arguments = re.sub(r'\w+', lambda word: values.get(word[0], word[0]), text)
+    return function, arguments
+
+
+def cases(crate):
     """Each call: its function, the name, the bytes of the list, and its numbers."""
-    table = constants()
-    for text in sources():
+    table, known = constants(crate), helpers(crate)
+    for text in sources(crate):
         calls = CALL.findall(text)
-        assert len(calls) == len(re.findall(r'\b(?:drawn\w*|picture\w*)\(', text))
-        for function, name, listed, rest in calls:
-            data = b''.join(word.to_bytes(8, 'big') for word in words_from(listed, table))
+        assert len(calls) == text.count('b"')
+        for called, name, given in calls:
+            function, arguments = written_out(called, given, known)
+            listed, rest = re.fullmatch(r'\s*(?:&(\w+|\[[^\]]*\]))?(.*)', arguments, re.S).groups(default='')
+            words = words_from('FILLED' if function.startswith('after_fill') else '', table) + words_from(listed, table)
+            data = b''.join(word.to_bytes(8, 'big') for word in words)
             yield function, name, data, [int(number, 0) for number in re.findall(r'\w+', rest)]
 
 
@@ -333,19 +356,24 @@ def fletcher(data):
     return b << 32 | a
 
 
+# What a call says of the memory: its length, start, byte before and row.
+SHAPES = {
+    'drawn': lambda length, start, row: (length, start, BEFORE, row),
+    'drawn_long': lambda length, start: (length, start, BEFORE, 16),
+    'drawn_zeros': lambda _: (4, 0, BEFORE, 4),
+    'picture': lambda: (64, 0, BEFORE, 16),
+    'picture_on_zeros': lambda: (64, 0, 0, 16),
+    'after_fill': lambda: (64, 0, BEFORE, 16),
+    'after_fill_with_small_texture': lambda: (64, 0, BEFORE, 16),
+}
+
+
 def printed(function, name, data, numbers):
     """The answer for a call, and what it prints."""
-    byte, row = BEFORE, 16
-    if function == 'drawn':
-        length, start, row = numbers
-    elif function == 'drawn_long':
-        length, start = numbers
-    elif function == 'drawn_zeros':
-        data, length, start, row = bytes(*numbers), 4, 0, 4
-    else:
-        length, start = 64, 0
-        byte = 0 if function == 'picture_on_zeros' else BEFORE
-    texture = bytes(4095 if function == 'picture_with_small_texture' else 4096)
+    length, start, byte, row = SHAPES[function](*numbers)
+    if function == 'drawn_zeros':
+        data = bytes(*numbers)
+    texture = bytes(4095 if function == 'after_fill_with_small_texture' else 4096)
     answer, memory = draw(data, bytes([byte] * length), start, texture)
     line = f'\n{name}: {answer[0]} {answer[1]}'
     if function == 'drawn_long':
@@ -353,11 +381,13 @@ def printed(function, name, data, numbers):
     return answer, f'{line}{rows(memory, row)}\n'
 
 
-def stdout():
-    shown = [(name, *printed(function, name, data, numbers)) for function, name, data, numbers in cases()]
-    assert len({name for name, _, _ in shown}) == len(shown), 'two lists have one name'
-    assert {number for _, (number, _), _ in shown} == {*range(13), 16, 17, 18, 19}, 'a number of drawing is never answered'
-    return 'name: number place, and memory after drawing\n' + ''.join(text for _, _, text in shown)
+def stdouts():
+    """The text of each program."""
+    shown = {crate: [(name, *printed(function, name, data, numbers)) for function, name, data, numbers in cases(crate)] for crate in PROGRAMS}
+    every = [one for some in shown.values() for one in some]
+    assert len({name for name, _, _ in every}) == len(every), 'two lists have one name'
+    assert {number for _, (number, _), _ in every} == {*range(13), 16, 17, 18, 19}, 'a number of drawing is never answered'
+    return {crate: 'name: number place, and memory after drawing\n' + ''.join(text for _, _, text in some) for crate, some in shown.items()}
 
 
 def check_document():
@@ -375,13 +405,14 @@ def check_document():
 
 def main():
     check_document()
-    path, text = CRATE / 'stdout', stdout()
+    texts = {crate / 'stdout': text for crate, text in stdouts().items()}
     if sys.argv[1:] == ['--check']:
-        if path.exists() and path.read_text() == text:
-            return 0
-        print(f'{path} is not what tools/drawings.py writes')
-        return 1
-    path.write_text(text)
+        wrong = [path for path, text in texts.items() if not path.exists() or path.read_text() != text]
+        for path in wrong:
+            print(f'{path} is not what tools/drawings.py writes')
+        return 1 if wrong else 0
+    for path, text in texts.items():
+        path.write_text(text)
     return 0
 
 

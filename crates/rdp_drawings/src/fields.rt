@@ -1,7 +1,7 @@
 // Which rows a scissor with its field bit keeps: the odd ones with its odd bit, else the even ones.
 use crate::show::drawn;
 use crate::show::picture;
-use crate::words::*;
+use rdp_text::words::*;
 
 // 8 by 4 pixels.
 const ODD: u64 = 0x2D_000_000_03_020_010;
@@ -21,36 +21,23 @@ pub fn show_fields() {
     other_widths();
 }
 
+// Fills a rectangle of the image of 8 by 4 pixels.
+fn under_field(name: &[u8], scissor: u64, rectangle: u64) {
+    picture(name, &[FILL, IMAGE, scissor, COLOR, rectangle]);
+}
+
 fn whole_images() {
-    picture(b"field, odd", &[FILL, IMAGE, ODD, COLOR, WHOLE]);
-    picture(b"field, even", &[FILL, IMAGE, EVEN, COLOR, WHOLE]);
-    picture(
-        b"odd without field",
-        &[FILL, IMAGE, 0x2D_000_000_01_020_010, COLOR, WHOLE],
-    );
-    picture(
-        b"field, odd, from row 2 on",
-        &[FILL, IMAGE, 0x2D_000_008_03_020_010, COLOR, WHOLE],
-    );
+    under_field(b"field, odd", ODD, WHOLE);
+    under_field(b"field, even", EVEN, WHOLE);
+    under_field(b"odd without field", 0x2D_000_000_01_020_010, WHOLE);
+    under_field(b"field, odd, from row 2 on", 0x2D_000_008_03_020_010, WHOLE);
 }
 
 fn few_rows() {
-    picture(
-        b"field, odd, rows 1 and 2",
-        &[FILL, IMAGE, ODD, COLOR, RECTANGLE],
-    );
-    picture(
-        b"field, even, rows 1 and 2",
-        &[FILL, IMAGE, EVEN, COLOR, RECTANGLE],
-    );
-    picture(
-        b"field, odd, row 2 alone",
-        &[FILL, IMAGE, ODD, COLOR, ROW_2],
-    );
-    picture(
-        b"field, even, row 2 alone",
-        &[FILL, IMAGE, EVEN, COLOR, ROW_2],
-    );
+    under_field(b"field, odd, rows 1 and 2", ODD, RECTANGLE);
+    under_field(b"field, even, rows 1 and 2", EVEN, RECTANGLE);
+    under_field(b"field, odd, row 2 alone", ODD, ROW_2);
+    under_field(b"field, even, row 2 alone", EVEN, ROW_2);
     drawn(
         b"field, odd, row 2 alone, no memory",
         &[FILL, IMAGE, ODD, COLOR, ROW_2],
@@ -60,36 +47,16 @@ fn few_rows() {
     );
 }
 
-// Three rows.
+// Fills the whole image where memory has three of its rows.
+fn in_three_rows(name: &[u8], scissor: u64, start: u64) {
+    drawn(name, &[FILL, IMAGE, scissor, COLOR, WHOLE], 48, start, 16);
+}
+
 fn short_memory() {
-    drawn(
-        b"field, odd, 48 bytes",
-        &[FILL, IMAGE, ODD, COLOR, WHOLE],
-        48,
-        0,
-        16,
-    );
-    drawn(
-        b"field, even, 48 bytes",
-        &[FILL, IMAGE, EVEN, COLOR, WHOLE],
-        48,
-        0,
-        16,
-    );
-    drawn(
-        b"field, odd, start 16",
-        &[FILL, IMAGE, ODD, COLOR, WHOLE],
-        48,
-        16,
-        16,
-    );
-    drawn(
-        b"field, even, start 16",
-        &[FILL, IMAGE, EVEN, COLOR, WHOLE],
-        48,
-        16,
-        16,
-    );
+    in_three_rows(b"field, odd, 48 bytes", ODD, 0);
+    in_three_rows(b"field, even, 48 bytes", EVEN, 0);
+    in_three_rows(b"field, odd, start 16", ODD, 16);
+    in_three_rows(b"field, even, start 16", EVEN, 16);
 }
 
 fn other_widths() {

@@ -1,7 +1,7 @@
 // Memory that is lent: where it starts, and how long it is.
 use crate::show::drawn;
 use crate::show::drawn_zeros;
-use crate::words::*;
+use rdp_text::words::*;
 
 pub fn show_lent() {
     starts_above();
@@ -12,175 +12,84 @@ pub fn show_lent() {
     plain_lists();
 }
 
+// Fills a rectangle of an image in memory of a length and a start.
+fn lent(name: &[u8], image: u64, rectangle: u64, length: usize, start: u64) {
+    drawn(
+        name,
+        &[FILL, image, SCISSOR, COLOR, rectangle],
+        length,
+        start,
+        16,
+    );
+}
+
 // The first byte that is drawn is at address 18, the last at 37.
 fn starts_above() {
-    drawn(
-        b"start 17",
-        &[FILL, IMAGE, SCISSOR, COLOR, RECTANGLE],
-        20,
-        17,
-        16,
-    );
-    drawn(
-        b"start 18",
-        &[FILL, IMAGE, SCISSOR, COLOR, RECTANGLE],
-        20,
-        18,
-        16,
-    );
-    drawn(
-        b"start 19",
-        &[FILL, IMAGE, SCISSOR, COLOR, RECTANGLE],
-        20,
-        19,
-        16,
-    );
-    drawn(
-        b"start above the image",
-        &[FILL, IMAGE, SCISSOR, COLOR, RECTANGLE],
-        64,
-        64,
-        16,
-    );
-    drawn(
-        b"start 2^32",
-        &[FILL, IMAGE, SCISSOR, COLOR, RECTANGLE],
-        64,
-        0x1_0000_0000,
-        16,
-    );
+    lent(b"start 17", IMAGE, RECTANGLE, 20, 17);
+    lent(b"start 18", IMAGE, RECTANGLE, 20, 18);
+    lent(b"start 19", IMAGE, RECTANGLE, 20, 19);
+    lent(b"start above the image", IMAGE, RECTANGLE, 64, 64);
+    lent(b"start 2^32", IMAGE, RECTANGLE, 64, 0x1_0000_0000);
 }
 
 fn starts_below() {
-    drawn(
-        b"start 32 below the image",
-        &[FILL, IMAGE_AT_64, SCISSOR, COLOR, RECTANGLE],
-        96,
-        32,
-        16,
-    );
-    drawn(
-        b"start 3 below the image",
-        &[FILL, IMAGE_AT_64, SCISSOR, COLOR, RECTANGLE],
-        48,
-        61,
-        16,
-    );
-    drawn(
-        b"start 2 below the image",
-        &[FILL, IMAGE_AT_64, SCISSOR, COLOR, RECTANGLE],
-        48,
-        62,
-        16,
-    );
-    drawn(
-        b"start 1 below the image",
-        &[FILL, IMAGE_AT_64, SCISSOR, COLOR, RECTANGLE],
-        48,
-        63,
-        16,
-    );
-    drawn(
-        b"end below the image",
-        &[FILL, IMAGE_AT_64, SCISSOR, COLOR, RECTANGLE],
-        64,
-        0,
-        16,
-    );
+    lent(b"start 32 below the image", IMAGE_AT_64, RECTANGLE, 96, 32);
+    lent(b"start 3 below the image", IMAGE_AT_64, RECTANGLE, 48, 61);
+    lent(b"start 2 below the image", IMAGE_AT_64, RECTANGLE, 48, 62);
+    lent(b"start 1 below the image", IMAGE_AT_64, RECTANGLE, 48, 63);
+    lent(b"end below the image", IMAGE_AT_64, RECTANGLE, 64, 0);
 }
 
 fn lengths() {
-    drawn(
-        b"start 32 below, 69 bytes",
-        &[FILL, IMAGE_AT_64, SCISSOR, COLOR, RECTANGLE],
-        69,
-        32,
-        16,
-    );
-    drawn(
-        b"start 32 below, 70 bytes",
-        &[FILL, IMAGE_AT_64, SCISSOR, COLOR, RECTANGLE],
-        70,
-        32,
-        16,
-    );
-    drawn(
-        b"whole image, 63 bytes",
-        &[FILL, IMAGE, SCISSOR, COLOR, WHOLE],
-        63,
-        0,
-        16,
-    );
-    drawn(
-        b"whole image, 64 bytes",
-        &[FILL, IMAGE, SCISSOR, COLOR, WHOLE],
-        64,
-        0,
-        16,
-    );
-    drawn(
-        b"whole image, start 1",
-        &[FILL, IMAGE, SCISSOR, COLOR, WHOLE],
-        64,
-        1,
-        16,
-    );
+    lent(b"start 32 below, 69 bytes", IMAGE_AT_64, RECTANGLE, 69, 32);
+    lent(b"start 32 below, 70 bytes", IMAGE_AT_64, RECTANGLE, 70, 32);
+    lent(b"whole image, 63 bytes", IMAGE, WHOLE, 63, 0);
+    lent(b"whole image, 64 bytes", IMAGE, WHOLE, 64, 0);
+    lent(b"whole image, start 1", IMAGE, WHOLE, 64, 1);
 }
 
 // Addresses do not start again from 0 where memory passes 2^64.
 fn starts_near_the_end() {
-    drawn(
+    lent(
         b"start 2^64 - 16",
-        &[FILL, IMAGE, SCISSOR, COLOR, RECTANGLE],
+        IMAGE,
+        RECTANGLE,
         64,
         0xFFFF_FFFF_FFFF_FFF0,
-        16,
     );
-    drawn(
+    lent(
         b"start 2^64 - 64",
-        &[FILL, IMAGE, SCISSOR, COLOR, RECTANGLE],
+        IMAGE,
+        RECTANGLE,
         128,
         0xFFFF_FFFF_FFFF_FFC0,
-        16,
     );
-    drawn(
+    lent(
         b"start 2^64 - 1",
-        &[FILL, IMAGE, SCISSOR, COLOR, RECTANGLE],
+        IMAGE,
+        RECTANGLE,
         4,
         0xFFFF_FFFF_FFFF_FFFF,
-        16,
     );
-    drawn(
+    lent(
         b"start 2^64 - 1, no column",
-        &[FILL, IMAGE, SCISSOR, COLOR, NO_COLUMN],
+        IMAGE,
+        NO_COLUMN,
         4,
         0xFFFF_FFFF_FFFF_FFFF,
-        16,
     );
-    drawn(
+    lent(
         b"start 2^64 - 16, no row",
-        &[FILL, IMAGE, SCISSOR, COLOR, NO_ROW],
+        IMAGE,
+        NO_ROW,
         32,
         0xFFFF_FFFF_FFFF_FFF0,
-        16,
     );
 }
 
 fn no_memory() {
-    drawn(
-        b"no memory",
-        &[FILL, IMAGE, SCISSOR, COLOR, RECTANGLE],
-        0,
-        0,
-        16,
-    );
-    drawn(
-        b"no memory, start 18",
-        &[FILL, IMAGE, SCISSOR, COLOR, RECTANGLE],
-        0,
-        18,
-        16,
-    );
+    lent(b"no memory", IMAGE, RECTANGLE, 0, 0);
+    lent(b"no memory, start 18", IMAGE, RECTANGLE, 0, 18);
     drawn(
         b"no memory, no kept pixel",
         &[FILL, IMAGE, 0x2D_000_000_00_000_000, COLOR, RECTANGLE],

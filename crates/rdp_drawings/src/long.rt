@@ -1,6 +1,6 @@
 // Fills of many bytes, on memory of a length and a start. `rt try` gives a program ten million steps, of which this file takes three quarters.
 use crate::show::drawn_long;
-use crate::words::*;
+use rdp_text::words::*;
 
 pub fn show_long() {
     screen();

@@ -4,8 +4,7 @@
 //     bytes of a row
 //
 // Memory holds the byte 55 before, which no colour here has, so that what is left as it was can be seen. Of a long memory there are a checksum, the
-// first bytes and the last ones. tools/drawings.py reads the lists in these files and works out the file stdout.
-mod copies;
+// first bytes and the last ones. crates/rdp_copies draws copies and loads. tools/drawings.py reads the lists in these files and works out the file stdout.
 mod fields;
 mod lent;
 mod long;
@@ -14,7 +13,6 @@ mod registers;
 mod scissors;
 mod shapes;
 mod show;
-mod words;
 
 fn main() {
     show::print(b"name: number place, and memory after drawing\n");
@@ -24,6 +22,5 @@ fn main() {
     registers::show_registers();
     lent::show_lent();
     refusals::show_refusals();
-    copies::show_copies();
     long::show_long();
 }

@@ -1,7 +1,7 @@
 // Lists that are refused. Memory stays as it was, also where an earlier draw is not refused.
 use crate::show::drawn;
 use crate::show::picture;
-use crate::words::*;
+use rdp_text::words::*;
 
 pub fn show_refusals() {
     other_draws();
@@ -12,6 +12,11 @@ pub fn show_refusals() {
     order_of_draws();
     refusals_of_the_check();
     check_before_draws();
+}
+
+// Fills pixels (1, 1) to (2, 2) in some mode, on some image.
+fn one_draw(name: &[u8], modes: u64, image: u64) {
+    picture(name, &[modes, image, SCISSOR, COLOR, RECTANGLE]);
 }
 
 fn other_draws() {
@@ -30,23 +35,11 @@ fn other_draws() {
 }
 
 fn other_modes() {
-    picture(
-        b"one-cycle mode",
-        &[ONE_CYCLE, IMAGE, SCISSOR, COLOR, RECTANGLE],
-    );
-    picture(
-        b"two-cycle mode",
-        &[0x2F_10_0000_00000000, IMAGE, SCISSOR, COLOR, RECTANGLE],
-    );
-    picture(
-        b"COPY mode",
-        &[0x2F_20_0000_00000000, IMAGE, SCISSOR, COLOR, RECTANGLE],
-    );
+    one_draw(b"one-cycle mode", ONE_CYCLE, IMAGE);
+    one_draw(b"two-cycle mode", 0x2F_10_0000_00000000, IMAGE);
+    one_draw(b"COPY mode", 0x2F_20_0000_00000000, IMAGE);
     // A 4-bit image is refused in FILL mode alone by the check.
-    picture(
-        b"one-cycle mode, 4 bits",
-        &[ONE_CYCLE, 0x3F_00_0007_00000000, SCISSOR, COLOR, RECTANGLE],
-    );
+    one_draw(b"one-cycle mode, 4 bits", ONE_CYCLE, 0x3F_00_0007_00000000);
     drawn(
         b"one-cycle mode, no row, no memory",
         &[ONE_CYCLE, IMAGE, SCISSOR, COLOR, NO_ROW],
@@ -57,14 +50,8 @@ fn other_modes() {
 }
 
 fn addresses() {
-    picture(
-        b"address 32",
-        &[FILL, IMAGE_AT_32, SCISSOR, COLOR, RECTANGLE],
-    );
-    picture(
-        b"address 1",
-        &[FILL, 0x3F_10_0007_00000001, SCISSOR, COLOR, RECTANGLE],
-    );
+    one_draw(b"address 32", FILL, IMAGE_AT_32);
+    one_draw(b"address 1", FILL, 0x3F_10_0007_00000001);
     picture(
         b"address 32, no column",
         &[FILL, IMAGE_AT_32, SCISSOR, COLOR, NO_COLUMN],
@@ -107,10 +94,7 @@ fn later_draws() {
 }
 
 fn order_at_one_draw() {
-    picture(
-        b"10 before 11",
-        &[ONE_CYCLE, IMAGE_AT_32, SCISSOR, COLOR, RECTANGLE],
-    );
+    one_draw(b"10 before 11", ONE_CYCLE, IMAGE_AT_32);
     drawn(
         b"10 before 12",
         &[ONE_CYCLE, IMAGE, SCISSOR, COLOR, RECTANGLE],
@@ -173,10 +157,7 @@ fn refusals_of_the_check() {
     picture(b"5, modes not set", &[IMAGE, SCISSOR, COLOR, RECTANGLE]);
     picture(b"5, image not set", &[FILL, SCISSOR, COLOR, RECTANGLE]);
     picture(b"5, scissor not set", &[FILL, IMAGE, COLOR, RECTANGLE]);
-    picture(
-        b"6, 4 bits",
-        &[FILL, 0x3F_00_0007_00000000, SCISSOR, COLOR, RECTANGLE],
-    );
+    one_draw(b"6, 4 bits", FILL, 0x3F_00_0007_00000000);
     picture(
         b"7 after a draw",
         &[FILL, IMAGE, SCISSOR, COLOR, RECTANGLE, LOAD],

@@ -1,11 +1,12 @@
 // The registers that a rectangle is drawn under: the last ones set before it.
 use crate::show::drawn;
 use crate::show::picture;
-use crate::words::*;
+use rdp_text::words::*;
 
 pub fn show_registers() {
     colors();
     images();
+    last_address();
     modes();
     other_commands();
     unused_bits();
@@ -70,6 +71,9 @@ fn images() {
             RECTANGLE,
         ],
     );
+}
+
+fn last_address() {
     drawn(
         b"the last address",
         &[FILL, 0x3F_10_0007_03FFFFC0, SCISSOR, COLOR, RECTANGLE],

@@ -2,7 +2,7 @@
 use crate::show::drawn;
 use crate::show::picture;
 use crate::show::picture_on_zeros;
-use crate::words::*;
+use rdp_text::words::*;
 
 pub fn show_shapes() {
     examples();
@@ -16,23 +16,27 @@ pub fn show_shapes() {
     stairs();
 }
 
+// Fills a rectangle of the image of 8 by 4 pixels.
+fn covered(name: &[u8], rectangle: u64) {
+    picture(name, &[FILL, IMAGE, SCISSOR, COLOR, rectangle]);
+}
+
+// The same on the first bytes of memory.
+fn covered_of(name: &[u8], rectangle: u64, length: usize) {
+    drawn(
+        name,
+        &[FILL, IMAGE, SCISSOR, COLOR, rectangle],
+        length,
+        0,
+        16,
+    );
+}
+
 fn examples() {
     // Bytes 18 to 21 and 34 to 37 become 00 3F F8 01.
     picture_on_zeros(b"I", &[FILL, IMAGE, SCISSOR, COLOR, RECTANGLE]);
-    drawn(
-        b"I on 37 bytes",
-        &[FILL, IMAGE, SCISSOR, COLOR, RECTANGLE],
-        37,
-        0,
-        16,
-    );
-    drawn(
-        b"I on 38 bytes",
-        &[FILL, IMAGE, SCISSOR, COLOR, RECTANGLE],
-        38,
-        0,
-        16,
-    );
+    covered_of(b"I on 37 bytes", RECTANGLE, 37);
+    covered_of(b"I on 38 bytes", RECTANGLE, 38);
     // Pixel (0, 1) takes the lower half of the colour.
     drawn(
         b"O",
@@ -44,42 +48,18 @@ fn examples() {
 }
 
 fn quarter_pixels() {
-    picture(
-        b"right and lower edge 7",
-        &[FILL, IMAGE, SCISSOR, COLOR, 0x36_007_007_00_000_000],
-    );
-    picture(
-        b"right and lower edge 8",
-        &[FILL, IMAGE, SCISSOR, COLOR, 0x36_008_008_00_000_000],
-    );
-    picture(
-        b"left and upper edge 7",
-        &[FILL, IMAGE, SCISSOR, COLOR, 0x36_01C_00C_00_007_007],
-    );
+    covered(b"right and lower edge 7", 0x36_007_007_00_000_000);
+    covered(b"right and lower edge 8", 0x36_008_008_00_000_000);
+    covered(b"left and upper edge 7", 0x36_01C_00C_00_007_007);
     // From the last quarter of pixel (1, 1) to its first.
-    picture(
-        b"edges 7 to 4",
-        &[FILL, IMAGE, SCISSOR, COLOR, 0x36_004_004_00_007_007],
-    );
+    covered(b"edges 7 to 4", 0x36_004_004_00_007_007);
 }
 
 fn no_pixels() {
-    picture(b"no column", &[FILL, IMAGE, SCISSOR, COLOR, NO_COLUMN]);
-    picture(b"no row", &[FILL, IMAGE, SCISSOR, COLOR, NO_ROW]);
-    drawn(
-        b"no column, no memory",
-        &[FILL, IMAGE, SCISSOR, COLOR, NO_COLUMN],
-        0,
-        0,
-        16,
-    );
-    drawn(
-        b"no row, no memory",
-        &[FILL, IMAGE, SCISSOR, COLOR, NO_ROW],
-        0,
-        0,
-        16,
-    );
+    covered(b"no column", NO_COLUMN);
+    covered(b"no row", NO_ROW);
+    covered_of(b"no column, no memory", NO_COLUMN, 0);
+    covered_of(b"no row, no memory", NO_ROW, 0);
     drawn(
         b"from the last pixel to the first",
         &[FILL, IMAGE, OPEN, COLOR, 0x36_000_000_00_FFF_FFF],
@@ -194,36 +174,26 @@ fn odd_widths() {
 }
 
 // On a width of 4 pixels.
+fn on_four_pixels(name: &[u8], rectangle: u64, length: usize) {
+    drawn(
+        name,
+        &[FILL, IMAGE_OF_4, OPEN, DIGITS, rectangle],
+        length,
+        0,
+        8,
+    );
+}
+
 fn wide_rectangles() {
     // Columns 0 to 5: a row goes on into the next.
-    drawn(
-        b"wider than the image",
-        &[FILL, IMAGE_OF_4, OPEN, DIGITS, 0x36_014_008_00_000_000],
-        40,
-        0,
-        8,
-    );
-    drawn(
+    on_four_pixels(b"wider than the image", 0x36_014_008_00_000_000, 40);
+    on_four_pixels(
         b"wider than the image, past memory",
-        &[FILL, IMAGE_OF_4, OPEN, DIGITS, 0x36_014_008_00_000_000],
+        0x36_014_008_00_000_000,
         24,
-        0,
-        8,
     );
-    drawn(
-        b"right of the image",
-        &[FILL, IMAGE_OF_4, OPEN, DIGITS, 0x36_014_004_00_014_000],
-        32,
-        0,
-        8,
-    );
-    drawn(
-        b"as wide as the image",
-        &[FILL, IMAGE_OF_4, OPEN, DIGITS, 0x36_00C_008_00_000_004],
-        32,
-        0,
-        8,
-    );
+    on_four_pixels(b"right of the image", 0x36_014_004_00_014_000, 32);
+    on_four_pixels(b"as wide as the image", 0x36_00C_008_00_000_004, 32);
 }
 
 // Twenty rows of 1 to 20 pixels of 8 bits, on a width of 23. With four starts, each length begins at each place of the colour and of memory.
@@ -254,9 +224,13 @@ const STAIRS: [u64; 24] = [
     0x36_04C_04C_00_000_04C,
 ];
 
+fn stairs_from(name: &[u8], start: u64) {
+    drawn(name, &STAIRS, 460, start, 23);
+}
+
 fn stairs() {
-    drawn(b"stairs", &STAIRS, 460, 64, 23);
-    drawn(b"stairs, start 63", &STAIRS, 460, 63, 23);
-    drawn(b"stairs, start 62", &STAIRS, 460, 62, 23);
-    drawn(b"stairs, start 61", &STAIRS, 460, 61, 23);
+    stairs_from(b"stairs", 64);
+    stairs_from(b"stairs, start 63", 63);
+    stairs_from(b"stairs, start 62", 62);
+    stairs_from(b"stairs, start 61", 61);
 }

@@ -1,29 +1,11 @@
 // A list, drawn into memory of which the bytes are printed.
-ghost use Prim.Native.Nat.{_+_, _*_, _<_, _≤_};
+ghost use Prim.Native.Nat.{_+_, _<_, _≤_};
 ghost use lib.ListN.{length};
 use libc::STDOUT_FILENO;
 use rdp_command::Answer;
 
 pub fn print(bytes: &[u8]) {
     io::write_all(STDOUT_FILENO, bytes);
-}
-
-// Byte i of words, most significant byte first; 0 beyond them.
-fn byte_of(words: &[u64], i: usize) -> u8 {
-    let place = i / 8;
-    if place < words.len() {
-        let shift = 8 * (7 - i % 8);
-        return ((words[place] >> shift) % 256) as u8;
-    }
-    0
-}
-
-fn lay(words: &[u64], out: &mut [u8]) {
-    let mut i = 0;
-    while i < out.len() {
-        out[i] = byte_of(words, i);
-        i += 1;
-    }
 }
 
 // The first n bytes; all where there are fewer.
@@ -43,47 +25,17 @@ fn back(bytes: &[u8], n: usize) -> &[u8] {
     bytes
 }
 
-// The last hexadecimal digit of n.
-fn digit(n: u8) -> u8 {
-    let d = n % 16;
-    if d < 10 { b'0' + d } else { b'a' - 10 + d }
-}
-
-// What stands before byte i: the end of a line where it starts a row.
-fn mark(i: usize, row: usize) -> u8 {
-    if row != 0 && i % row == 0 {
-        b'\n'
-    } else {
-        b' '
-    }
-}
-
-// The text of bytes in rows, three characters for each.
-fn spell(bytes: &[u8], row: usize, text: &mut [u8])
-    requires { ⌜ 3 * length (now bytes) ≤ length (now text) ⌝ }
-{
-    let mut i = 0;
-    while i < bytes.len() {
-        text[3 * i] = mark(i, row);
-        text[3 * i + 1] = digit(bytes[i] / 16);
-        text[3 * i + 2] = digit(bytes[i]);
-        i += 1;
-    }
+fn print_text(bytes: &[u8], row: usize, text: &mut [u8]) {
+    rdp_text::spell(bytes, row, text);
+    print(text);
 }
 
 // At most 512 bytes in rows, each row on a line after the present one.
 fn print_rows(bytes: &[u8], row: usize) {
     let mut text = [0u8; 1536];
     if bytes.len() <= 512 {
-        spell(bytes, row, &mut text);
-        print(front(&text, 3 * bytes.len()));
+        print_text(bytes, row, &mut text[0..3 * bytes.len()]);
     }
-}
-
-fn wide(byte: u8) -> u64
-    ensures { λ r. ⌜ r < 256 ⌝ }
-{
-    byte as u64
 }
 
 // Four bytes as a number, most significant byte first.
@@ -91,9 +43,10 @@ fn word_at(bytes: &[u8], at: usize) -> u64
     requires { ⌜ at + 4 ≤ length (now bytes) ⌝ }
     ensures { λ r. ⌜ r < 4294967296 ⌝ }
 {
-    let high = wide(bytes[at]) * 256 + wide(bytes[at + 1]);
-    let low = wide(bytes[at + 2]) * 256 + wide(bytes[at + 3]);
-    high * 65536 + low
+    (bytes[at] as u64) * 0x100_0000
+        + (bytes[at + 1] as u64) * 0x1_0000
+        + (bytes[at + 2] as u64) * 0x100
+        + (bytes[at + 3] as u64)
 }
 
 // Fletcher's checksum of the whole words of four bytes, which tells their order too.
@@ -124,15 +77,9 @@ fn draw(list: &[u8], memory: &mut [u8], start: u64) -> Answer {
     rdp_draw::draw(list, memory, start, &mut texture)
 }
 
-// The same with a byte less.
-fn draw_with_less(list: &[u8], memory: &mut [u8]) -> Answer {
-    let mut texture = [0u8; 4095];
-    rdp_draw::draw(list, memory, 0, &mut texture)
-}
-
 // Draws the list of words, which is laid into `list`.
 fn draw_list(name: &[u8], words: &[u64], list: &mut [u8], memory: &mut [u8], start: u64) {
-    lay(words, list);
+    rdp_text::lay(words, list);
     print_answer(name, draw(list, memory, start));
 }
 
@@ -167,22 +114,6 @@ pub fn picture(name: &[u8], words: &[u64]) {
 pub fn picture_on_zeros(name: &[u8], words: &[u64]) {
     let mut memory = [0u8; 64];
     draw_in_rows(name, words, &mut memory, 0, 16);
-}
-
-fn draw_list_with_less(name: &[u8], words: &[u64], list: &mut [u8], memory: &mut [u8]) {
-    lay(words, list);
-    print_answer(name, draw_with_less(list, memory));
-}
-
-// As `picture`, of at most 32 words, with texture memory of 4,095 bytes.
-pub fn picture_with_small_texture(name: &[u8], words: &[u64]) {
-    let mut list = [0u8; 256];
-    let mut memory = [0x55u8; 64];
-    if words.len() <= 32 {
-        draw_list_with_less(name, words, &mut list[0..8 * words.len()], &mut memory);
-        print_rows(&memory, 16);
-        print(b"\n");
-    }
 }
 
 // Draws a list of `length` zeros, at most 32,769, into four bytes.

@@ -54,6 +54,10 @@ pub const COPY: u64 = 0x2F_20_0000_00000000;
 pub const COPY_RIGHT: u64 = 0x24_01C_00C_00_010_000;
 
 pub const TEXELS: u64 = 0x0000_0000_1000_0400;
+// From column 1 and row 1, and from row -1.
+pub const TEXELS_FROM_1_1: u64 = 0x0020_0020_1000_0400;
+
+pub const TEXELS_ABOVE: u64 = 0x0000_FFE0_1000_0400;
 
 pub const LOAD_SYNC: u64 = 0x26_00000000000000;
 
