@@ -7,13 +7,13 @@ use lib.Dec.{ltb, eqb}
 use lib.ListN.{length, getD}
 
 -- f 0 to f (n - 1)
-unfoldable pub firstOf : (ℕ → ℕ) → ℕ → List ℕ
-firstOf f zero = []
-firstOf f (suc n) = firstOf f n ++ (f n ∷ [])
+unfoldable pub tabulated : (ℕ → ℕ) → ℕ → List ℕ
+tabulated f zero = []
+tabulated f (suc n) = tabulated f n ++ (f n ∷ [])
 
 -- byte i of words, most significant byte first; 0 beyond them
-abbrev pub byteOf : List ℕ → ℕ → ℕ
-byteOf ws i = cond (ltb (i / 8) (length ws)) (getD ws (i / 8) 0 / 2 ^ (8 * (7 - i % 8)) % 256) 0
+abbrev pub byteIn : List ℕ → ℕ → ℕ
+byteIn ws i = cond (ltb (i / 8) (length ws)) (getD ws (i / 8) 0 / 2 ^ (8 * (7 - i % 8)) % 256) 0
 
 -- the last hexadecimal digit of n: 0 to 9, a to f
 abbrev pub digitOf : ℕ → ℕ

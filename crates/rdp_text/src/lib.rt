@@ -1,13 +1,13 @@
 // For the programs that draw test lists: the words that many lists have, words as the bytes of a list, and bytes as text in hexadecimal.
 ghost use mathlib.Core.Path.{_≡_};
 ghost use lib.ListN.{length};
-ghost use Rattle.rdp_text.specs.Text.{firstOf, byteOf, digitOf, markOf, characterOf};
+ghost use Rattle.rdp_text.specs.Text.{tabulated, byteIn, digitOf, markOf, characterOf};
 
 pub mod words;
 
 // Byte i of words, most significant byte first; 0 beyond them.
 fn byte_of(words: &[u64], i: usize) -> u8
-    ensures { λ r. ⌜ r ≡ byteOf (now (words .entry)) i ⌝ }
+    ensures { λ r. ⌜ r ≡ byteIn (now (words .entry)) i ⌝ }
 {
     let place = i / 8;
     if place < words.len() {
@@ -19,7 +19,7 @@ fn byte_of(words: &[u64], i: usize) -> u8
 
 // Words as bytes, as many as there is room for; zeros beyond them.
 pub fn lay(words: &[u64], out: &mut [u8])
-    ensures { λ _. ⌜ now (out .exit) ≡ firstOf (byteOf (now (words .entry))) (length (now (out .entry))) ⌝ }
+    ensures { λ _. ⌜ now (out .exit) ≡ tabulated (byteIn (now (words .entry))) (length (now (out .entry))) ⌝ }
 {
     let mut i = 0;
     while i < out.len() {
@@ -71,7 +71,7 @@ fn character(bytes: &[u8], row: usize, k: usize) -> u8
 
 // The text of bytes in rows of `row`, three characters for each byte, as far as there is room; zeros beyond it.
 pub fn spell(bytes: &[u8], row: usize, text: &mut [u8])
-    ensures { λ _. ⌜ now (text .exit) ≡ firstOf (characterOf row (now (bytes .entry))) (length (now (text .entry))) ⌝ }
+    ensures { λ _. ⌜ now (text .exit) ≡ tabulated (characterOf row (now (bytes .entry))) (length (now (text .entry))) ⌝ }
 {
     let mut k = 0;
     while k < text.len() {

@@ -6,13 +6,13 @@ use native.Mathlib.Omega.{arith}
 use lib.ListN.{length, set}
 use denote.Ref.{now}
 use borrow.Author.Needs.{needs}
-use Rattle.rdp_text.specs.Text.{byteOf}
+use Rattle.rdp_text.specs.Text.{byteIn}
 use Rattle.rdp_text.proofs.FirstLaws.{written, written-none, written-more, written-all, length-written}
 use Rattle.rdp_text.proofs.lay.Statement.{statement}
 use Rattle.rdp_text.proofs.lay.Tie as tie
 
 abbrev Inv-loop : tie.InvT-loop
-Inv-loop words out₀ i₀ out i = (i ≤ length out₀) × (out ≡ written (byteOf words) out₀ i)
+Inv-loop words out₀ i₀ out i = (i ≤ length out₀) × (out ≡ written (byteIn words) out₀ i)
 
 abbrev μ-loop : tie.MeasureT-loop
 μ-loop words out₀ i₀ out i = length out₀ - i
@@ -22,7 +22,7 @@ module _ (c : tie.At-loop Inv-loop μ-loop) where
   out = now (c .before .before .before .args .out)
 
   abbrev wanted : ℕ → ℕ
-  wanted = byteOf (now (c .before .before .before .args .words))
+  wanted = byteIn (now (c .before .before .before .args .words))
 
   -- what is written so far has the length of the output
   long : length (c .loop .out) ≡ length out
