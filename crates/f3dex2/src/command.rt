@@ -2,7 +2,7 @@
 use crate::*;
 ghost use mathlib.Core.Path.{_≡_};
 ghost use Prim.Native.Nat.{_+_, _≤_};
-ghost use Rattle.f3dex2.specs.Commands.{numberOf, roleOf, masked, modified, settingBy, settingAfter, modesWord};
+ghost use Rattle.f3dex2.specs.Commands.{numberOf, lowHalf, roleOf, countIn, shiftCode, masked, modified, settingBy, settingAfter, modesWord};
 ghost use Rattle.f3dex2.specs.Steps.{modesOnly, listAction, modesAction, roleAction, actionBy};
 
 // x & ~(((1 << count) - 1) << shift) | bits
@@ -15,14 +15,34 @@ fn mask_in(x: u32, shift: u64, count: u64, bits: u32) -> u32
     (kept | bits as u64) as u32
 }
 
+// The low 32 bits of a command.
+fn low_half(w: u64) -> u32
+    ensures { λ r. ⌜ r ≡ lowHalf w ⌝ }
+{
+    (w % 0x1_0000_0000) as u32
+}
+
+// How many bits 0xE2 and 0xE3 change, and the place in the word, from its high end, after them.
+fn count_in(w: u64) -> u64
+    ensures { λ r. ⌜ r ≡ countIn w ⌝ }
+{
+    (w >> 32) % 256 + 1
+}
+
+fn top_in(w: u64) -> u64
+    ensures { λ r. ⌜ r ≡ shiftCode w + countIn w ⌝ }
+{
+    (w >> 40) % 256 + count_in(w)
+}
+
 // A word of the other modes, changed by 0xE2 or 0xE3.
 fn modify(x: u32, w: u64) -> u32
     ensures { λ r. ⌜ r ≡ modified x w ⌝ }
 {
-    let count = (w >> 32) % 256 + 1;
-    let top = (w >> 40) % 256 + count;
+    let count = count_in(w);
+    let top = top_in(w);
     if top <= 32 {
-        return mask_in(x, 32 - top, count, (w % 0x1_0000_0000) as u32);
+        return mask_in(x, 32 - top, count, low_half(w));
     }
     x
 }
@@ -44,7 +64,7 @@ fn after_command(s: Setting, w: u64) -> Setting
 {
     let number = w >> 56;
     if number == 0xEF {
-        return modes(((w >> 32) % 0x100_0000) as u32, (w % 0x1_0000_0000) as u32);
+        return modes(((w >> 32) % 0x100_0000) as u32, low_half(w));
     }
     if number == 0xE3 {
         return modes(modify(s.high, w), s.low);
@@ -72,7 +92,7 @@ pub fn setting_after(s: Setting, w: u64) -> Setting
         Due::FirstHalf => Setting {
             high: s.high,
             low: s.low,
-            due: Due::SecondHalf((w % 0x1_0000_0000) as u32),
+            due: Due::SecondHalf(low_half(w)),
         },
         Due::SecondHalf(_) => modes(s.high, s.low),
     }
@@ -82,16 +102,16 @@ pub fn setting_after(s: Setting, w: u64) -> Setting
 fn list_action(w: u64) -> Action
     ensures { λ r. ⌜ r ≡ listAction w ⌝ }
 {
-    let address = w % 0x1_0000_0000;
+    let address = low_half(w) as usize;
     let parameter = (w >> 48) % 256;
     if (w >> 24) % 256 != 0 {
         return Action::Invalid;
     }
     if parameter == 0 {
-        return Action::Call(address as usize);
+        return Action::Call(address);
     }
     if parameter == 1 {
-        return Action::Branch(address as usize);
+        return Action::Branch(address);
     }
     Action::Invalid
 }
@@ -107,8 +127,7 @@ fn modes_word(s: Setting) -> u64
 fn modes_action(after: Setting, w: u64) -> Action
     ensures { λ r. ⌜ r ≡ modesAction after w ⌝ }
 {
-    let count = (w >> 32) % 256 + 1;
-    let top = (w >> 40) % 256 + count;
+    let top = top_in(w);
     if 32 < top {
         return Action::Invalid;
     }
@@ -157,7 +176,7 @@ pub fn action_for(due: Due, after: Setting, w: u64) -> Action
         }
         Due::SecondHalf(half) => {
             if number == 0xF1 {
-                return Action::Write(half as u64 * 0x1_0000_0000 + w % 0x1_0000_0000);
+                return Action::Write(half as u64 * 0x1_0000_0000 + low_half(w) as u64);
             }
             Action::Unknown
         }

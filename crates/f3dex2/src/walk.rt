@@ -57,22 +57,18 @@ fn read_command(memory: &[u8], at: usize, depth: usize, state: State, out: &mut 
     let old = state.setting;
     let due = old.due;
     let setting = setting_after(old, w);
-    let next = State {
+    let mut next = State {
         setting,
         read: read + 1,
         written,
-    };
-    let more = State {
-        setting,
-        read: read + 1,
-        written: written + 1,
     };
     match action_for(due, setting, w) {
         Action::Unknown => Asked::Refused(22, at, state),
         Action::Invalid => Asked::Refused(23, at, state),
         Action::Write(x) => {
             put(out, written, x);
-            Asked::Next(on, more)
+            next.written = written + 1;
+            Asked::Next(on, next)
         }
         Action::Pass => Asked::Next(on, next),
         Action::Call(target) => {

@@ -9,10 +9,8 @@ ghost use Rattle.rdp_check.specs.Commands.{commandsOf, restOf};
 ghost use Rattle.rdp_check.specs.Cause.{awaited, latest, causeOf};
 ghost use Rattle.rdp_check.specs.View.{Numbers, IsJudged};
 
-// Command numbers, a bit for each: the textured draws and the loads, and the loads alone.
-const READS_TILE: u64 = 0x0019_0030_0000_CC00;
-
-const LOADS: u64 = 0x0019_0000_0000_0000;
+// Command numbers, a bit for each: the textured draws and the loads.
+const READS_TILE: u64 = 0x0000_0030_0000_CC00 | rdp_words::LOADS;
 
 // The numbers of the commands that set the mark which a command needs cleared.
 fn awaited_by(number: u8) -> u64
@@ -20,7 +18,7 @@ fn awaited_by(number: u8) -> u64
     ensures { λ r. ⌜ Numbers r (awaited number .sets) ⌝ }
 {
     if rdp_words::is_among(rdp_words::DRAWS, number) {
-        return LOADS;
+        return rdp_words::LOADS;
     }
     if number == 0x35 {
         return READS_TILE;

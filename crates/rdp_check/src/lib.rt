@@ -174,12 +174,17 @@ pub struct Registers {
     pub tiles: [Tile; 8],
 }
 
+// What a list may have: so many words, and the bytes of these.
+pub const MOST_WORDS: u32 = 4096;
+
+pub const MOST_BYTES: usize = 8 * MOST_WORDS as usize;
+
 // The first refusal of a list, with the hazards there and its cause: 1 and 2 of the list, then 3 to 9 and 19 of its commands in order; 0 at the number of words
 // where none holds.
 pub fn check(list: &[u8]) -> Checked
     ensures { λ r. ⌜ r ≡ checkOf (now (list .entry)) ⌝ }
 {
-    walk::check_within(list, 4096, true)
+    walk::check_within(list, MOST_WORDS as usize, true)
 }
 
 // The check that comes before a repair: of at most 2,048 words, and with 7 to 9 passed over.
@@ -195,10 +200,10 @@ pub fn check_from(before: Checkpoint, bytes: &[u8]) -> Judged
     ensures { λ r. ⌜ r ≡ checkFrom before (now (bytes .entry)) ⌝ }
 {
     let hazards = before.hazards;
-    if 32768 < bytes.len() {
+    if MOST_BYTES < bytes.len() {
         return Judged {
             number: 1,
-            place: 4096,
+            place: MOST_WORDS,
             hazards,
             ended: before.ended,
         };

@@ -458,7 +458,7 @@ pub fn head_at(list: &[u8], place: usize) -> Head
     Head {
         number: rdp_words::number_in(w),
         cycle_type: read::cycle_type(w),
-        image_size: ((w >> 51) % 0x4) as u8,
+        image_size: read::image_size(w),
     }
 }
 
@@ -502,9 +502,9 @@ pub fn copy_fields(set: CopyWords, first: u64, second: u64) -> CopyFields
         tile_corner,
         scissor: read::scissor(set.scissor),
         image: read::color_image(set.image),
-        perspective: (set.modes >> 51) % 0x2 == 1,
-        lookup: (set.modes >> 47) % 0x2 == 1,
-        alpha_compare: set.modes % 0x2 == 1,
+        perspective: read::perspective(set.modes),
+        lookup: read::lookup(set.modes),
+        alpha_compare: read::alpha_compare(set.modes),
     }
 }
 

@@ -5,7 +5,7 @@ ghost use Prim.Native.Nat.{_*_, _<_, _≤_};
 ghost use Rattle.rdp_command.specs.Layout.{edgeLines, triangleBaseLines, textureStepLines, texturedRectangleLines, keyGbLines, keyRLines, convertLines, scissorLines, primitiveDepthLines, textureModesLines, blenderInputsLines, pixelModesLines, otherModesLines, tileAreaLines, blockLines, tileDescriptorLines, rectangleLines, colorLines, primitiveColorLines, combineModeLines, imageLines, depthImageLines, colorImageLines};
 ghost use Rattle.rdp_command.specs.Fields.{twosComplement, fieldsOf};
 ghost use Rattle.rdp_command.specs.Groups.{natAt, edgeOf, triangleBaseOf, textureStepOf, texturedRectangleOf, keyGbOf, keyROf, convertOf, scissorOf, primitiveDepthOf, textureModesOf, blenderInputsOf, pixelModesOf, otherModesOf, tileAreaOf, blockOf, tileDescriptorOf, rectangleOf, colorOf, primitiveColorOf, imageOf};
-ghost use Rattle.rdp_command.specs.Reads.{cycleTypeIn, fillColorIn};
+ghost use Rattle.rdp_command.specs.Reads.{otherModesIn, cycleTypeIn, colorImageIn, fillColorIn};
 use crate::*;
 
 // A two's complement number, where half is 2 to its bits less one.
@@ -86,11 +86,11 @@ pub fn texture_modes(w: u64) -> TextureModes
     ensures { λ r. ⌜ r ≡ textureModesOf (fieldsOf textureModesLines (w ∷ [])) ⌝ }
 {
     TextureModes {
-        persp_tex_en: (w >> 51) % 0x2 == 1,
+        persp_tex_en: perspective(w),
         detail_tex_en: (w >> 50) % 0x2 == 1,
         sharpen_tex_en: (w >> 49) % 0x2 == 1,
         tex_lod_en: (w >> 48) % 0x2 == 1,
-        tlut_en: (w >> 47) % 0x2 == 1,
+        tlut_en: lookup(w),
         tlut_type: (w >> 46) % 0x2 == 1,
         sample_type: (w >> 45) % 0x2 == 1,
         mid_texel: (w >> 44) % 0x2 == 1,
@@ -131,7 +131,7 @@ pub fn pixel_modes(w: u64) -> PixelModes
         antialias_en: (w >> 3) % 0x2 == 1,
         z_source_sel: (w >> 2) % 0x2 == 1,
         dither_alpha_en: (w >> 1) % 0x2 == 1,
-        alpha_compare_en: w % 0x2 == 1,
+        alpha_compare_en: alpha_compare(w),
     }
 }
 
@@ -316,7 +316,7 @@ pub fn color_image(w: u64) -> Image
 {
     Image {
         format: ((w >> 53) % 0x8) as u8,
-        size: ((w >> 51) % 0x4) as u8,
+        size: image_size(w),
         width: ((w >> 32) % 0x400) as u16,
         address: (w % 0x4000000) as u32,
     }
@@ -345,4 +345,30 @@ pub fn cycle_type(w: u64) -> u8
     ensures { λ r. ⌜ r ≡ cycleTypeIn w ⌝ }
 {
     ((w >> 52) % 0x4) as u8
+}
+
+// Of the other modes those alone that a copy asks for.
+pub fn perspective(w: u64) -> bool
+    ensures { λ r. ⌜ r ≡ otherModesIn w .texture .«persp_tex_en» ⌝ }
+{
+    (w >> 51) % 0x2 == 1
+}
+
+pub fn lookup(w: u64) -> bool
+    ensures { λ r. ⌜ r ≡ otherModesIn w .texture .«tlut_en» ⌝ }
+{
+    (w >> 47) % 0x2 == 1
+}
+
+pub fn alpha_compare(w: u64) -> bool
+    ensures { λ r. ⌜ r ≡ otherModesIn w .pixel .«alpha_compare_en» ⌝ }
+{
+    w % 0x2 == 1
+}
+
+// The size alone of a Set Color Image.
+pub fn image_size(w: u64) -> u8
+    ensures { λ r. ⌜ r ≡ colorImageIn w .size ⌝ }
+{
+    ((w >> 51) % 0x4) as u8
 }

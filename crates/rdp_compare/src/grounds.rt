@@ -46,10 +46,10 @@ fn first_ground(list: &[u8]) -> Answer
     ensures { λ r. ⌜ r ≡ decodeAnswer (now (list .entry)) ⌝ }
 {
     let len = list.len();
-    if 32768 < len {
+    if rdp_check::MOST_BYTES < len {
         return Answer {
             number: 1,
-            place: 4096,
+            place: rdp_check::MOST_WORDS,
         };
     }
     let words = len / 8;

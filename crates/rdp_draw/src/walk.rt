@@ -1,7 +1,6 @@
 // The walk over the acts of a list, with the words that last set the registers.
 ghost use mathlib.Core.Path.{_≡_};
 ghost use Prim.Native.Nat.{_<_};
-ghost use Rattle.rdp_state.specs.RegisterWords.{tileIn};
 ghost use Rattle.rdp_draw.specs.Seen.{fillAt, copyAt, loadAt, Reaches};
 use rdp_command::CopyFields;
 use rdp_command::CopyWords;
@@ -9,11 +8,10 @@ use rdp_command::FillFields;
 use rdp_command::FillWords;
 use rdp_command::LoadFields;
 use rdp_command::LoadWords;
+use rdp_state::slots;
 
-// The commands that set a register, a bit for each number; and the loads among them.
+// The commands that set a register, a bit for each number.
 const SETTERS: u64 = 0xFFBD_FC00_0000_0000;
-
-const LOADS: u64 = 0x0019_0000_0000_0000;
 
 // An act: its place and its number. Where there is none, the place is the number of words.
 pub struct Reached {
@@ -35,7 +33,7 @@ pub fn next_act(list: &[u8], from: usize, file: &mut [u64; 32]) -> Reached
         }
         if rdp_words::is_among(SETTERS, number) {
             rdp_state::store(file, number, rdp_words::word_at(list, at));
-            if rdp_words::is_among(LOADS, number) {
+            if rdp_words::is_among(rdp_words::LOADS, number) {
                 return Reached { place: at, number };
             }
             at += 1;
@@ -54,19 +52,12 @@ pub fn fill_at(list: &[u8], place: usize, file: &[u64; 32]) -> FillFields
     ensures { λ r. ⌜ r ≡ fillAt (now (file .entry)) (now (list .entry)) place ⌝ }
 {
     let set = FillWords {
-        modes: file[5],
-        scissor: file[3],
-        image: file[14],
-        color: file[6],
+        modes: file[slots::OTHER_MODES],
+        scissor: file[slots::SCISSOR],
+        image: file[slots::COLOR_IMAGE],
+        color: file[slots::FILL_COLOR],
     };
     rdp_command::fill_fields(set, rdp_words::word_at(list, place))
-}
-
-// The tile that a word names.
-fn tile_in(w: u64) -> usize
-    ensures { λ r. ⌜ (r ≡ tileIn w) × (r < 8) ⌝ }
-{
-    ((w >> 24) % 8) as usize
 }
 
 // A texture rectangle at a place, with what it is drawn under.
@@ -75,13 +66,13 @@ pub fn copy_at(list: &[u8], place: usize, file: &[u64; 32]) -> CopyFields
     ensures { λ r. ⌜ r ≡ copyAt (now (file .entry)) (now (list .entry)) place ⌝ }
 {
     let word = rdp_words::word_at(list, place);
-    let tile = tile_in(word);
+    let tile = rdp_state::tile_in(word);
     let set = CopyWords {
-        modes: file[5],
-        scissor: file[3],
-        image: file[14],
-        tile: file[15 + tile],
-        size: file[23 + tile],
+        modes: file[slots::OTHER_MODES],
+        scissor: file[slots::SCISSOR],
+        image: file[slots::COLOR_IMAGE],
+        tile: file[slots::TILES + tile],
+        size: file[slots::TILE_SIZES + tile],
     };
     rdp_command::copy_fields(set, word, rdp_words::word_at(list, place + 1))
 }
@@ -91,10 +82,10 @@ pub fn load_at(list: &[u8], place: usize, file: &[u64; 32]) -> LoadFields
     ensures { λ r. ⌜ r ≡ loadAt (now (file .entry)) (now (list .entry)) place ⌝ }
 {
     let word = rdp_words::word_at(list, place);
-    let tile = tile_in(word);
+    let tile = rdp_state::tile_in(word);
     let set = LoadWords {
-        image: file[12],
-        tile: file[15 + tile],
+        image: file[slots::TEXTURE_IMAGE],
+        tile: file[slots::TILES + tile],
     };
     rdp_command::load_fields(set, word)
 }

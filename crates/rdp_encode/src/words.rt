@@ -9,16 +9,7 @@ pub fn put_word(out: &mut [u8], at: usize, w: u64)
     requires { ⌜ at + 8 ≤ length (now out) ⌝ }
     ensures { λ _. ⌜ now (out .exit) ≡ pasted at (bytesOf w) (now (out .entry)) ⌝ }
 {
-    let bytes = [
-        ((w >> 56) % 0x100) as u8,
-        ((w >> 48) % 0x100) as u8,
-        ((w >> 40) % 0x100) as u8,
-        ((w >> 32) % 0x100) as u8,
-        ((w >> 24) % 0x100) as u8,
-        ((w >> 16) % 0x100) as u8,
-        ((w >> 8) % 0x100) as u8,
-        (w % 0x100) as u8,
-    ];
+    let bytes = rdp_words::bytes_of(w);
     let end = at + 8;
     rdp_words::copy(&mut out[at..end], &bytes);
 }

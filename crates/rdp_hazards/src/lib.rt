@@ -6,6 +6,19 @@ ghost use Rattle.rdp_hazards.specs.Hazards.{transitionOf};
 pub mod hazards;
 pub mod table;
 
+// The command numbers of the syncs, and the cycles that they wait.
+pub const SYNC_LOAD: u8 = 0x26;
+
+pub const SYNC_TILE: u8 = 0x28;
+
+pub const SYNC_PIPE: u8 = 0x27;
+
+pub const LOAD_WAIT: u32 = 25;
+
+pub const TILE_WAIT: u32 = 33;
+
+pub const PIPE_WAIT: u32 = 50;
+
 // The hazards after a command, whether a sync is missing, and the sync that the command requires: 0 none, 1 Load, 2 Tile, 3 Pipe.
 #[repr(C)]
 pub struct Transition {

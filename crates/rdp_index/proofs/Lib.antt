@@ -1,5 +1,6 @@
 pub mod ReadLaws
 pub mod NoteLaws
+pub mod SizeLaws
 pub mod BuiltLaws
 pub mod CopyLaws
 pub mod BoundLaws

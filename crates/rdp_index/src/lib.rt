@@ -43,13 +43,10 @@ pub fn build(list: &[u8], entries: &mut [u32]) -> Answer
 pub fn ask(list: &[u8], entries: &[u32], place: u32) -> Asked
     ensures { λ r. ⌜ r ≡ askOf (now (list .entry)) (now (entries .entry)) place ⌝ }
 {
-    let len = list.len();
-    let words = len / 8;
-    if 32768 < len {
-        return asking::refused(1, 4096);
-    }
-    if len % 8 != 0 {
-        return asking::refused(2, words as u32);
+    let size = noting::size_answer(list);
+    let number = size.number;
+    if number != 0 {
+        return asking::refused(number, size.place);
     }
     let i = asking::last_before(entries, entries.len() / 2, place);
     if i == 0 {

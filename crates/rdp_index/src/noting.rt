@@ -1,9 +1,12 @@
 // The entries of a list, in one pass.
+ghost use mathlib.Core.Bool.{cond};
 ghost use mathlib.Core.Path.{_≡_};
-ghost use Prim.Native.Nat.{_%_, _≤_};
+ghost use Prim.Native.Nat.{_/_, _%_, _≤_};
+ghost use lib.Dec.{eqb, ltb};
 ghost use lib.ListN.{length, take, drop};
 ghost use Rattle.rdp_words.specs.Words.{pasted};
 ghost use Rattle.rdp_hazards.specs.Hazards.{Agrees};
+ghost use Rattle.rdp_check.specs.Order.{answer};
 ghost use Rattle.rdp_index.specs.Index.{indexAnswer, roomAnswer};
 ghost use Rattle.rdp_index.specs.Steps.{IndexIs};
 use rdp_command::Answer;
@@ -60,24 +63,34 @@ fn note(table: &[u8; 1024], list: &[u8], made: &mut [u32]) -> Answer
     }
 }
 
+// Refusals 1 and 2 of a list, or 0 at its words.
+pub fn size_answer(list: &[u8]) -> Answer
+    ensures { λ r. ⌜ r ≡ cond (ltb 32768 (length (now (list .entry)))) (answer 1 4096)
+        (cond (eqb (length (now (list .entry)) % 8) 0) (answer 0 (length (now (list .entry)) / 8)) (answer 2 (length (now (list .entry)) / 8))) ⌝ }
+{
+    let len = list.len();
+    if rdp_check::MOST_BYTES < len {
+        return Answer {
+            number: 1,
+            place: rdp_check::MOST_WORDS,
+        };
+    }
+    let place = (len / 8) as u32;
+    if len % 8 != 0 {
+        return Answer { number: 2, place };
+    }
+    Answer { number: 0, place }
+}
+
 // The entries of a list, with 1, 2 and 3 of the list, or 0 and their number.
 pub fn index_into(list: &[u8], made: &mut [u32]) -> Answer
     requires { ⌜ length (now made) ≡ 128 ⌝ }
     ensures { λ r. ⌜ IndexIs (now (list .entry)) r (now (made .exit)) ⌝ }
 {
-    let len = list.len();
-    let words = len / 8;
-    if 32768 < len {
-        return Answer {
-            number: 1,
-            place: 4096,
-        };
-    }
-    if len % 8 != 0 {
-        return Answer {
-            number: 2,
-            place: words as u32,
-        };
+    let size = size_answer(list);
+    let number = size.number;
+    if number != 0 {
+        return size;
     }
     let table = table::step_table();
     note(&table, list, made)

@@ -6,11 +6,11 @@ ghost use Rattle.rdp_hazards.specs.Hazards.{Agrees};
 ghost use Rattle.rdp_repair.specs.Work.{tabulate, bareRank, syncedRank, Bounded, RowIs};
 
 // What each sync adds to a rank: 64 times the cycles that it waits, and 16 times its option.
-const LOAD: u32 = 64 * 25 + 16;
+const LOAD: u32 = 64 * rdp_hazards::LOAD_WAIT + 16;
 
-const TILE: u32 = 64 * 33 + 32;
+const TILE: u32 = 64 * rdp_hazards::TILE_WAIT + 32;
 
-const PIPE: u32 = 64 * 50 + 48;
+const PIPE: u32 = 64 * rdp_hazards::PIPE_WAIT + 48;
 
 // The totals before a command at the sixteen hazard states, and the choices there: 16 times the option, and the next hazards.
 pub struct Row {

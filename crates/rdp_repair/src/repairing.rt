@@ -13,14 +13,10 @@ ghost use Rattle.rdp_repair.specs.Plan.{syncAt};
 ghost use Rattle.rdp_repair.specs.Work.{drops, basisOf, notedNumber, keptWords, notedIn, optionsIn, insertsOf, Below, optionBytes, dueBytes, WholeList, NotedIs, BackwardIs, PlannedIs, WrittenIs, Repairs};
 use crate::Repaired;
 use crate::plan;
+use rdp_hazards::SYNC_LOAD;
+use rdp_hazards::SYNC_PIPE;
+use rdp_hazards::SYNC_TILE;
 use rdp_hazards::table;
-
-// The command numbers of the syncs.
-const SYNC_LOAD: u8 = 0x26;
-
-const SYNC_TILE: u8 = 0x28;
-
-const SYNC_PIPE: u8 = 0x27;
 
 // How many commands a list has.
 pub fn count_commands(list: &[u8], words: usize) -> usize

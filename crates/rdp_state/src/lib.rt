@@ -1,11 +1,12 @@
 // The registers as the words that last set them, and the registers after a list.
 ghost use mathlib.Core.Path.{_≡_};
-ghost use Prim.Native.Nat.{_%_};
-ghost use Rattle.rdp_state.specs.RegisterWords.{wordsAfter};
+ghost use Prim.Native.Nat.{_%_, _<_};
+ghost use Rattle.rdp_state.specs.RegisterWords.{tileIn, wordsAfter};
 ghost use Rattle.rdp_state.specs.Replay.{endOf};
 ghost use Rattle.rdp_state.specs.After.{listStateOf};
 ghost use Rattle.rdp_state.specs.Resume.{resumedOf};
 
+pub mod slots;
 mod updates;
 
 use rdp_check::Checkpoint;
@@ -55,13 +56,20 @@ fn end_of(number: u32, place: u32) -> usize
     place as usize
 }
 
+// The tile that a word names.
+pub fn tile_in(w: u64) -> usize
+    ensures { λ r. ⌜ (r ≡ tileIn w) × (r < 8) ⌝ }
+{
+    ((w >> 24) % 8) as usize
+}
+
 // Stores the first word of a command, by its number, in the slot of the register that it sets; nothing where it sets none. The file has the words that
 // last set each register, and is all zero before the first command. Of the number the low six bits count.
 pub fn store(file: &mut [u64; 32], number: u8, word: u64)
     ensures { λ _. ⌜ now (file .exit) ≡ wordsAfter (now (file .entry)) (number % 64) word ⌝ }
 {
     let slot = updates::slot_of(number % 64, word);
-    if slot == 31 {
+    if slot == slots::NONE {
         return;
     }
     file[slot] = word;
@@ -90,9 +98,9 @@ pub fn resume(before: Standing, bytes: &[u8]) -> Resumed
     ensures { λ r. ⌜ r ≡ resumedOf before (now (bytes .entry)) ⌝ }
 {
     let file = before.words;
-    let other_modes = file[5];
-    let color_image = file[14];
-    let scissor = file[3];
+    let other_modes = file[slots::OTHER_MODES];
+    let color_image = file[slots::COLOR_IMAGE];
+    let scissor = file[slots::SCISSOR];
     let checkpoint = Checkpoint {
         other_modes,
         color_image,

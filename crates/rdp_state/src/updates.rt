@@ -6,10 +6,11 @@ ghost use Rattle.rdp_hazards.specs.Syncs.{commandWait};
 ghost use lib.Dec.{eqb};
 ghost use Rattle.rdp_command.specs.Reads.{colorFields, combinerFields, modeFields, imageFields};
 ghost use Rattle.rdp_check.specs.Commands.{commandsOf};
-ghost use Rattle.rdp_state.specs.RegisterWords.{slotOf, tileIn, registerWords, tileWith, isSet, word, colorsBy, combinerBy, modesBy, imagesBy, tilesBy, registersIn};
+ghost use Rattle.rdp_state.specs.RegisterWords.{slotOf, tileIn, registerWords, tileWith, tileBy, isSet, word, colorsBy, combinerBy, modesBy, imagesBy, tilesBy, registersIn};
 ghost use Rattle.rdp_state.specs.Resume.{waitedAfter};
 ghost use Rattle.rdp_state.specs.Replay.{slotRow, slotEntry, wordsUpTo, waitedUpTo};
 use crate::Replay;
+use crate::slots;
 use rdp_check::*;
 use rdp_command::ColorFields;
 use rdp_command::CombinerFields;
@@ -52,7 +53,7 @@ pub fn slot_of(number: u8, w: u64) -> usize
     ensures { λ r. ⌜ r ≡ slotOf number (tileIn w) ⌝ }
 {
     let entry = slot_entry(number);
-    let tile = ((w >> 24) % 8) as u8;
+    let tile = crate::tile_in(w) as u8;
     (entry % 32 + entry / 32 * tile) as usize
 }
 
@@ -61,9 +62,9 @@ fn wait_of(number: u8) -> u32
     ensures { λ r. ⌜ r ≡ commandWait number ⌝ }
 {
     match number {
-        0x26 => 25,
-        0x28 => 33,
-        0x27 => 50,
+        rdp_hazards::SYNC_LOAD => rdp_hazards::LOAD_WAIT,
+        rdp_hazards::SYNC_TILE => rdp_hazards::TILE_WAIT,
+        rdp_hazards::SYNC_PIPE => rdp_hazards::PIPE_WAIT,
         _ => 0,
     }
 }
@@ -81,7 +82,7 @@ pub fn replay_from(file: [u64; 32], before: u32, list: &[u8], end: usize) -> Rep
     ensures { λ r. ⌜ (r .words ≡ wordsUpTo end 0 file (commandsOf (now (list .entry)))) × (r .waited ≡ waitedUpTo end 0 before (commandsOf (now (list .entry)))) ⌝ }
 {
     let words = list.len() / 8;
-    let unread = file[31];
+    let unread = file[slots::NONE];
     let mut q = file;
     let mut waited = before;
     let mut at: usize = 0;
@@ -90,7 +91,7 @@ pub fn replay_from(file: [u64; 32], before: u32, list: &[u8], end: usize) -> Rep
         let number = head.number;
         let next = at + rdp_words::words_of(number);
         if words < next {
-            q[31] = unread;
+            q[slots::NONE] = unread;
             return Replay { words: q, waited };
         }
         let w = rdp_words::word_at(list, at);
@@ -99,7 +100,7 @@ pub fn replay_from(file: [u64; 32], before: u32, list: &[u8], end: usize) -> Rep
         waited = add_wait(waited, number);
         at = next;
     }
-    q[31] = unread;
+    q[slots::NONE] = unread;
     Replay { words: q, waited }
 }
 
@@ -108,21 +109,21 @@ fn words_in(file: &[u64; 32]) -> RegisterWords
     ensures { λ r. ⌜ r ≡ registerWords (now (file .entry)) ⌝ }
 {
     RegisterWords {
-        key_gb: file[0],
-        key_r: file[1],
-        convert: file[2],
-        scissor: file[3],
-        primitive_depth: file[4],
-        other_modes: file[5],
-        fill_color: file[6],
-        fog_color: file[7],
-        blend_color: file[8],
-        primitive_color: file[9],
-        environment_color: file[10],
-        combine_mode: file[11],
-        texture_image: file[12],
-        depth_image: file[13],
-        color_image: file[14],
+        key_gb: file[slots::KEY_GB],
+        key_r: file[slots::KEY_R],
+        convert: file[slots::CONVERT],
+        scissor: file[slots::SCISSOR],
+        primitive_depth: file[slots::PRIMITIVE_DEPTH],
+        other_modes: file[slots::OTHER_MODES],
+        fill_color: file[slots::FILL_COLOR],
+        fog_color: file[slots::FOG_COLOR],
+        blend_color: file[slots::BLEND_COLOR],
+        primitive_color: file[slots::PRIMITIVE_COLOR],
+        environment_color: file[slots::ENVIRONMENT_COLOR],
+        combine_mode: file[slots::COMBINE_MODE],
+        texture_image: file[slots::TEXTURE_IMAGE],
+        depth_image: file[slots::DEPTH_IMAGE],
+        color_image: file[slots::COLOR_IMAGE],
     }
 }
 
@@ -138,23 +139,23 @@ fn colors_of(file: &[u64; 32], fields: ColorFields) -> Colors
     let environment = fields.environment;
     Colors {
         fill: FillColorRegister {
-            set: file[6] != 0,
+            set: file[slots::FILL_COLOR] != 0,
             color: fields.fill,
         },
         fog: ColorRegister {
-            set: file[7] != 0,
+            set: file[slots::FOG_COLOR] != 0,
             color: fog,
         },
         blend: ColorRegister {
-            set: file[8] != 0,
+            set: file[slots::BLEND_COLOR] != 0,
             color: blend,
         },
         primitive: PrimitiveColorRegister {
-            set: file[9] != 0,
+            set: file[slots::PRIMITIVE_COLOR] != 0,
             color: primitive,
         },
         environment: ColorRegister {
-            set: file[10] != 0,
+            set: file[slots::ENVIRONMENT_COLOR] != 0,
             color: environment,
         },
     }
@@ -169,19 +170,19 @@ fn combiner_of(file: &[u64; 32], fields: CombinerFields) -> Combiner
     let convert = fields.convert;
     Combiner {
         combine: CombineRegister {
-            set: file[11] != 0,
+            set: file[slots::COMBINE_MODE] != 0,
             mode: fields.combine,
         },
         key_gb: KeyGbRegister {
-            set: file[0] != 0,
+            set: file[slots::KEY_GB] != 0,
             key: key_gb,
         },
         key_r: KeyRRegister {
-            set: file[1] != 0,
+            set: file[slots::KEY_R] != 0,
             key: key_r,
         },
         convert: ConvertRegister {
-            set: file[2] != 0,
+            set: file[slots::CONVERT] != 0,
             convert,
         },
     }
@@ -196,15 +197,15 @@ fn modes_of(file: &[u64; 32], fields: ModeFields) -> Modes
     let scissor = fields.scissor;
     Modes {
         other: OtherModesRegister {
-            set: file[5] != 0,
+            set: file[slots::OTHER_MODES] != 0,
             modes: other,
         },
         depth: PrimitiveDepthRegister {
-            set: file[4] != 0,
+            set: file[slots::PRIMITIVE_DEPTH] != 0,
             depth,
         },
         scissor: ScissorRegister {
-            set: file[3] != 0,
+            set: file[slots::SCISSOR] != 0,
             scissor,
         },
     }
@@ -218,15 +219,15 @@ fn images_of(file: &[u64; 32], fields: ImageFields) -> Images
     let texture = fields.texture;
     Images {
         color: ImageRegister {
-            set: file[14] != 0,
+            set: file[slots::COLOR_IMAGE] != 0,
             image: color,
         },
         texture: ImageRegister {
-            set: file[12] != 0,
+            set: file[slots::TEXTURE_IMAGE] != 0,
             image: texture,
         },
         depth: DepthImageRegister {
-            set: file[13] != 0,
+            set: file[slots::DEPTH_IMAGE] != 0,
             address: fields.depth,
         },
     }
@@ -250,17 +251,24 @@ fn tile_of(descriptor: u64, size: u64) -> Tile
     }
 }
 
+fn tile_at(file: &[u64; 32], t: usize) -> Tile
+    requires { ⌜ t < 8 ⌝ }
+    ensures { λ r. ⌜ r ≡ tileBy (isSet (now (file .entry))) (word (now (file .entry))) t ⌝ }
+{
+    tile_of(file[slots::TILES + t], file[slots::TILE_SIZES + t])
+}
+
 fn tiles_of(file: &[u64; 32]) -> [Tile; 8]
     ensures { λ r. ⌜ r ≡ tilesBy (isSet (now (file .entry))) (word (now (file .entry))) ⌝ }
 {
-    let t0 = tile_of(file[15], file[23]);
-    let t1 = tile_of(file[16], file[24]);
-    let t2 = tile_of(file[17], file[25]);
-    let t3 = tile_of(file[18], file[26]);
-    let t4 = tile_of(file[19], file[27]);
-    let t5 = tile_of(file[20], file[28]);
-    let t6 = tile_of(file[21], file[29]);
-    let t7 = tile_of(file[22], file[30]);
+    let t0 = tile_at(file, 0);
+    let t1 = tile_at(file, 1);
+    let t2 = tile_at(file, 2);
+    let t3 = tile_at(file, 3);
+    let t4 = tile_at(file, 4);
+    let t5 = tile_at(file, 5);
+    let t6 = tile_at(file, 6);
+    let t7 = tile_at(file, 7);
     [t0, t1, t2, t3, t4, t5, t6, t7]
 }
 

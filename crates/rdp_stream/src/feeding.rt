@@ -233,7 +233,7 @@ pub fn feed_open(before: Stream, portion: &[u8]) -> Stream
         return after;
     }
     if after.number == 0 {
-        return remember(after, 1, 4096);
+        return remember(after, 1, rdp_check::MOST_WORDS);
     }
     after
 }
@@ -253,7 +253,7 @@ fn room_of(taken: u32) -> usize
     requires { ⌜ taken ≤ 32768 ⌝ }
     ensures { λ r. ⌜ r ≡ 32768 - taken ⌝ }
 {
-    (32768 - taken) as usize
+    rdp_check::MOST_BYTES - taken as usize
 }
 
 // The answer of a record after a portion.

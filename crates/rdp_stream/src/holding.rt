@@ -43,7 +43,7 @@ fn zero_from(bytes: &[u8], from: usize) -> bool
 pub fn counts_damaged(held: u32, taken: u32, number: u32, waited: u32) -> bool
     ensures { λ r. ⌜ r ≡ countsDamaged held taken number waited ⌝ }
 {
-    if 32768 < taken {
+    if rdp_check::MOST_BYTES < taken as usize {
         return true;
     }
     if taken < held {

@@ -3,7 +3,7 @@ ghost use mathlib.Core.Path.{_≡_};
 ghost use Prim.Native.Nat.{_<_, _*_, _+_, _≤_, _^_};
 ghost use lib.ListN.{length, take, drop};
 ghost use denote.Ref.{ptr};
-ghost use Rattle.rdp_words.specs.Words.{halfOf, wordAt, numberIn, overwrite};
+ghost use Rattle.rdp_words.specs.Words.{halfOf, wordAt, bytesOf, numberIn, overwrite};
 ghost use Rattle.rdp_words.specs.Kinds.{wordsOf, isAmong};
 ghost use Rattle.rdp_words.specs.Lengths.{commandWords, wholeWords, suffixOf, suffixStart};
 
@@ -30,6 +30,22 @@ pub fn word_at(list: &[u8], place: usize) -> u64
     }
 }
 
+// The bytes of a word, most significant first.
+pub fn bytes_of(w: u64) -> [u8; 8]
+    ensures { λ r. ⌜ r ≡ bytesOf w ⌝ }
+{
+    [
+        ((w >> 56) % 0x100) as u8,
+        ((w >> 48) % 0x100) as u8,
+        ((w >> 40) % 0x100) as u8,
+        ((w >> 32) % 0x100) as u8,
+        ((w >> 24) % 0x100) as u8,
+        ((w >> 16) % 0x100) as u8,
+        ((w >> 8) % 0x100) as u8,
+        (w % 0x100) as u8,
+    ]
+}
+
 // The number of the command that begins with a word.
 pub fn number_in(w: u64) -> u8
     ensures { λ r. ⌜ r ≡ numberIn w ⌝ }
@@ -44,8 +60,10 @@ pub fn number_at(list: &[u8], place: usize) -> u8
     number_in(word_at(list, place))
 }
 
-// Command numbers, a bit for each: the draws, the commands of more than one word, and the unassigned numbers (#107).
+// Command numbers, a bit for each: the draws, the loads, the commands of more than one word, and the unassigned numbers (#107).
 pub const DRAWS: u64 = 0x0040_0030_0000_FF00;
+
+pub const LOADS: u64 = 0x0019_0000_0000_0000;
 
 pub const LONG: u64 = 0x0000_0030_0000_FF00;
 

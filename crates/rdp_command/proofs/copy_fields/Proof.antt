@@ -1,7 +1,6 @@
 use mathlib.Core.Bool.{not}
 use borrow.Author.Needs.{needs}
 use lib.Dec.{eqb}
-use Rattle.rdp_command.specs.Reads.{otherModesIn}
 use Rattle.rdp_command.proofs.copy_fields.Statement.{statement}
 use Rattle.rdp_command.proofs.copy_fields.Tie as tie
 
@@ -23,6 +22,15 @@ scissor-requires c κs = search needs
 color-image-requires : tie.Need-color-image-requires
 color-image-requires c κs = search needs
 
+perspective-requires : tie.Need-perspective-requires
+perspective-requires c κs = search needs
+
+lookup-requires : tie.Need-lookup-requires
+lookup-requires c κs = search needs
+
+alpha-compare-requires : tie.Need-alpha-compare-requires
+alpha-compare-requires c κs = search needs
+
 returns : tie.Need-returns
 returns c =
     let set = c .before .before .before .before .before .before .before .before .before .before .before .args .set in
@@ -34,9 +42,9 @@ returns c =
       «tile_corner» = c .before .before .before .before .before .before .before .before .before .before .tile-area .ensures i .«upper_left»;
       scissor = c .before .before .before .before .scissor .ensures i;
       image = c .before .before .before .color-image .ensures i;
-      perspective = otherModesIn (set .modes) .texture .«persp_tex_en»;
-      lookup = otherModesIn (set .modes) .texture .«tlut_en»;
-      «alpha_compare» = otherModesIn (set .modes) .pixel .«alpha_compare_en»;
+      perspective = c .before .before .perspective .ensures i;
+      lookup = c .before .lookup .ensures i;
+      «alpha_compare» = c .alpha-compare .ensures i;
     }
 
 pub copy-fields-spec : {M : Type 1} → statement M
@@ -49,4 +57,7 @@ copy-fields-spec =
     tile-descriptor-requires
     scissor-requires
     color-image-requires
+    perspective-requires
+    lookup-requires
+    alpha-compare-requires
     returns)

@@ -13,15 +13,14 @@ number-in-requires c κs = search needs
 cycle-type-requires : tie.Need-cycle-type-requires
 cycle-type-requires c κs = search needs
 
-cast-t8 : tie.Need-cast-t8
-cast-t8 c = search needs
+image-size-requires : tie.Need-image-size-requires
+image-size-requires c κs = search needs
 
 returns : tie.Need-returns
 returns c =
-    let w = c .before .before .word-at .result in
-    (λ i. record { number = c .before .number-in .ensures i; «cycle_type» = c .cycle-type .ensures i; «image_size» = headOf w .«image_size» }) ∙
-    ap headOf (c .before .before .word-at .ensures)
+    (λ i. record { number = c .before .before .number-in .ensures i; «cycle_type» = c .before .cycle-type .ensures i; «image_size» = c .image-size .ensures i }) ∙
+    ap headOf (c .before .before .before .word-at .ensures)
 
 pub head-at-spec : {M : Type 1} → statement M
 head-at-spec =
-    tie.close (tie.spec word-at-requires number-in-requires cycle-type-requires cast-t8 returns)
+    tie.close (tie.spec word-at-requires number-in-requires cycle-type-requires image-size-requires returns)

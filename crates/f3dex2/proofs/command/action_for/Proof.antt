@@ -26,12 +26,18 @@ cast-t9 c = search needs
 mul-t10 : tie.Need-mul-t10
 mul-t10 c = search needs
 
-add-t12 : tie.Need-add-t12
-add-t12 c = search needs
+low-half-requires : tie.Need-low-half-requires
+low-half-requires c κs = search needs
+
+cast-t12 : tie.Need-cast-t12
+cast-t12 c = search needs
+
+add-t13 : tie.Need-add-t13
+add-t13 c = search needs
 
 returns-2 : tie.Need-returns-2
 returns-2 c =
-    rw (c .before .before .due .given .1, eq-eqb _ _ (c .if2 .taken))
+    rw (c .before .before .before .due .given .1, eq-eqb _ _ (c .before .if2 .taken), c .low-half .ensures)
 
 returns-3 : tie.Need-returns-3
 returns-3 c =
@@ -56,7 +62,9 @@ action-for-spec =
     enum-known-due
     cast-t9
     mul-t10
-    add-t12
+    low-half-requires
+    cast-t12
+    add-t13
     returns-2
     returns-3
     returns-4

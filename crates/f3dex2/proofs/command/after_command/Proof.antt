@@ -6,15 +6,15 @@ use Rattle.f3dex2.proofs.command.after_command.Tie as tie
 cast-modes : tie.Need-cast-modes
 cast-modes c = search needs
 
-cast-modes-2 : tie.Need-cast-modes-2
-cast-modes-2 c = search needs
+low-half-requires : tie.Need-low-half-requires
+low-half-requires c κs = search needs
 
 modes-requires : tie.Need-modes-requires
 modes-requires c κs = search needs
 
 returns : tie.Need-returns
 returns c =
-    rw (c .before .if1 .taken) (c .modes .ensures)
+    rw (c .before .before .if1 .taken, ← c .before .low-half .ensures) (c .modes .ensures)
 
 modify-requires : tie.Need-modify-requires
 modify-requires c κs = search needs
@@ -52,7 +52,7 @@ after-command-spec =
     tie.close
     (tie.spec
     cast-modes
-    cast-modes-2
+    low-half-requires
     modes-requires
     returns
     modify-requires

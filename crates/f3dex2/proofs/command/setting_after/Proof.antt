@@ -12,8 +12,8 @@ after-command-requires c κs = search needs
 enum-told-2 : tie.Need-enum-told-2
 enum-told-2 c = search needs
 
-cast-t6 : tie.Need-cast-t6
-cast-t6 c = search needs
+low-half-requires : tie.Need-low-half-requires
+low-half-requires c κs = search needs
 
 enum-told-3 : tie.Need-enum-told-3
 enum-told-3 c = search needs
@@ -29,7 +29,7 @@ returns c =
 returns-2 : tie.Need-returns-2
 unfolding settingAfter
 returns-2 c =
-    rw (c .enum-told2 .given .1)
+    rw (c .before .enum-told2 .given .1, c .low-half .ensures)
 
 returns-3 : tie.Need-returns-3
 unfolding settingAfter
@@ -43,7 +43,7 @@ setting-after-spec =
     enum-told
     after-command-requires
     enum-told-2
-    cast-t6
+    low-half-requires
     enum-told-3
     modes-requires
     returns

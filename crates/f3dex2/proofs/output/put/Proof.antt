@@ -3,36 +3,14 @@ use native.Mathlib.Omega.{arith}
 use denote.Ref.{now}
 use lib.ListN.{length}
 use borrow.Author.Tests.{le-leb, lt-leb}
-use Rattle.rdp_words.specs.Words.{bytesOf}
 use Rattle.rdp_words.proofs.OverwriteLaws.{part-copied}
 use Rattle.f3dex2.specs.Steps.{putWord}
 use borrow.Author.Needs.{needs}
 use Rattle.f3dex2.proofs.output.put.Statement.{statement}
 use Rattle.f3dex2.proofs.output.put.Tie as tie
 
-cast-t12 : tie.Need-cast-t12
-cast-t12 c = search needs
-
-cast-t15 : tie.Need-cast-t15
-cast-t15 c = search needs
-
-cast-t18 : tie.Need-cast-t18
-cast-t18 c = search needs
-
-cast-t21 : tie.Need-cast-t21
-cast-t21 c = search needs
-
-cast-t24 : tie.Need-cast-t24
-cast-t24 c = search needs
-
-cast-t27 : tie.Need-cast-t27
-cast-t27 c = search needs
-
-cast-t30 : tie.Need-cast-t30
-cast-t30 c = search needs
-
-cast-t32 : tie.Need-cast-t32
-cast-t32 c = search needs
+bytes-of-requires : tie.Need-bytes-of-requires
+bytes-of-requires c κs = search needs
 
 mul-at : tie.Need-mul-at
 mul-at c = search needs
@@ -62,11 +40,12 @@ returns : tie.Need-returns
 unfolding putWord
 returns c =
     let copied = c .before .before in
-    let room = copied .before .before .before .if1 .taken in
-    let given = copied .before .before .before .before .before .args in
+    let made = copied .before .before .before in
+    let room = made .before .if1 .taken in
+    let given = made .before .before .before .args in
     let at = 8 * given .k in
-    rw (le-leb (8 * given .k + 8) (length (now (given .out))) (omega (arith, room)))
-    (part-copied (bytesOf (given .w)) (now (given .out)) (copied .copy .last .0) at (at + 8) (omega arith) (omega (arith, room)) (copied .copy .ensures))
+    rw (le-leb (8 * given .k + 8) (length (now (given .out))) (omega (arith, room)), ← made .bytes-of .ensures)
+    (part-copied (made .bytes-of .result) (now (given .out)) (copied .copy .last .0) at (at + 8) (omega arith) (omega (arith, room)) (copied .copy .ensures))
 
 returns-2 : tie.Need-returns-2
 unfolding putWord
@@ -78,14 +57,7 @@ pub put-spec : {M : Type 1} → statement M
 put-spec =
     tie.close
     (tie.spec
-    cast-t12
-    cast-t15
-    cast-t18
-    cast-t21
-    cast-t24
-    cast-t27
-    cast-t30
-    cast-t32
+    bytes-of-requires
     mul-at
     add-end
     sub-copy

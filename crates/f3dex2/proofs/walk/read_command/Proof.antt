@@ -32,14 +32,8 @@ add-on c =
 setting-after-requires : tie.Need-setting-after-requires
 setting-after-requires c κs = search needs
 
-add-t20 : tie.Need-add-t20
-add-t20 c = search needs
-
-add-t20-2 : tie.Need-add-t20-2
-add-t20-2 c = search needs
-
-add-t21 : tie.Need-add-t21
-add-t21 c = search needs
+add-t19 : tie.Need-add-t19
+add-t19 c = search needs
 
 action-for-requires : tie.Need-action-for-requires
 action-for-requires c κs = search needs
@@ -55,6 +49,9 @@ enum-known-x c = search needs
 
 put-requires : tie.Need-put-requires
 put-requires c κs = search needs
+
+add-next : tie.Need-add-next
+add-next c = search needs
 
 enum-told-3 : tie.Need-enum-told-3
 enum-told-3 c = search needs
@@ -112,14 +109,13 @@ read-command-spec =
     word-at-requires
     add-on
     setting-after-requires
-    add-t20
-    add-t20-2
-    add-t21
+    add-t19
     action-for-requires
     enum-told
     enum-told-2
     enum-known-x
     put-requires
+    add-next
     enum-told-3
     enum-known-target
     returns-2
