@@ -3,7 +3,8 @@ ghost use mathlib.Core.Bool.{true, false};
 ghost use mathlib.Core.Path.{_≡_};
 ghost use Prim.Native.Nat.{_+_, _-_, _%_, _<_, _≤_};
 ghost use lib.ListN.{length};
-ghost use Rattle.rdp_texels.specs.Rows.{part, GroupsAre};
+ghost use Rattle.rdp_texels.specs.Run.{part};
+ghost use Rattle.rdp_texels.specs.Rows.{exchanged, GroupsAre};
 ghost use Rattle.rdp_texels.specs.Texels.{turned};
 
 // A byte number with its bit 2 turned over.
@@ -34,22 +35,10 @@ fn head(at: usize, n: usize) -> usize
     if n < short { n } else { short }
 }
 
-// Bytes a up to b of an odd row, out of texture memory.
-fn copy_turned(from: &[u8], s: usize, to: &mut [u8], d: usize, a: usize, b: usize)
-    requires { ⌜ (a ≤ b) × (length (now from) ≡ 4096) × (s + b ≤ 4096) × (d + b ≤ length (now to)) ⌝ }
-    ensures { λ _. ⌜ now (to .exit) ≡ part false true s d a b (now (from .entry)) (now (to .entry)) ⌝ }
-{
-    let mut k = a;
-    while k < b {
-        to[d + k] = from[turn(s + k)];
-        k += 1;
-    }
-}
-
-// Eight bytes out of texture memory. All are read before one is written, so that four of them move at a time.
-fn copy_group(from: &[u8], s: usize, to: &mut [u8], d: usize)
-    requires { ⌜ (s % 8 ≡ 0) × (s + 8 ≤ length (now from)) × (d + 8 ≤ length (now to)) ⌝ }
-    ensures { λ _. ⌜ now (to .exit) ≡ part false true s d 0 8 (now (from .entry)) (now (to .entry)) ⌝ }
+// Eight bytes whose halves exchange places. All are read before one is written, so that four of them move at a time.
+fn exchange_eight(from: &[u8], s: usize, to: &mut [u8], d: usize)
+    requires { ⌜ (s + 8 ≤ length (now from)) × (d + 8 ≤ length (now to)) ⌝ }
+    ensures { λ _. ⌜ now (to .exit) ≡ exchanged s d 8 (now (from .entry)) (now (to .entry)) ⌝ }
 {
     let a = from[s + 4];
     let b = from[s + 5];
@@ -69,17 +58,29 @@ fn copy_group(from: &[u8], s: usize, to: &mut [u8], d: usize)
     to[d + 7] = i;
 }
 
-// Groups of eight bytes of an odd row from a on, as long as they end by b. It answers the byte reached.
-fn copy_groups(from: &[u8], s: usize, to: &mut [u8], d: usize, a: usize, b: usize) -> usize
-    requires { ⌜ (a ≤ b) × ((a < b → (s + a) % 8 ≡ 0) × ((s + b ≤ length (now from)) × (d + b ≤ length (now to)))) ⌝ }
-    ensures { λ r. ⌜ GroupsAre false true s d a b (now (from .entry)) (now (to .entry)) (now (to .exit)) r ⌝ }
+// Groups of eight bytes of a row from a on, as long as they end by b. It answers the byte reached.
+fn exchange_groups(from: &[u8], s: usize, to: &mut [u8], d: usize, a: usize, b: usize) -> usize
+    requires { ⌜ (a ≤ b) × (s + b ≤ length (now from)) × (d + b ≤ length (now to)) ⌝ }
+    ensures { λ r. ⌜ GroupsAre s d a b (now (from .entry)) (now (to .entry)) (now (to .exit)) r ⌝ }
 {
     let mut k = a;
     while 8 <= b - k {
-        copy_group(from, s + k, to, d + k);
+        exchange_eight(from, s + k, to, d + k);
         k += 8;
     }
     k
+}
+
+// Bytes a up to b of an odd row, out of texture memory.
+fn copy_turned(from: &[u8], s: usize, to: &mut [u8], d: usize, a: usize, b: usize)
+    requires { ⌜ (a ≤ b) × (length (now from) ≡ 4096) × (s + b ≤ 4096) × (d + b ≤ length (now to)) ⌝ }
+    ensures { λ _. ⌜ now (to .exit) ≡ part false true s d a b (now (from .entry)) (now (to .entry)) ⌝ }
+{
+    let mut k = a;
+    while k < b {
+        to[d + k] = from[turn(s + k)];
+        k += 1;
+    }
 }
 
 // An odd row of n bytes, out of texture memory.
@@ -89,7 +90,7 @@ fn copy_odd(from: &[u8], s: usize, to: &mut [u8], d: usize, n: usize)
 {
     let first = head(s, n);
     copy_turned(from, s, to, d, 0, first);
-    let last = copy_groups(from, s, to, d, first, n);
+    let last = exchange_groups(from, s, to, d, first, n);
     copy_turned(from, s, to, d, last, n);
 }
 
@@ -118,42 +119,6 @@ fn load_turned(from: &[u8], s: usize, to: &mut [u8], d: usize, a: usize, b: usiz
     }
 }
 
-// Eight bytes into texture memory.
-fn load_group(from: &[u8], s: usize, to: &mut [u8], d: usize)
-    requires { ⌜ (d % 8 ≡ 0) × (s + 8 ≤ length (now from)) × (d + 8 ≤ length (now to)) ⌝ }
-    ensures { λ _. ⌜ now (to .exit) ≡ part true false s d 0 8 (now (from .entry)) (now (to .entry)) ⌝ }
-{
-    let a = from[s];
-    let b = from[s + 1];
-    let c = from[s + 2];
-    let e = from[s + 3];
-    let f = from[s + 4];
-    let g = from[s + 5];
-    let h = from[s + 6];
-    let i = from[s + 7];
-    to[d + 4] = a;
-    to[d + 5] = b;
-    to[d + 6] = c;
-    to[d + 7] = e;
-    to[d] = f;
-    to[d + 1] = g;
-    to[d + 2] = h;
-    to[d + 3] = i;
-}
-
-// Groups of eight bytes of an odd row from a on, as long as they end by b. It answers the byte reached.
-fn load_groups(from: &[u8], s: usize, to: &mut [u8], d: usize, a: usize, b: usize) -> usize
-    requires { ⌜ (a ≤ b) × ((a < b → (d + a) % 8 ≡ 0) × ((s + b ≤ length (now from)) × (d + b ≤ length (now to)))) ⌝ }
-    ensures { λ r. ⌜ GroupsAre true false s d a b (now (from .entry)) (now (to .entry)) (now (to .exit)) r ⌝ }
-{
-    let mut k = a;
-    while 8 <= b - k {
-        load_group(from, s + k, to, d + k);
-        k += 8;
-    }
-    k
-}
-
 // An odd row of n bytes, into texture memory.
 fn load_odd(from: &[u8], s: usize, to: &mut [u8], d: usize, n: usize)
     requires { ⌜ (length (now to) ≡ 4096) × (d + n ≤ 4096) × (s + n ≤ length (now from)) ⌝ }
@@ -161,7 +126,7 @@ fn load_odd(from: &[u8], s: usize, to: &mut [u8], d: usize, n: usize)
 {
     let first = head(d, n);
     load_turned(from, s, to, d, 0, first);
-    let last = load_groups(from, s, to, d, first, n);
+    let last = exchange_groups(from, s, to, d, first, n);
     load_turned(from, s, to, d, last, n);
 }
 

@@ -9,7 +9,7 @@ ghost use mathlib.Core.Path.{_≡_};
 ghost use Prim.Native.Nat.{_+_, _-_, _*_, _/_, _<_, _≤_};
 ghost use lib.Dec.{leb};
 ghost use Rattle.rdp_texels.specs.Texels.{aheadOf, behindOf};
-ghost use Rattle.rdp_texels.specs.Refusals.{runFits};
+ghost use Rattle.rdp_texels.specs.Run.{runFits};
 ghost use Rattle.rdp_texels.specs.Rows.{SmallGrid, SmallSpan, SmallStep, stepOf, loadGrid, loadSpan, copyGrid, copySpan, gridOf, gridOdd, bottomFrom, lies, spanSome, cornersRefusal};
 
 // A whole number's part above 0, and its part below.

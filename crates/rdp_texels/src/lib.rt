@@ -4,7 +4,8 @@ ghost use lib.ListN.{length};
 ghost use Rattle.rdp_texels.specs.Texels.{loaded, copied};
 ghost use Rattle.rdp_texels.specs.Load.{loadNeeds, loadMoves};
 ghost use Rattle.rdp_texels.specs.Copy.{copyMoves};
-ghost use Rattle.rdp_texels.specs.Refusals.{sized, runTexture, loadRefusal, copyRefusal, loadTexture, copyMemory};
+ghost use Rattle.rdp_texels.specs.Run.{runTexture};
+ghost use Rattle.rdp_texels.specs.Refusals.{sized, loadRefusal, copyRefusal, loadTexture, copyMemory};
 
 mod bytes;
 mod grids;
@@ -61,8 +62,8 @@ pub fn load_refusal(load: LoadFields, start: u64, len: usize) -> u32
     grids::corners(grids::load_grid(load), grids::load_span(load), start, len)
 }
 
-// Loads n bytes of memory from index s on to byte d of texture memory on, which exchange the halves of each eight where the row is odd. Where not all of both
-// are there, nothing is loaded.
+// Loads n bytes of memory from index s on to byte d of texture memory on, which exchange the halves of each eight where the row is odd. Where texture
+// memory has not 4,096 bytes, or not all of both are there, nothing is loaded.
 pub fn load_run(memory: &[u8], s: usize, texture: &mut [u8], d: usize, n: usize, odd: bool)
     ensures { λ _. ⌜ now (texture .exit) ≡ runTexture s d n odd (now (memory .entry)) (now (texture .entry)) ⌝ }
 {
