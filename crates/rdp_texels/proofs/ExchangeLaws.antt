@@ -1,10 +1,10 @@
 -- Groups of eight bytes whose halves exchange places, as parts of an odd row. Assumes nothing.
 use mathlib.Core.Path.{_≡_, refl, sym, ap, _∙_}
 use mathlib.Core.Bool.{Bool, true, false}
-use mathlib.Core.List.{List}
+use mathlib.Core.List.{List, [], _∷_}
 use Prim.Native.Nat.{ℕ, _+_, _-_, _*_, _/_, _%_, _≤_, _<_}
 use native.Mathlib.Omega.{arith}
-use lib.ListN.{length, getD, set, drop}
+use lib.ListN.{length, getD, set, drop, length-set}
 use lib.Seq.{getD-drop, drop-drop}
 use Rattle.rdp_pixels.specs.Overlay.{within}
 use Rattle.rdp_pixels.proofs.BoolLaws.{same-truth}
@@ -15,17 +15,28 @@ use Rattle.rdp_texels.specs.Rows.{exchanged, GroupsAre}
 use Rattle.rdp_texels.proofs.TurnLaws.{turned-twice, turned-below, turned-above, turned-on}
 use Rattle.rdp_texels.proofs.PartLaws.{overlay-same, part-none, part-joined, part-from, part-eight, length-part}
 
-module _ (s d : ℕ) (from to : List ℕ) where
+-- stores one after the other: each an index and a value
+abbrev pub stored : List ℕ → List (ℕ × ℕ) → List ℕ
+stored l [] = l
+stored l (p ∷ ps) = stored (set l (p .0) (p .1)) ps
+
+pub length-stored : (l : List ℕ) (ps : List (ℕ × ℕ)) → length (stored l ps) ≡ length l
+length-stored l [] = refl
+length-stored l (p ∷ ps) = length-stored (set l (p .0) (p .1)) ps ∙ length-set l (p .0) (p .1)
+
+module _ (s d : ℕ) (from : List ℕ) where
+  -- the stores of eight bytes
+  abbrev pub eight : List (ℕ × ℕ)
+  eight =
+      (d, getD from (s + 4) 0) ∷ (d + 1, getD from (s + 5) 0) ∷ (d + 2, getD from (s + 6) 0) ∷ (d + 3, getD from (s + 7) 0)
+      ∷ (d + 4, getD from s 0) ∷ (d + 5, getD from (s + 1) 0) ∷ (d + 6, getD from (s + 2) 0) ∷ (d + 7, getD from (s + 3) 0) ∷ []
+
   byte : (j : ℕ) → getD from (s + j) 0 ≡ getD (drop s from) j 0
   byte j = sym (getD-drop s from j 0)
 
-  -- eight stores
-  pub exchanged-eight : d + 8 ≤ length to
-      → set (set (set (set (set (set (set (set to d (getD from (s + 4) 0)) (d + 1) (getD from (s + 5) 0)) (d + 2) (getD from (s + 6) 0))
-      (d + 3) (getD from (s + 7) 0)) (d + 4) (getD from s 0)) (d + 5) (getD from (s + 1) 0)) (d + 6) (getD from (s + 2) 0)) (d + 7) (getD from (s + 3) 0)
-      ≡ exchanged s d 8 from to
+  pub exchanged-eight : (to : List ℕ) → d + 8 ≤ length to → stored to eight ≡ exchanged s d 8 from to
   unfolding turned
-  exchanged-eight h =
+  exchanged-eight to h =
       let first : getD from s 0 ≡ getD from (s + 0) 0 = ap (λ (j : ℕ). getD from j 0) (omega arith) in
       part-eight false true 0 d (drop s from) to (λ i l. omega arith)
       (omega arith) (byte 4) refl (byte 5) refl (byte 6) refl (byte 7) refl (first ∙ byte 0) refl (byte 1) refl (byte 2) refl (byte 3)
