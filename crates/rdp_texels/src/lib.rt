@@ -15,6 +15,9 @@ mod rows;
 use rdp_command::CopyFields;
 use rdp_command::LoadFields;
 
+// The size of texture memory.
+pub const TEXTURE_BYTES: usize = 4096;
+
 // Texels by column x and row y: memory address `address + y pitch + 2 x`, texture byte `ahead + y line + 2 x - behind`, turned where y + turn is odd.
 pub struct Grid {
     pub address: u64,
@@ -91,7 +94,7 @@ pub fn load_tile(memory: &[u8], start: u64, texture: &mut [u8], load: LoadFields
     ensures answer { λ r. ⌜ r ≡ sized (length (now (texture .entry))) (loadRefusal load start (length (now (memory .entry)))) ⌝ }
     ensures texture { λ _. ⌜ now (texture .exit) ≡ loadTexture load start (now (memory .entry)) (now (texture .entry)) ⌝ }
 {
-    if texture.len() != 4096 {
+    if texture.len() != TEXTURE_BYTES {
         return 16;
     }
     let number = load_refusal(load, start, memory.len());
@@ -130,7 +133,7 @@ pub fn copy_rectangle(texture: &[u8], memory: &mut [u8], start: u64, copy: CopyF
     ensures answer { λ r. ⌜ r ≡ sized (length (now (texture .entry))) (copyRefusal copy start (length (now (memory .entry)))) ⌝ }
     ensures memory { λ _. ⌜ now (memory .exit) ≡ copyMemory copy start (now (texture .entry)) (now (memory .entry)) ⌝ }
 {
-    if texture.len() != 4096 {
+    if texture.len() != TEXTURE_BYTES {
         return 16;
     }
     let refusal = copy_refusal(copy, start, memory.len());
