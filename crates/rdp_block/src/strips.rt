@@ -75,7 +75,12 @@ pub fn strip_refusal(strip: Strip, start: u64, len: usize) -> u32
     if !flat_in(strip.address, strip.count, start, len as u64) {
         return 12;
     }
-    if !flat_in(strip.ahead, strip.count, 0, rdp_texels::TEXTURE_BYTES as u64) {
+    if !flat_in(
+        strip.ahead,
+        strip.count,
+        0,
+        rdp_texels::TEXTURE_BYTES as u64,
+    ) {
         return 18;
     }
     0

@@ -1,6 +1,6 @@
 -- Groups of eight bytes whose halves exchange places, as parts of an odd row. Assumes nothing.
 use mathlib.Core.Path.{_≡_, refl, sym, ap, _∙_}
-use mathlib.Core.Bool.{Bool, true, false}
+use mathlib.Core.Bool.{Bool, true, false, not, cond}
 use mathlib.Core.List.{List, [], _∷_}
 use Prim.Native.Nat.{ℕ, _+_, _-_, _*_, _/_, _%_, _≤_, _<_}
 use native.Mathlib.Omega.{arith}
@@ -149,16 +149,12 @@ module _ (turnTo turnFrom : Bool) (s d : ℕ) (from before : List ℕ) where
       ∙ part-joined turnTo turnFrom s d from before 0 first r (omega arith) h)
       ∙ part-joined turnTo turnFrom s d from before 0 r n (omega arith) k
 
-pub copied-three : {s d first n r : ℕ} {from : List ℕ} (before : List ℕ) {one two end : List ℕ} → (first < n → (s + first) % 8 ≡ 0)
-    → one ≡ part false true s d 0 first from before → GroupsAre s d first n from one two r → end ≡ part false true s d r n from two
-    → end ≡ part false true s d 0 n from before
-copied-three {s} {d} {first} {n} {r} {from} before {one} whole a g c =
-    three false true s d from before a (g .start) (g .end)
-    (g .taken ∙ exchanged-from (s + first) (d + first) (r - first) from one (λ h. whole (omega (arith, g .end)))) c
-
-pub loaded-three : {s d first n r : ℕ} {from : List ℕ} (before : List ℕ) {one two end : List ℕ} → (first < n → (d + first) % 8 ≡ 0)
-    → one ≡ part true false s d 0 first from before → GroupsAre s d first n from one two r → end ≡ part true false s d r n from two
-    → end ≡ part true false s d 0 n from before
-loaded-three {s} {d} {first} {n} {r} {from} before {one} whole a g c =
+pub odd-three : (into : Bool) {s d first n r : ℕ} {from : List ℕ} (before : List ℕ) {one two end : List ℕ} → (first < n → (cond into d s + first) % 8 ≡ 0)
+    → one ≡ part into (not into) s d 0 first from before → GroupsAre s d first n from one two r → end ≡ part into (not into) s d r n from two
+    → end ≡ part into (not into) s d 0 n from before
+odd-three true {s} {d} {first} {n} {r} {from} before {one} whole a g c =
     three true false s d from before a (g .start) (g .end)
     (g .taken ∙ exchanged-to (s + first) (d + first) (r - first) from one (g .whole) (λ h. whole (omega (arith, g .end)))) c
+odd-three false {s} {d} {first} {n} {r} {from} before {one} whole a g c =
+    three false true s d from before a (g .start) (g .end)
+    (g .taken ∙ exchanged-from (s + first) (d + first) (r - first) from one (λ h. whole (omega (arith, g .end)))) c

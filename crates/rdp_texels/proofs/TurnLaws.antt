@@ -1,6 +1,6 @@
 -- Bit 2 of a byte number turned over. Assumes nothing.
 use mathlib.Core.Path.{_≡_, refl}
-use mathlib.Core.Bool.{Bool, true, false}
+use mathlib.Core.Bool.{Bool, true, false, not}
 use Prim.Native.Nat.{ℕ, _+_, _*_, _/_, _%_, _≤_, _<_}
 use native.Mathlib.Omega.{arith}
 use Rattle.rdp_texels.specs.Texels.{turned, inRow}
@@ -63,5 +63,13 @@ module _ (d : ℕ) (whole : d % 8 ≡ 0) where
   group-high i h = let at : d ≡ 8 * (d / 8) = omega arith in omega arith
 
 -- a byte of texture memory stays in it
-pub turned-inside : (b : ℕ) → b < 4096 → turned b < 4096
-turned-inside b h = turned-below b 512 h
+turned-inside : (b n : ℕ) → n ≡ 4096 → b < n → turned b < n
+turned-inside b n e h = rw e (turned-below b 512 (rw e at h))
+
+pub inside-to : (into : Bool) (b n : ℕ) → (into ≡ true → n ≡ 4096) → b < n → inRow into b < n
+inside-to true b n e h = turned-inside b n (e refl) h
+inside-to false b n e h = h
+
+pub inside-from : (into : Bool) (b n : ℕ) → (into ≡ false → n ≡ 4096) → b < n → inRow (not into) b < n
+inside-from true b n e h = h
+inside-from false b n e h = turned-inside b n (e refl) h

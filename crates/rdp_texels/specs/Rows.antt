@@ -28,6 +28,10 @@ pub record GroupsAre (s d a b : ℕ) (from before after : List ℕ) (r : ℕ) : 
   pub whole : (r - a) % 8 ≡ 0
   pub taken : after ≡ exchanged (s + a) (d + a) (r - a) from before
 
+-- a row goes into texture memory, of 4,096 bytes, or comes out of it
+abbrev pub TurnsTexture : Bool → ℕ → ℕ → Type 0
+TurnsTexture into from to = (into ≡ true → to ≡ 4096) × (into ≡ false → from ≡ 4096)
+
 -- ---- a grid of texels: each column is 2 bytes on, each row `pitch` bytes of memory and `line` bytes of texture memory on
 
 abbrev pub gridAddress : Grid → ℕ → ℕ → ℕ

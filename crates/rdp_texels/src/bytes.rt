@@ -1,18 +1,21 @@
 // A row of texels as bytes: an even row is copied as it stands, an odd one with the halves of each eight bytes of texture memory exchanged.
-ghost use mathlib.Core.Bool.{true, false};
+ghost use mathlib.Core.Bool.{false, not, cond};
 ghost use mathlib.Core.Path.{_≡_};
 ghost use Prim.Native.Nat.{_+_, _-_, _%_, _<_, _≤_};
 ghost use lib.ListN.{length};
 ghost use Rattle.rdp_texels.specs.Run.{part};
-ghost use Rattle.rdp_texels.specs.Rows.{exchanged, GroupsAre};
-ghost use Rattle.rdp_texels.specs.Texels.{turned};
+ghost use Rattle.rdp_texels.specs.Rows.{exchanged, GroupsAre, TurnsTexture};
+ghost use Rattle.rdp_texels.specs.Texels.{inRow};
 
-// A byte number with its bit 2 turned over.
-fn turn(b: usize) -> usize
-    requires { ⌜ b < 4294967296 ⌝ }
-    ensures { λ r. ⌜ r ≡ turned b ⌝ }
+// A byte number, with its bit 2 turned over in an odd row of texture memory.
+fn turn(b: usize, odd: bool) -> usize
+    requires { ⌜ b < 9223372036854775808 ⌝ }
+    ensures { λ r. ⌜ r ≡ inRow odd b ⌝ }
 {
-    b + 4 - b / 4 % 2 * 8
+    if odd {
+        return b + 4 - b / 4 % 2 * 8;
+    }
+    b
 }
 
 // Copies n bytes.
@@ -71,27 +74,28 @@ fn exchange_groups(from: &[u8], s: usize, to: &mut [u8], d: usize, a: usize, b: 
     k
 }
 
-// Bytes a up to b of an odd row, out of texture memory.
-fn copy_turned(from: &[u8], s: usize, to: &mut [u8], d: usize, a: usize, b: usize)
-    requires { ⌜ (a ≤ b) × (length (now from) ≡ 4096) × (s + b ≤ 4096) × (d + b ≤ length (now to)) ⌝ }
-    ensures { λ _. ⌜ now (to .exit) ≡ part false true s d a b (now (from .entry)) (now (to .entry)) ⌝ }
+// Bytes a up to b of an odd row, one by one, into texture memory or out of it.
+fn move_turned(from: &[u8], s: usize, to: &mut [u8], d: usize, a: usize, b: usize, into: bool)
+    requires { ⌜ (a ≤ b) × (s + b ≤ length (now from)) × (d + b ≤ length (now to)) × TurnsTexture into (length (now from)) (length (now to)) ⌝ }
+    ensures { λ _. ⌜ now (to .exit) ≡ part into (not into) s d a b (now (from .entry)) (now (to .entry)) ⌝ }
 {
     let mut k = a;
     while k < b {
-        to[d + k] = from[turn(s + k)];
+        let at = turn(d + k, into);
+        to[at] = from[turn(s + k, !into)];
         k += 1;
     }
 }
 
-// An odd row of n bytes, out of texture memory.
-fn copy_odd(from: &[u8], s: usize, to: &mut [u8], d: usize, n: usize)
-    requires { ⌜ (length (now from) ≡ 4096) × (s + n ≤ 4096) × (d + n ≤ length (now to)) ⌝ }
-    ensures { λ _. ⌜ now (to .exit) ≡ part false true s d 0 n (now (from .entry)) (now (to .entry)) ⌝ }
+// An odd row of n bytes, into texture memory or out of it. The first ones, up to where eight bytes of texture memory start, and the last ones go one by one.
+fn move_odd(from: &[u8], s: usize, to: &mut [u8], d: usize, first: usize, n: usize, into: bool)
+    requires { ⌜ (first ≤ n) × (first < n → (cond into d s + first) % 8 ≡ 0) ⌝ }
+    requires { ⌜ (s + n ≤ length (now from)) × (d + n ≤ length (now to)) × TurnsTexture into (length (now from)) (length (now to)) ⌝ }
+    ensures { λ _. ⌜ now (to .exit) ≡ part into (not into) s d 0 n (now (from .entry)) (now (to .entry)) ⌝ }
 {
-    let first = head(s, n);
-    copy_turned(from, s, to, d, 0, first);
+    move_turned(from, s, to, d, 0, first, into);
     let last = exchange_groups(from, s, to, d, first, n);
-    copy_turned(from, s, to, d, last, n);
+    move_turned(from, s, to, d, last, n, into);
 }
 
 // A row of n bytes out of texture memory.
@@ -100,34 +104,10 @@ pub fn copy_row(from: &[u8], s: usize, to: &mut [u8], d: usize, n: usize, odd: b
     ensures { λ _. ⌜ now (to .exit) ≡ part false odd s d 0 n (now (from .entry)) (now (to .entry)) ⌝ }
 {
     if odd {
-        copy_odd(from, s, to, d, n);
+        move_odd(from, s, to, d, head(s, n), n, false);
         return;
     }
     copy_even(from, s, to, d, n);
-}
-
-// Bytes a up to b of an odd row, into texture memory.
-fn load_turned(from: &[u8], s: usize, to: &mut [u8], d: usize, a: usize, b: usize)
-    requires { ⌜ (a ≤ b) × (length (now to) ≡ 4096) × (d + b ≤ 4096) × (s + b ≤ length (now from)) ⌝ }
-    ensures { λ _. ⌜ now (to .exit) ≡ part true false s d a b (now (from .entry)) (now (to .entry)) ⌝ }
-{
-    let mut k = a;
-    while k < b {
-        let at = turn(d + k);
-        to[at] = from[s + k];
-        k += 1;
-    }
-}
-
-// An odd row of n bytes, into texture memory.
-fn load_odd(from: &[u8], s: usize, to: &mut [u8], d: usize, n: usize)
-    requires { ⌜ (length (now to) ≡ 4096) × (d + n ≤ 4096) × (s + n ≤ length (now from)) ⌝ }
-    ensures { λ _. ⌜ now (to .exit) ≡ part true false s d 0 n (now (from .entry)) (now (to .entry)) ⌝ }
-{
-    let first = head(d, n);
-    load_turned(from, s, to, d, 0, first);
-    let last = exchange_groups(from, s, to, d, first, n);
-    load_turned(from, s, to, d, last, n);
 }
 
 // A row of n bytes into texture memory.
@@ -136,7 +116,7 @@ pub fn load_row(from: &[u8], s: usize, to: &mut [u8], d: usize, n: usize, odd: b
     ensures { λ _. ⌜ now (to .exit) ≡ part odd false s d 0 n (now (from .entry)) (now (to .entry)) ⌝ }
 {
     if odd {
-        load_odd(from, s, to, d, n);
+        move_odd(from, s, to, d, head(d, n), n, true);
         return;
     }
     copy_even(from, s, to, d, n);

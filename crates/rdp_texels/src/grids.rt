@@ -240,7 +240,13 @@ pub fn corners(grid: Grid, span: Span, start: u64, len: usize) -> u32
     if !lies_in(grid.address, grid.pitch, span, start, len as u64) {
         return 12;
     }
-    if !lies_in(grid.ahead, grid.line, span, grid.behind, TEXTURE_BYTES as u64) {
+    if !lies_in(
+        grid.ahead,
+        grid.line,
+        span,
+        grid.behind,
+        TEXTURE_BYTES as u64,
+    ) {
         return 18;
     }
     0
