@@ -1,5 +1,5 @@
 -- Groups of eight bytes whose halves exchange places, as parts of an odd row. Assumes nothing.
-use mathlib.Core.Path.{_≡_, refl, sym, ap, _∙_}
+use mathlib.Core.Path.{_≡_, refl, sym, ap, subst, _∙_}
 use mathlib.Core.Bool.{Bool, true, false, not, cond}
 use mathlib.Core.List.{List, [], _∷_}
 use Prim.Native.Nat.{ℕ, _+_, _-_, _*_, _/_, _%_, _≤_, _<_}
@@ -13,7 +13,7 @@ use Rattle.rdp_texels.specs.Texels.{turned}
 use Rattle.rdp_texels.specs.Run.{part}
 use Rattle.rdp_texels.specs.Rows.{exchanged, GroupsAre}
 use Rattle.rdp_texels.proofs.TurnLaws.{turned-twice, turned-below, turned-above, turned-on}
-use Rattle.rdp_texels.proofs.PartLaws.{overlay-same, part-none, part-joined, part-from, part-eight, length-part}
+use Rattle.rdp_texels.proofs.PartLaws.{overlay-same, part-joined, part-from, part-eight, Taken, taken-none, taken-part}
 
 -- stores one after the other: each an index and a value
 abbrev pub stored : List ℕ → List (ℕ × ℕ) → List ℕ
@@ -95,16 +95,15 @@ module _ (s d n : ℕ) (from to : List ℕ) where
 pub record Exchanged (s d a k : ℕ) (from before after : List ℕ) : Type 0 where
   pub start : a ≤ k
   pub whole : (k - a) % 8 ≡ 0
-  pub long : length after ≡ length before
-  pub is : after ≡ exchanged (s + a) (d + a) (k - a) from before
+  pub taken : Taken false true 0 (d + a) 0 (k - a) (drop (s + a) from) before after
 
 pub exchanged-none : {s d a : ℕ} {from before : List ℕ} → Exchanged s d a a from before before
 exchanged-none {s} {d} {a} {from} {before} =
+    let none : 0 ≡ a - a = omega arith in
     record {
       start = omega arith;
       whole = omega arith;
-      long = refl;
-      is = part-none false true 0 (d + a) (drop (s + a) from) before 0 (a - a) (omega arith);
+      taken = subst (λ (n : ℕ). Taken false true 0 (d + a) 0 n (drop (s + a) from) before before) none taken-none;
     }
 
 -- eight bytes more
@@ -114,22 +113,20 @@ exchanged-more {s} {d} {a} {k} {from} {before} {after} x {then} e =
     record {
       start = omega (arith, x .start);
       whole = omega (arith, x .start, x .whole);
-      long = ap length e ∙ length-part false true 0 (d + k) (drop (s + k) from) after 0 8 ∙ x .long;
-      is =
+      taken =
           let n : ℕ = k - a in
           let h = x .start in
           let is-s : s + k ≡ s + a + n = omega arith in
           let is-d : d + k ≡ d + a + n = omega arith in
           let is-n : n + 8 ≡ k + 8 - a = omega arith in
-          e
+          let zero : n ≡ 0 + n = omega arith in
+          subst (λ (m : ℕ). Taken false true 0 (d + a) 0 m (drop (s + a) from) before then) is-n
+          (taken-part (x .taken) (omega arith) 8
+          (e
           ∙ ap (λ (l : List ℕ). part false true 0 (d + k) 0 8 l after) (ap (λ (i : ℕ). drop i from) is-s ∙ sym (drop-drop n (s + a) from))
           ∙ exchanged-from n (d + k) 8 (drop (s + a) from) after (λ _. x .whole)
           ∙ ap (λ (i : ℕ). part false true n i 0 8 (drop (s + a) from) after) is-d
-          ∙ (let zero : n ≡ 0 + n = omega arith in ap (λ (i : ℕ). part false true i (d + a + n) 0 8 (drop (s + a) from) after) zero)
-          ∙ part-from false true 0 (d + a) n 8 (drop (s + a) from) after
-          ∙ ap (part false true 0 (d + a) n (n + 8) (drop (s + a) from)) (x .is)
-          ∙ part-joined false true 0 (d + a) (drop (s + a) from) before 0 n (n + 8) (omega arith) (omega arith)
-          ∙ ap (λ (i : ℕ). part false true 0 (d + a) 0 i (drop (s + a) from) before) is-n;
+          ∙ ap (λ (i : ℕ). part false true i (d + a + n) 0 8 (drop (s + a) from) after) zero));
     }
 
 -- ---- an odd row in three parts, the middle one in groups

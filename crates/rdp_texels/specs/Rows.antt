@@ -17,7 +17,8 @@ use Rattle.rdp_texels.specs.Run.{part}
 
 -- ---- bytes in groups of eight
 
--- n bytes from index s on of `from` to index d on of `to`, where the halves of each eight exchange places: byte j of them is byte j with bit 2 turned over
+-- n bytes from index s on of `from` to index d on of `to`, where the halves of each eight exchange places: byte j is taken from byte j with its bit 2 turned
+-- over
 abbrev pub exchanged : ℕ → ℕ → ℕ → List ℕ → List ℕ → List ℕ
 exchanged s d n from to = part false true 0 d 0 n (drop s from) to
 

@@ -30,7 +30,7 @@ pub fn copy_even(from: &[u8], s: usize, to: &mut [u8], d: usize, n: usize)
     }
 }
 
-// The bytes of a row from a up to the first that starts eight bytes of texture memory, or to its end.
+// How many of the n bytes of a row stand before the first that starts eight bytes of texture memory; `at` is the first one's byte there.
 fn head(at: usize, n: usize) -> usize
     ensures { λ r. ⌜ (r ≤ n) × ((r < n → (at + r) % 8 ≡ 0) × (r < 8)) ⌝ }
 {

@@ -25,7 +25,7 @@ add-exchange-eight-2 : tie.Need-add-exchange-eight-2 Inv-loop μ-loop
 add-exchange-eight-2 c = search needs
 
 exchange-eight-requires : tie.Need-exchange-eight-requires Inv-loop μ-loop
-exchange-eight-requires c κs = (omega arith, omega (arith, c .before .before .loop .inv .1 .long))
+exchange-eight-requires c κs = (omega arith, omega (arith, c .before .before .loop .inv .1 .taken .long))
 
 add-k : tie.Need-add-k Inv-loop μ-loop
 add-k c = search needs
@@ -37,10 +37,10 @@ loop-again : tie.Need-loop-again Inv-loop μ-loop
 loop-again c = (search needs, exchanged-more (c .before .before .before .before .before .loop .inv .1) (c .before .before .exchange-eight .ensures))
 
 same-length : tie.Need-same-length Inv-loop μ-loop
-same-length c = c .before .loop .inv .1 .long
+same-length c = c .before .loop .inv .1 .taken .long
 
 returns : tie.Need-returns Inv-loop μ-loop
-returns c = let l = c .before .loop in record { start = l .inv .1 .start; end = l .inv .0; whole = l .inv .1 .whole; taken = l .inv .1 .is }
+returns c = let l = c .before .loop in record { start = l .inv .1 .start; end = l .inv .0; whole = l .inv .1 .whole; taken = l .inv .1 .taken .is }
 
 pub exchange-groups-spec : {M : Type 1} → statement M
 exchange-groups-spec =
