@@ -10,8 +10,8 @@ use lib.ListN.{length}
 use Rattle.rdp_command.specs.declared.LoadFields.{LoadFields}
 use Rattle.rdp_texels.specs.declared.Grid.{Grid}
 use Rattle.rdp_texels.specs.Texels.{Move, movesOver, loaded}
-use Rattle.rdp_texels.specs.Refusals.{runTexture}
-use Rattle.rdp_texels.specs.Rows.{part, gridAddress, gridAhead, gridMove, gridOdd}
+use Rattle.rdp_texels.specs.Run.{part, runTexture}
+use Rattle.rdp_texels.specs.Rows.{gridAddress, gridAhead, gridMove, gridOdd}
 use Rattle.rdp_texels.proofs.SpanLaws.{over-append, over-cong}
 use Rattle.rdp_texels.proofs.LinkLaws.{same-move}
 use Rattle.rdp_texels.proofs.ActLaws.{run-there}

@@ -8,7 +8,7 @@ use native.Mathlib.Omega.{arith}
 use lib.Dec.{eqb}
 use lib.ListN.{length, getD, set}
 use Rattle.rdp_texels.specs.Texels.{inRow}
-use Rattle.rdp_texels.specs.Rows.{part}
+use Rattle.rdp_texels.specs.Run.{part}
 use Rattle.rdp_texels.proofs.TurnLaws.{group-low, group-high, row-below}
 use Rattle.rdp_texels.proofs.PartLaws.{part-eight}
 

@@ -41,7 +41,7 @@ pub fn load_block(memory: &[u8], start: u64, texture: &mut [u8], load: LoadField
     ensures answer { λ r. ⌜ r ≡ sized (length (now (texture .entry))) (blockRefusal load start (length (now (memory .entry)))) ⌝ }
     ensures texture { λ _. ⌜ now (texture .exit) ≡ blockTexture load start (now (memory .entry)) (now (texture .entry)) ⌝ }
 {
-    if texture.len() != 4096 {
+    if texture.len() != rdp_texels::TEXTURE_BYTES {
         return 16;
     }
     let number = block_refusal(load, start, memory.len());

@@ -8,7 +8,7 @@ ghost use Prim.Native.Nat.{_+_, _-_, _*_, _/_, _%_, _<_, _≤_};
 ghost use lib.Dec.{eqb};
 ghost use lib.ListN.{length};
 ghost use Rattle.rdp_texels.specs.Texels.{loaded};
-ghost use Rattle.rdp_texels.specs.Rows.{part};
+ghost use Rattle.rdp_texels.specs.Run.{part};
 ghost use Rattle.rdp_block.specs.Strips.{Fits, LineEnds, stripMoves};
 
 // Where the first half of a word goes in its eight bytes: behind the other half where the word is turned.

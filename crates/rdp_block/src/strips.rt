@@ -1,6 +1,7 @@
 // A Load Block as a strip of texels: what it needs, and whether its ends lie inside memory and texture memory.
 use crate::Strip;
 use rdp_command::LoadFields;
+use rdp_texels::TEXTURE_BYTES;
 ghost use mathlib.Core.Path.{_≡_};
 ghost use Prim.Native.Nat.{suc, _+_, _-_, _*_, _≤_};
 ghost use Rattle.rdp_texels.specs.Texels.{texelAddress};
@@ -75,7 +76,7 @@ pub fn strip_refusal(strip: Strip, start: u64, len: usize) -> u32
     if !flat_in(strip.address, strip.count, start, len as u64) {
         return 12;
     }
-    if !flat_in(strip.ahead, strip.count, 0, 4096) {
+    if !flat_in(strip.ahead, strip.count, 0, TEXTURE_BYTES as u64) {
         return 18;
     }
     0

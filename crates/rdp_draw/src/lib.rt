@@ -23,7 +23,7 @@ pub fn draw(list: &[u8], memory: &mut [u8], start: u64, texture: &mut [u8]) -> A
             place: checked.place,
         };
     }
-    if texture.len() != 4096 {
+    if texture.len() != rdp_texels::TEXTURE_BYTES {
         return Answer {
             number: 16,
             place: 0,

@@ -17,8 +17,9 @@ use Rattle.rdp_texels.specs.declared.Span.{Span}
 use Rattle.rdp_texels.specs.Texels.{Move, loaded, copied}
 use Rattle.rdp_texels.specs.Load.{loadNeeds, loadMoves}
 use Rattle.rdp_texels.specs.Copy.{copyNeeds, copyMoves}
-use Rattle.rdp_texels.specs.Refusals.{loadRefusals, copyRefusals, loadRefusal, copyRefusal, sized, loadTexture, copyMemory, runFits, runTexture}
-use Rattle.rdp_texels.specs.Rows.{part, keptMoves, loadGrid, loadSpan, copyGrid, copySpan, lies, spanSome, cornersRefusal, EvenGrid, SmallGrid, SmallSpan, Ready}
+use Rattle.rdp_texels.specs.Run.{part, runFits, runTexture}
+use Rattle.rdp_texels.specs.Refusals.{loadRefusals, copyRefusals, loadRefusal, copyRefusal, sized, loadTexture, copyMemory}
+use Rattle.rdp_texels.specs.Rows.{keptMoves, loadGrid, loadSpan, copyGrid, copySpan, lies, spanSome, cornersRefusal, EvenGrid, SmallGrid, SmallSpan, Ready}
 use Rattle.rdp_texels.proofs.CornerLaws.{texelRefusal, Ends, corners-refusal, grid-none, span-some}
 use Rattle.rdp_texels.proofs.LinkLaws.{load-moves, load-ends, load-even, copy-moves, copy-ends, copy-even}
 

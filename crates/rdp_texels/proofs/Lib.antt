@@ -1,5 +1,6 @@
 pub mod TurnLaws
 pub mod PartLaws
+pub mod ExchangeLaws
 pub mod SpanLaws
 pub mod RowLaws
 pub mod CornerLaws

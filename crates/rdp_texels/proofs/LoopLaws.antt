@@ -9,7 +9,8 @@ use lib.ListN.{length}
 use Rattle.rdp_texels.specs.declared.Grid.{Grid}
 use Rattle.rdp_texels.specs.declared.Span.{Span}
 use Rattle.rdp_texels.specs.Texels.{Move, movesOver, loaded, copied}
-use Rattle.rdp_texels.specs.Rows.{part, gridAddress, gridAhead, gridOdd, rowMoves, keptMoves, Ready}
+use Rattle.rdp_texels.specs.Run.{part}
+use Rattle.rdp_texels.specs.Rows.{gridAddress, gridAhead, gridOdd, rowMoves, keptMoves, Ready}
 use Rattle.rdp_texels.proofs.RowLaws.{loaded-append, copied-append, copied-row, loaded-row}
 use Rattle.rdp_texels.proofs.GridLaws.{row-fits}
 

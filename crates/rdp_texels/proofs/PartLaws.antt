@@ -1,6 +1,6 @@
 -- Parts of a row: one byte more, two parts that meet. Assumes nothing.
 use mathlib.Core.Path.{_≡_, refl, sym, ap, _∙_}
-use mathlib.Core.Bool.{Bool, cond, _||_}
+use mathlib.Core.Bool.{Bool, true, cond, _||_}
 use mathlib.Core.List.{List}
 use Prim.Native.Nat.{ℕ, _+_, _-_, _≤_, _<_}
 use native.Mathlib.Omega.{arith}
@@ -12,7 +12,7 @@ use Rattle.rdp_words.proofs.Tests.{by-test}
 use Rattle.rdp_pixels.specs.Overlay.{overlay, within}
 use Rattle.rdp_pixels.proofs.OverlayLaws.{within-true, within-is, within-false, within-same, within-joined, length-overlay, getD-overlay-0, overlay-is-0, overlay-none, overlay-overlay, overlay-cong}
 use Rattle.rdp_texels.specs.Texels.{inRow}
-use Rattle.rdp_texels.specs.Rows.{part, GroupsAre}
+use Rattle.rdp_texels.specs.Run.{part}
 use Rattle.rdp_texels.proofs.TurnLaws.{row-twice}
 
 module _ (turnTo turnFrom : Bool) (s d : ℕ) (from to : List ℕ) where
@@ -76,28 +76,25 @@ module _ (turnTo turnFrom : Bool) (s d : ℕ) (from to : List ℕ) where
         (length-set (overlay (picks a k) value 0 to) place byte ∙ length-overlay (picks a k) value 0 to)
         (λ j l. by-test (eqb j place) (λ e. same j (eqb-true j place e)) (λ e. other j (eqb-false j place e) l))
 
+-- two that pick the same bytes, and there give the same values
+pub overlay-same : (p q : ℕ → Bool) (v w : ℕ → ℕ) (to : List ℕ) → ((i : ℕ) → p i ≡ q i) → ((i : ℕ) → p i ≡ true → v i ≡ w i)
+    → overlay p v 0 to ≡ overlay q w 0 to
+overlay-same p q v w to e f =
+    overlay-is-0 q w to (overlay p v 0 to) (length-overlay p v 0 to)
+    (λ i l. getD-overlay-0 p v to i l ∙ by-test (p i) (λ h. rw (← e i, h) (f i h)) (λ h. rw (← e i, h)))
+
 -- the same part from another byte on: the row by its bytes from k on
 pub part-from : (turnTo turnFrom : Bool) (s d k n : ℕ) (from to : List ℕ)
     → part turnTo turnFrom (s + k) (d + k) 0 n from to ≡ part turnTo turnFrom s d k (k + n) from to
 unfolding part
 part-from turnTo turnFrom s d k n from to =
-    overlay-is-0 (λ i. within (d + k) (d + (k + n)) (inRow turnTo i)) (λ i. getD from (inRow turnFrom (s + (inRow turnTo i - d))) 0) to
-    (part turnTo turnFrom (s + k) (d + k) 0 n from to)
-    (length-part turnTo turnFrom (s + k) (d + k) from to 0 n)
-    at
-  where
-    at : (i : ℕ) → i < length to
-        → getD (part turnTo turnFrom (s + k) (d + k) 0 n from to) i 0
-        ≡ cond (within (d + k) (d + (k + n)) (inRow turnTo i)) (getD from (inRow turnFrom (s + (inRow turnTo i - d))) 0) (getD to i 0)
-    at i l =
-        let e : d + k + 0 ≡ d + k = omega arith in
-        let e′ : d + k + n ≡ d + (k + n) = omega arith in
-        getD-overlay-0 (λ i. within (d + k + 0) (d + k + n) (inRow turnTo i)) (λ i. getD from (inRow turnFrom (s + k + (inRow turnTo i - (d + k)))) 0) to i l
-        ∙ rw (e, e′) (by-test (within (d + k) (d + (k + n)) (inRow turnTo i))
-        (λ h. let w = within-is (d + k) (d + (k + n)) (inRow turnTo i) h in
-        let same : s + k + (inRow turnTo i - (d + k)) ≡ s + (inRow turnTo i - d) = omega arith in
-        rw (h, same))
-        (λ h. rw h))
+    overlay-same (λ i. within (d + k + 0) (d + k + n) (inRow turnTo i)) (λ i. within (d + k) (d + (k + n)) (inRow turnTo i))
+    (λ i. getD from (inRow turnFrom (s + k + (inRow turnTo i - (d + k)))) 0) (λ i. getD from (inRow turnFrom (s + (inRow turnTo i - d))) 0) to
+    (λ i. within-same (d + k + 0) (d + k + n) (d + k) (d + (k + n)) (inRow turnTo i) (λ x y. (omega arith, omega arith)) (λ x y. (omega arith, omega arith)))
+    (λ i h. ap (λ (j : ℕ). getD from (inRow turnFrom j) 0)
+    (let w = within-is (d + k + 0) (d + k + n) (inRow turnTo i) h in
+    let same : s + k + (inRow turnTo i - (d + k)) ≡ s + (inRow turnTo i - d) = omega arith in
+    same))
 
 -- eight bytes stored one after the other
 module _ (turnTo turnFrom : Bool) (s d : ℕ) (from to : List ℕ) (inside : (i : ℕ) → i < 8 → inRow turnTo (d + i) < length to) where
@@ -154,13 +151,3 @@ taken-part {turnTo} {turnFrom} {s} {d} {a} {k} {from} {before} {after} t h n e =
           ∙ ap (part turnTo turnFrom s d k (k + n) from) (t .is)
           ∙ part-joined turnTo turnFrom s d from before a k (k + n) h (omega arith);
     }
-
--- a row in three parts, the middle one in groups
-pub part-three : {turnTo turnFrom : Bool} {s d first n r : ℕ} {from : List ℕ} (before : List ℕ) {one two three : List ℕ} →
-    one ≡ part turnTo turnFrom s d 0 first from before
-    → GroupsAre turnTo turnFrom s d first n from one two r → three ≡ part turnTo turnFrom s d r n from two → three ≡ part turnTo turnFrom s d 0 n from before
-part-three {turnTo} {turnFrom} {s} {d} {first} {n} {r} {from} before a g c =
-    c
-    ∙ ap (part turnTo turnFrom s d r n from)
-    (g .taken ∙ ap (part turnTo turnFrom s d first r from) a ∙ part-joined turnTo turnFrom s d from before 0 first r (omega arith) (g .start))
-    ∙ part-joined turnTo turnFrom s d from before 0 r n (omega arith) (g .end)

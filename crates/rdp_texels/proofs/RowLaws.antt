@@ -8,7 +8,8 @@ use native.Mathlib.Omega.{arith}
 use lib.ListN.{length, getD, set}
 use Rattle.rdp_texels.specs.declared.Grid.{Grid}
 use Rattle.rdp_texels.specs.Texels.{Move, inRow, movesOver, loadOne, loaded, copyOne, copied}
-use Rattle.rdp_texels.specs.Rows.{part, gridAddress, gridAhead, gridOdd, gridMove}
+use Rattle.rdp_texels.specs.Run.{part}
+use Rattle.rdp_texels.specs.Rows.{gridAddress, gridAhead, gridOdd, gridMove}
 use Rattle.rdp_texels.proofs.TurnLaws.{row-next, row-below}
 use Rattle.rdp_texels.proofs.PartLaws.{part-none, part-more}
 

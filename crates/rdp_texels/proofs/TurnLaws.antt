@@ -1,11 +1,11 @@
 -- Bit 2 of a byte number turned over. Assumes nothing.
 use mathlib.Core.Path.{_≡_, refl}
-use mathlib.Core.Bool.{Bool, true, false}
-use Prim.Native.Nat.{ℕ, _+_, _*_, _/_, _%_, _<_}
+use mathlib.Core.Bool.{Bool, true, false, not}
+use Prim.Native.Nat.{ℕ, _+_, _*_, _/_, _%_, _≤_, _<_}
 use native.Mathlib.Omega.{arith}
 use Rattle.rdp_texels.specs.Texels.{turned, inRow}
 
-turned-twice : (b : ℕ) → turned (turned b) ≡ b
+pub turned-twice : (b : ℕ) → turned (turned b) ≡ b
 unfolding turned
 turned-twice b = omega arith
 
@@ -29,6 +29,10 @@ pub turned-below : (b k : ℕ) → b < 8 * k → turned b < 8 * k
 unfolding turned
 turned-below b k h = omega arith
 
+pub turned-above : (b k : ℕ) → 8 * k ≤ b → 8 * k ≤ turned b
+unfolding turned
+turned-above b k h = omega arith
+
 pub row-twice : (odd : Bool) (b : ℕ) → inRow odd (inRow odd b) ≡ b
 row-twice true b = turned-twice b
 row-twice false b = refl
@@ -46,6 +50,10 @@ row-below-is odd b k h = rw (row-twice odd b) at (row-below odd (inRow odd b) k 
 
 -- in eight bytes that start at a multiple of 8
 module _ (d : ℕ) (whole : d % 8 ≡ 0) where
+  pub turned-on : (j : ℕ) → turned (d + j) ≡ d + turned j
+  unfolding turned
+  turned-on j = let at : d ≡ 8 * (d / 8) = omega arith in omega arith
+
   pub group-low : (i : ℕ) → i < 4 → d + (4 + i) ≡ turned (d + i)
   unfolding turned
   group-low i h = let at : d ≡ 8 * (d / 8) = omega arith in omega arith
@@ -55,5 +63,13 @@ module _ (d : ℕ) (whole : d % 8 ≡ 0) where
   group-high i h = let at : d ≡ 8 * (d / 8) = omega arith in omega arith
 
 -- a byte of texture memory stays in it
-pub turned-inside : (b : ℕ) → b < 4096 → turned b < 4096
-turned-inside b h = turned-below b 512 h
+turned-inside : (b n : ℕ) → n ≡ 4096 → b < n → turned b < n
+turned-inside b n e h = rw e (turned-below b 512 (rw e at h))
+
+pub inside-to : (into : Bool) (b n : ℕ) → (into ≡ true → n ≡ 4096) → b < n → inRow into b < n
+inside-to true b n e h = turned-inside b n (e refl) h
+inside-to false b n e h = h
+
+pub inside-from : (into : Bool) (b n : ℕ) → (into ≡ false → n ≡ 4096) → b < n → inRow (not into) b < n
+inside-from true b n e h = h
+inside-from false b n e h = turned-inside b n (e refl) h

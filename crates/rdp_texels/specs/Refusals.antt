@@ -1,9 +1,9 @@
 -- Document 02, #106: the refusals of a load and of a copy rectangle, each on its own and in their order, and what each leaves. None of them depends on what
 -- memory holds.
-use Prim.Native.Nat.{ℕ, _+_}
-use mathlib.Core.Bool.{Bool, false, cond, not, _&&_}
+use Prim.Native.Nat.{ℕ}
+use mathlib.Core.Bool.{Bool, cond, not}
 use mathlib.Core.List.{List, [], _∷_}
-use lib.Dec.{eqb, leb}
+use lib.Dec.{eqb}
 use lib.ListN.{length}
 use Rattle.rdp_command.specs.declared.LoadFields.{LoadFields}
 use Rattle.rdp_command.specs.declared.CopyFields.{CopyFields}
@@ -11,7 +11,6 @@ use Rattle.rdp_check.specs.Order.{Ground, ground, firstOf}
 use Rattle.rdp_texels.specs.Texels.{Move, some, outsideMemory, outsideTexture, loaded, copied}
 use Rattle.rdp_texels.specs.Load.{loadNeeds, loadMoves}
 use Rattle.rdp_texels.specs.Copy.{copyNeeds, copyMoves}
-use Rattle.rdp_texels.specs.Rows.{part}
 
 -- 17 where a need is broken, "then 12, also for texels loaded; then 18, a texture byte, loaded to or read for a kept pixel, below 0 or at 4,096 or above":
 -- at one command each is judged over all its texels
@@ -44,14 +43,3 @@ loadTexture l start memory texture =
 unfoldable pub copyMemory : CopyFields → ℕ → List ℕ → List ℕ → List ℕ
 copyMemory c start texture memory =
     cond (eqb (sized (length texture) (copyRefusal c start (length memory))) 0) (copied start texture (copyMoves c) memory) memory
-
--- ---- a run of bytes
-
--- n bytes from index s on are in memory of `len` bytes, and n from byte d on in texture memory, which has `size`
-abbrev pub runFits : ℕ → ℕ → ℕ → ℕ → ℕ → Bool
-runFits len s size d n = eqb size 4096 && (leb (s + n) len && leb (d + n) size)
-
--- texture memory with such a run loaded, which is turned where its row is odd; where it does not fit, all stays as it was
-unfoldable pub runTexture : ℕ → ℕ → ℕ → Bool → List ℕ → List ℕ → List ℕ
-runTexture s d n odd memory texture =
-    cond (runFits (length memory) s (length texture) d n) (part odd false s d 0 n memory texture) texture

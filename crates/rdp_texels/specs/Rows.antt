@@ -1,11 +1,10 @@
--- The moves as rows of texels, each row one run of bytes. Public contracts cite `part` alone.
+-- The moves as rows of texels, each row one run of bytes. No public contract cites this.
 use Prim.Native.Nat.{ℕ, _+_, _-_, _*_, _/_, _%_, _≤_, _<_}
-use mathlib.Core.Bool.{Bool, true, cond, _&&_}
+use mathlib.Core.Bool.{Bool, true, false, cond, _&&_}
 use mathlib.Core.List.{List, [], _∷_}
 use mathlib.Core.Path.{_≡_}
 use lib.Dec.{eqb, leb, ltb}
-use lib.ListN.{getD}
-use Rattle.rdp_pixels.specs.Overlay.{overlay, within}
+use lib.ListN.{drop}
 use Rattle.rdp_pixels.specs.Kept.{lineKept, firstKept, endKept, keptFrom}
 use Rattle.rdp_command.specs.declared.LoadFields.{LoadFields}
 use Rattle.rdp_command.specs.declared.CopyFields.{CopyFields}
@@ -13,14 +12,26 @@ use Rattle.rdp_texels.specs.declared.Grid.{Grid}
 use Rattle.rdp_texels.specs.declared.Span.{Span}
 use Rattle.rdp_texels.specs.declared.Step.{Step}
 use Rattle.rdp_command.specs.declared.TextureStep.{TextureStep}
-use Rattle.rdp_texels.specs.Texels.{Move, aheadOf, behindOf, inRow, movesOver}
+use Rattle.rdp_texels.specs.Texels.{Move, aheadOf, behindOf, movesOver}
+use Rattle.rdp_texels.specs.Run.{part}
 
--- ---- a part of a row
+-- ---- bytes in groups of eight
 
--- bytes a up to b of a row, taken from index s on of `from` to index d on of `to`; the one side or the other is turned
-unfoldable pub part : Bool → Bool → ℕ → ℕ → ℕ → ℕ → List ℕ → List ℕ → List ℕ
-part turnTo turnFrom s d a b from to =
-    overlay (λ i. within (d + a) (d + b) (inRow turnTo i)) (λ i. getD from (inRow turnFrom (s + (inRow turnTo i - d))) 0) 0 to
+-- n bytes from index s on of `from` to index d on of `to`, where the halves of each eight exchange places: byte j is taken from byte j with its bit 2 turned
+-- over
+abbrev pub exchanged : ℕ → ℕ → ℕ → List ℕ → List ℕ → List ℕ
+exchanged s d n from to = part false true 0 d 0 n (drop s from) to
+
+-- groups of bytes a up to b of a row are exchanged up to r
+pub record GroupsAre (s d a b : ℕ) (from before after : List ℕ) (r : ℕ) : Type 0 where
+  pub start : a ≤ r
+  pub end : r ≤ b
+  pub whole : (r - a) % 8 ≡ 0
+  pub taken : after ≡ exchanged (s + a) (d + a) (r - a) from before
+
+-- a row goes into texture memory, of 4,096 bytes, or comes out of it
+abbrev pub TurnsTexture : Bool → ℕ → ℕ → Type 0
+TurnsTexture into from to = (into ≡ true → to ≡ 4096) × (into ≡ false → from ≡ 4096)
 
 -- ---- a grid of texels: each column is 2 bytes on, each row `pitch` bytes of memory and `line` bytes of texture memory on
 
@@ -132,12 +143,6 @@ pub record EvenGrid (g : Grid) : Type 0 where
   pub ahead : g .ahead % 2 ≡ 0
   pub line : g .line % 2 ≡ 0
   pub behind : g .behind % 2 ≡ 0
-
--- groups of eight bytes from a on are taken up to r, and none more ends by b
-pub record GroupsAre (turnTo turnFrom : Bool) (s d a b : ℕ) (from before after : List ℕ) (r : ℕ) : Type 0 where
-  pub start : a ≤ r
-  pub end : r ≤ b
-  pub taken : after ≡ part turnTo turnFrom s d a r from before
 
 -- ---- a rectangle's texture coordinates as natural numbers
 

@@ -1,17 +1,21 @@
 // A row of texels as bytes: an even row is copied as it stands, an odd one with the halves of each eight bytes of texture memory exchanged.
-ghost use mathlib.Core.Bool.{true, false};
+ghost use mathlib.Core.Bool.{false, not, cond};
 ghost use mathlib.Core.Path.{_≡_};
 ghost use Prim.Native.Nat.{_+_, _-_, _%_, _<_, _≤_};
 ghost use lib.ListN.{length};
-ghost use Rattle.rdp_texels.specs.Rows.{part, GroupsAre};
-ghost use Rattle.rdp_texels.specs.Texels.{turned};
+ghost use Rattle.rdp_texels.specs.Run.{part};
+ghost use Rattle.rdp_texels.specs.Rows.{exchanged, GroupsAre, TurnsTexture};
+ghost use Rattle.rdp_texels.specs.Texels.{inRow};
 
-// A byte number with its bit 2 turned over.
-fn turn(b: usize) -> usize
-    requires { ⌜ b < 4294967296 ⌝ }
-    ensures { λ r. ⌜ r ≡ turned b ⌝ }
+// A byte number, with its bit 2 turned over in an odd row of texture memory.
+fn turn(b: usize, odd: bool) -> usize
+    requires { ⌜ b < 9223372036854775808 ⌝ }
+    ensures { λ r. ⌜ r ≡ inRow odd b ⌝ }
 {
-    b + 4 - b / 4 % 2 * 8
+    if odd {
+        return b + 4 - b / 4 % 2 * 8;
+    }
+    b
 }
 
 // Copies n bytes.
@@ -26,7 +30,7 @@ pub fn copy_even(from: &[u8], s: usize, to: &mut [u8], d: usize, n: usize)
     }
 }
 
-// The bytes of a row from a up to the first that starts eight bytes of texture memory, or to its end.
+// How many of the n bytes of a row stand before the first that starts eight bytes of texture memory; `at` is the first one's byte there.
 fn head(at: usize, n: usize) -> usize
     ensures { λ r. ⌜ (r ≤ n) × ((r < n → (at + r) % 8 ≡ 0) × (r < 8)) ⌝ }
 {
@@ -34,22 +38,10 @@ fn head(at: usize, n: usize) -> usize
     if n < short { n } else { short }
 }
 
-// Bytes a up to b of an odd row, out of texture memory.
-fn copy_turned(from: &[u8], s: usize, to: &mut [u8], d: usize, a: usize, b: usize)
-    requires { ⌜ (a ≤ b) × (length (now from) ≡ 4096) × (s + b ≤ 4096) × (d + b ≤ length (now to)) ⌝ }
-    ensures { λ _. ⌜ now (to .exit) ≡ part false true s d a b (now (from .entry)) (now (to .entry)) ⌝ }
-{
-    let mut k = a;
-    while k < b {
-        to[d + k] = from[turn(s + k)];
-        k += 1;
-    }
-}
-
-// Eight bytes out of texture memory. All are read before one is written, so that four of them move at a time.
-fn copy_group(from: &[u8], s: usize, to: &mut [u8], d: usize)
-    requires { ⌜ (s % 8 ≡ 0) × (s + 8 ≤ length (now from)) × (d + 8 ≤ length (now to)) ⌝ }
-    ensures { λ _. ⌜ now (to .exit) ≡ part false true s d 0 8 (now (from .entry)) (now (to .entry)) ⌝ }
+// Eight bytes whose halves exchange places. All are read before one is written, so that four of them move at a time.
+fn exchange_eight(from: &[u8], s: usize, to: &mut [u8], d: usize)
+    requires { ⌜ (s + 8 ≤ length (now from)) × (d + 8 ≤ length (now to)) ⌝ }
+    ensures { λ _. ⌜ now (to .exit) ≡ exchanged s d 8 (now (from .entry)) (now (to .entry)) ⌝ }
 {
     let a = from[s + 4];
     let b = from[s + 5];
@@ -69,28 +61,41 @@ fn copy_group(from: &[u8], s: usize, to: &mut [u8], d: usize)
     to[d + 7] = i;
 }
 
-// Groups of eight bytes of an odd row from a on, as long as they end by b. It answers the byte reached.
-fn copy_groups(from: &[u8], s: usize, to: &mut [u8], d: usize, a: usize, b: usize) -> usize
-    requires { ⌜ (a ≤ b) × ((a < b → (s + a) % 8 ≡ 0) × ((s + b ≤ length (now from)) × (d + b ≤ length (now to)))) ⌝ }
-    ensures { λ r. ⌜ GroupsAre false true s d a b (now (from .entry)) (now (to .entry)) (now (to .exit)) r ⌝ }
+// Groups of eight bytes of a row from a on, as long as they end by b. It answers the byte reached.
+fn exchange_groups(from: &[u8], s: usize, to: &mut [u8], d: usize, a: usize, b: usize) -> usize
+    requires { ⌜ (a ≤ b) × (s + b ≤ length (now from)) × (d + b ≤ length (now to)) ⌝ }
+    ensures { λ r. ⌜ GroupsAre s d a b (now (from .entry)) (now (to .entry)) (now (to .exit)) r ⌝ }
 {
     let mut k = a;
     while 8 <= b - k {
-        copy_group(from, s + k, to, d + k);
+        exchange_eight(from, s + k, to, d + k);
         k += 8;
     }
     k
 }
 
-// An odd row of n bytes, out of texture memory.
-fn copy_odd(from: &[u8], s: usize, to: &mut [u8], d: usize, n: usize)
-    requires { ⌜ (length (now from) ≡ 4096) × (s + n ≤ 4096) × (d + n ≤ length (now to)) ⌝ }
-    ensures { λ _. ⌜ now (to .exit) ≡ part false true s d 0 n (now (from .entry)) (now (to .entry)) ⌝ }
+// Bytes a up to b of an odd row, one by one, into texture memory or out of it.
+fn move_turned(from: &[u8], s: usize, to: &mut [u8], d: usize, a: usize, b: usize, into: bool)
+    requires { ⌜ (a ≤ b) × (s + b ≤ length (now from)) × (d + b ≤ length (now to)) × TurnsTexture into (length (now from)) (length (now to)) ⌝ }
+    ensures { λ _. ⌜ now (to .exit) ≡ part into (not into) s d a b (now (from .entry)) (now (to .entry)) ⌝ }
 {
-    let first = head(s, n);
-    copy_turned(from, s, to, d, 0, first);
-    let last = copy_groups(from, s, to, d, first, n);
-    copy_turned(from, s, to, d, last, n);
+    let mut k = a;
+    while k < b {
+        let at = turn(d + k, into);
+        to[at] = from[turn(s + k, !into)];
+        k += 1;
+    }
+}
+
+// An odd row of n bytes, into texture memory or out of it. The first ones, up to where eight bytes of texture memory start, and the last ones go one by one.
+fn move_odd(from: &[u8], s: usize, to: &mut [u8], d: usize, first: usize, n: usize, into: bool)
+    requires { ⌜ (first ≤ n) × (first < n → (cond into d s + first) % 8 ≡ 0) ⌝ }
+    requires { ⌜ (s + n ≤ length (now from)) × (d + n ≤ length (now to)) × TurnsTexture into (length (now from)) (length (now to)) ⌝ }
+    ensures { λ _. ⌜ now (to .exit) ≡ part into (not into) s d 0 n (now (from .entry)) (now (to .entry)) ⌝ }
+{
+    move_turned(from, s, to, d, 0, first, into);
+    let last = exchange_groups(from, s, to, d, first, n);
+    move_turned(from, s, to, d, last, n, into);
 }
 
 // A row of n bytes out of texture memory.
@@ -99,70 +104,10 @@ pub fn copy_row(from: &[u8], s: usize, to: &mut [u8], d: usize, n: usize, odd: b
     ensures { λ _. ⌜ now (to .exit) ≡ part false odd s d 0 n (now (from .entry)) (now (to .entry)) ⌝ }
 {
     if odd {
-        copy_odd(from, s, to, d, n);
+        move_odd(from, s, to, d, head(s, n), n, false);
         return;
     }
     copy_even(from, s, to, d, n);
-}
-
-// Bytes a up to b of an odd row, into texture memory.
-fn load_turned(from: &[u8], s: usize, to: &mut [u8], d: usize, a: usize, b: usize)
-    requires { ⌜ (a ≤ b) × (length (now to) ≡ 4096) × (d + b ≤ 4096) × (s + b ≤ length (now from)) ⌝ }
-    ensures { λ _. ⌜ now (to .exit) ≡ part true false s d a b (now (from .entry)) (now (to .entry)) ⌝ }
-{
-    let mut k = a;
-    while k < b {
-        let at = turn(d + k);
-        to[at] = from[s + k];
-        k += 1;
-    }
-}
-
-// Eight bytes into texture memory.
-fn load_group(from: &[u8], s: usize, to: &mut [u8], d: usize)
-    requires { ⌜ (d % 8 ≡ 0) × (s + 8 ≤ length (now from)) × (d + 8 ≤ length (now to)) ⌝ }
-    ensures { λ _. ⌜ now (to .exit) ≡ part true false s d 0 8 (now (from .entry)) (now (to .entry)) ⌝ }
-{
-    let a = from[s];
-    let b = from[s + 1];
-    let c = from[s + 2];
-    let e = from[s + 3];
-    let f = from[s + 4];
-    let g = from[s + 5];
-    let h = from[s + 6];
-    let i = from[s + 7];
-    to[d + 4] = a;
-    to[d + 5] = b;
-    to[d + 6] = c;
-    to[d + 7] = e;
-    to[d] = f;
-    to[d + 1] = g;
-    to[d + 2] = h;
-    to[d + 3] = i;
-}
-
-// Groups of eight bytes of an odd row from a on, as long as they end by b. It answers the byte reached.
-fn load_groups(from: &[u8], s: usize, to: &mut [u8], d: usize, a: usize, b: usize) -> usize
-    requires { ⌜ (a ≤ b) × ((a < b → (d + a) % 8 ≡ 0) × ((s + b ≤ length (now from)) × (d + b ≤ length (now to)))) ⌝ }
-    ensures { λ r. ⌜ GroupsAre true false s d a b (now (from .entry)) (now (to .entry)) (now (to .exit)) r ⌝ }
-{
-    let mut k = a;
-    while 8 <= b - k {
-        load_group(from, s + k, to, d + k);
-        k += 8;
-    }
-    k
-}
-
-// An odd row of n bytes, into texture memory.
-fn load_odd(from: &[u8], s: usize, to: &mut [u8], d: usize, n: usize)
-    requires { ⌜ (length (now to) ≡ 4096) × (d + n ≤ 4096) × (s + n ≤ length (now from)) ⌝ }
-    ensures { λ _. ⌜ now (to .exit) ≡ part true false s d 0 n (now (from .entry)) (now (to .entry)) ⌝ }
-{
-    let first = head(d, n);
-    load_turned(from, s, to, d, 0, first);
-    let last = load_groups(from, s, to, d, first, n);
-    load_turned(from, s, to, d, last, n);
 }
 
 // A row of n bytes into texture memory.
@@ -171,7 +116,7 @@ pub fn load_row(from: &[u8], s: usize, to: &mut [u8], d: usize, n: usize, odd: b
     ensures { λ _. ⌜ now (to .exit) ≡ part odd false s d 0 n (now (from .entry)) (now (to .entry)) ⌝ }
 {
     if odd {
-        load_odd(from, s, to, d, n);
+        move_odd(from, s, to, d, head(d, n), n, true);
         return;
     }
     copy_even(from, s, to, d, n);

@@ -2,6 +2,7 @@
 use crate::Grid;
 use crate::Span;
 use crate::Step;
+use crate::TEXTURE_BYTES;
 use rdp_command::CopyFields;
 use rdp_command::LoadFields;
 use rdp_command::TextureStep;
@@ -9,7 +10,7 @@ ghost use mathlib.Core.Path.{_≡_};
 ghost use Prim.Native.Nat.{_+_, _-_, _*_, _/_, _<_, _≤_};
 ghost use lib.Dec.{leb};
 ghost use Rattle.rdp_texels.specs.Texels.{aheadOf, behindOf};
-ghost use Rattle.rdp_texels.specs.Refusals.{runFits};
+ghost use Rattle.rdp_texels.specs.Run.{runFits};
 ghost use Rattle.rdp_texels.specs.Rows.{SmallGrid, SmallSpan, SmallStep, stepOf, loadGrid, loadSpan, copyGrid, copySpan, gridOf, gridOdd, bottomFrom, lies, spanSome, cornersRefusal};
 
 // A whole number's part above 0, and its part below.
@@ -239,7 +240,13 @@ pub fn corners(grid: Grid, span: Span, start: u64, len: usize) -> u32
     if !lies_in(grid.address, grid.pitch, span, start, len as u64) {
         return 12;
     }
-    if !lies_in(grid.ahead, grid.line, span, grid.behind, 4096) {
+    if !lies_in(
+        grid.ahead,
+        grid.line,
+        span,
+        grid.behind,
+        TEXTURE_BYTES as u64,
+    ) {
         return 18;
     }
     0
@@ -259,5 +266,5 @@ fn holds(size: usize, first: usize, n: usize) -> bool
 pub fn run_fits(len: usize, s: usize, size: usize, d: usize, n: usize) -> bool
     ensures { λ r. ⌜ r ≡ runFits len s size d n ⌝ }
 {
-    (size == 4096) & (holds(len, s, n) & holds(size, d, n))
+    (size == TEXTURE_BYTES) & (holds(len, s, n) & holds(size, d, n))
 }

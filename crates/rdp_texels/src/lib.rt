@@ -4,7 +4,8 @@ ghost use lib.ListN.{length};
 ghost use Rattle.rdp_texels.specs.Texels.{loaded, copied};
 ghost use Rattle.rdp_texels.specs.Load.{loadNeeds, loadMoves};
 ghost use Rattle.rdp_texels.specs.Copy.{copyMoves};
-ghost use Rattle.rdp_texels.specs.Refusals.{sized, runTexture, loadRefusal, copyRefusal, loadTexture, copyMemory};
+ghost use Rattle.rdp_texels.specs.Run.{runTexture};
+ghost use Rattle.rdp_texels.specs.Refusals.{sized, loadRefusal, copyRefusal, loadTexture, copyMemory};
 
 mod bytes;
 mod grids;
@@ -13,6 +14,9 @@ mod rows;
 
 use rdp_command::CopyFields;
 use rdp_command::LoadFields;
+
+// The size of texture memory.
+pub const TEXTURE_BYTES: usize = 4096;
 
 // Texels by column x and row y: memory address `address + y pitch + 2 x`, texture byte `ahead + y line + 2 x - behind`, turned where y + turn is odd.
 pub struct Grid {
@@ -61,8 +65,8 @@ pub fn load_refusal(load: LoadFields, start: u64, len: usize) -> u32
     grids::corners(grids::load_grid(load), grids::load_span(load), start, len)
 }
 
-// Loads n bytes of memory from index s on to byte d of texture memory on, which exchange the halves of each eight where the row is odd. Where not all of both
-// are there, nothing is loaded.
+// Loads n bytes of memory from index s on to byte d of texture memory on, which exchange the halves of each eight where the row is odd. Where texture
+// memory has not 4,096 bytes, or not all of both are there, nothing is loaded.
 pub fn load_run(memory: &[u8], s: usize, texture: &mut [u8], d: usize, n: usize, odd: bool)
     ensures { λ _. ⌜ now (texture .exit) ≡ runTexture s d n odd (now (memory .entry)) (now (texture .entry)) ⌝ }
 {
@@ -90,7 +94,7 @@ pub fn load_tile(memory: &[u8], start: u64, texture: &mut [u8], load: LoadFields
     ensures answer { λ r. ⌜ r ≡ sized (length (now (texture .entry))) (loadRefusal load start (length (now (memory .entry)))) ⌝ }
     ensures texture { λ _. ⌜ now (texture .exit) ≡ loadTexture load start (now (memory .entry)) (now (texture .entry)) ⌝ }
 {
-    if texture.len() != 4096 {
+    if texture.len() != TEXTURE_BYTES {
         return 16;
     }
     let number = load_refusal(load, start, memory.len());
@@ -129,7 +133,7 @@ pub fn copy_rectangle(texture: &[u8], memory: &mut [u8], start: u64, copy: CopyF
     ensures answer { λ r. ⌜ r ≡ sized (length (now (texture .entry))) (copyRefusal copy start (length (now (memory .entry)))) ⌝ }
     ensures memory { λ _. ⌜ now (memory .exit) ≡ copyMemory copy start (now (texture .entry)) (now (memory .entry)) ⌝ }
 {
-    if texture.len() != 4096 {
+    if texture.len() != TEXTURE_BYTES {
         return 16;
     }
     let refusal = copy_refusal(copy, start, memory.len());

@@ -1,5 +1,4 @@
 -- `rdp_texels::bytes::turn` meets its contract. Assumes nothing.
-use mathlib.Core.Path.{refl}
 use Rattle.rdp_texels.specs.Texels.{turned}
 use borrow.Author.Needs.{needs}
 use Rattle.rdp_texels.proofs.bytes.turn.Statement.{statement}
@@ -16,7 +15,10 @@ sub-result c = search needs
 
 returns : tie.Need-returns
 unfolding turned
-returns c = refl
+returns c = rw (c .if1 .taken)
+
+returns-2 : tie.Need-returns-2
+returns-2 c = rw (c .if1 .left)
 
 pub turn-spec : {M : Type 1} → statement M
-turn-spec = tie.close (tie.spec add-result mul-result sub-result returns)
+turn-spec = tie.close (tie.spec add-result mul-result sub-result returns returns-2)
