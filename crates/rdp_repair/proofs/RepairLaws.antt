@@ -14,7 +14,7 @@ use Rattle.rdp_check.specs.Commands.{commandsOf, restOf, joined}
 use Rattle.rdp_check.specs.Check.{State, ownRefusals, repairRefusals, checked}
 use Rattle.rdp_repair.specs.Plan.{applied}
 use Rattle.rdp_repair.specs.Best.{best, plan, repairedBytes, leastCycles}
-use Rattle.rdp_repair.specs.Work.{basisOf, notedNumber, notedOf, keptIn, keptOf, keptAll, notedIn, workOf, optionsIn, insertsOf, Below, dueBytes, WholeList, NotedIs, BackwardIs, answeredBy, Repairs}
+use Rattle.rdp_repair.specs.Work.{basisOf, notedNumber, notedOf, keptWordsIn, keptOf, keptAll, notedIn, workOf, optionsIn, insertsOf, Below, dueBytes, WholeList, NotedIs, BackwardIs, answeredBy, Repairs}
 use Rattle.rdp_repair.specs.Repair.{LeastRepair, Repairable, repairAnswer, repairOf, outAfter, workAfter, RepairsBy, RepairIs}
 use Rattle.rdp_repair.specs.Afresh.{without, LeastAfresh, AfreshIs}
 use Rattle.rdp_check.specs.declared.Checked.{Checked}
@@ -118,7 +118,7 @@ commands-few list e = let s = sound repairRefusals own-numbered list e in omega 
 -- at most a sync a command, and the words of the list
 pub words-few :
     (afresh : Bool) (list : List ℕ) (words : ℕ) → WholeList list words →
-    keptIn afresh (commandsOf list) + insertsOf (plan (notedOf afresh (commandsOf list)) 0) ≤ 4096
+    keptWordsIn afresh (commandsOf list) + insertsOf (plan (notedOf afresh (commandsOf list)) 0) ≤ 4096
 words-few afresh list words w =
     let p : List ℕ = plan (notedOf afresh (commandsOf list)) 0 in
     omega (
@@ -136,7 +136,7 @@ words-few afresh list words w =
 -- by the words that are kept and those that the plan inserts
 pub words-needed :
     (afresh : Bool) (list : List ℕ) → judged list .number ≡ 0 → (words : ℕ) →
-    words ≡ keptIn afresh (commandsOf list) + insertsOf (plan (notedOf afresh (commandsOf list)) 0) →
+    words ≡ keptWordsIn afresh (commandsOf list) + insertsOf (plan (notedOf afresh (commandsOf list)) 0) →
     (length (repairedBytes (basisOf afresh list)) ≡ 8 * words) × (words ≤ 4096)
 words-needed afresh list e words w =
     let basis : List ℕ = basisOf afresh list in

@@ -9,19 +9,20 @@ use borrow.Author.Tests.{ne-eqb, eqb-true, eqb-false, lt-ltb, ltb-true}
 use lib.Dec.{eqb, ltb}
 use lib.ListN.{length}
 use Rattle.rdp_command.specs.declared.Answer.{Answer}
+use Rattle.rdp_command.specs.Decode.{answer}
 use Rattle.rdp_repair.specs.declared.Repaired.{Repaired}
 use Rattle.rdp_words.proofs.Tests.{by-test, true-of}
 use Rattle.rdp_check.specs.Commands.{commandsOf}
-use Rattle.rdp_check.specs.Order.{Ground, answer, Among}
-use Rattle.rdp_check.specs.Check.{repairRefusals, Outcome, outcomeWithin}
+use Rattle.rdp_check.specs.Order.{Ground, Among}
+use Rattle.rdp_check.specs.Check.{repairRefusals, Judgement, outcomeWithin}
 use Rattle.rdp_check.specs.Refusals.{groundsOf, FirstRefusal}
-use Rattle.rdp_repair.specs.Repair.{Repairable, repairAnswer, repairOf, RepairHolds, ofList, littleWork, littleOut, roomGrounds, repairGrounds, FirstRepairRefusal}
+use Rattle.rdp_repair.specs.Repair.{Repairable, repairAnswer, repairOf, RepairHolds, ofList, littleWork, littleOut, bufferGrounds, repairGrounds, FirstRepairRefusal}
 use Rattle.rdp_check.proofs.OrderLaws.{found, among-left, among-right, among-parts, answered, then-refused, then-accepted}
 use Rattle.rdp_check.proofs.FirstLaws.{own-numbered, to-order, from-order, no-zero, judge-first}
 
 -- ---- by the judgement of the list
 
-abbrev pub judged : List ℕ → Outcome
+abbrev pub judged : List ℕ → Judgement
 judged list = outcomeWithin 2048 repairRefusals list
 
 judged-first : (list : List ℕ) → FirstRefusal 2048 repairRefusals list (judged list .number) (judged list .place)
@@ -37,7 +38,7 @@ module _ (list : List ℕ) (bytes cycles work out : ℕ) where
   ofCommands = groundsOf 2048 repairRefusals list
 
   abbrev ofRoom : List (Ground Answer)
-  ofRoom = roomGrounds list bytes work out
+  ofRoom = bufferGrounds list bytes work out
 
   abbrev needed : Answer
   needed = answer 0 (bytes / 8)
