@@ -18,7 +18,7 @@ pub record Walked : Type 0 where
   pub commands : List ℕ
   pub words : List ℕ
 
--- a refusal; "a refused one not" counted
+-- a refusal, "a refused one not" counted; with number 0 the end of the outermost list
 abbrev pub stopped : ℕ → ℕ → Walked
 stopped number place = record { number = number; place = place; commands = []; words = [] }
 

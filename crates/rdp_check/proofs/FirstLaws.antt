@@ -280,7 +280,7 @@ module _ (f : ℕ → Bool) (refusals : Refusals) (all : (s : State) (c : List �
   holds-gives at-one at-two words list n p (notWords h) = at-two
   holds-gives at-one at-two words list n p (ofCommands m q h) = command-gives list m q h
 
--- the check: none of 1 to 9
+-- the check: none of 1 to 9 and 19
 pub check-first : (list : List ℕ) → FirstRefusal 4096 checkRefusals list (checkOf list .number) (checkOf list .place)
 check-first list = judge-first checkRefusals list 4096 check-numbered
 

@@ -272,7 +272,7 @@ combineModeLines = bits 0 55 0 ∷ []
 abbrev pub depthImageLines : List Line
 depthImageLines = bits 0 23 0 ∷ []
 
--- the bit lines of a command after its number; a no operation and a sync have none
+-- the bit lines of a command after its number; a no operation, an unassigned number and a sync have none
 unfoldable pub layout : ℕ → List Line
 layout n =
     cond (eqb (n / 8) 1) triangleBaseLines

@@ -51,7 +51,7 @@ pub data Act : Type 0 where
   -- Load Block
   blocking : LoadFields → Act
 
--- a fill rectangle, a texture rectangle and a Load Tile, each with the registers that it is done under
+-- a fill rectangle, a texture rectangle, and a Load Tile or a Load Block, each with the registers that it is done under
 abbrev pub fillOf : Registers → Rectangle → FillFields
 fillOf r g =
     record {

@@ -1,4 +1,4 @@
--- Document 01, "Examples": A to O as one list of cases, each with all that must come out; and those of #104, #107 and #109.
+-- Document 01, "Examples": A to O as one list of cases, each with all that must come out; and those of #104, #106, #107 and #109.
 use Prim.Native.Nat.{ℕ, _+_, _*_}
 use mathlib.Core.Bool.{Bool, true, _&&_}
 use mathlib.Core.List.{List, [], _∷_, _++_}

@@ -1,4 +1,4 @@
--- Document 01, "Four marks", in its own words: what has come since the last sync of some kind. `proofs/MarkLaws` shows that the hazards are this.
+-- Document 01, "Four marks", in its own words: what has come since the last sync of some kind. `proofs/MarkLaws` of rdp_check shows that the hazards are this.
 use Prim.Native.Nat.{ℕ}
 use mathlib.Core.Bool.{Bool, not, _&&_, _||_}
 use mathlib.Core.List.{List, [], _∷_, _++_}

@@ -105,7 +105,7 @@ module _ (afresh : Bool) (list work work′ : List ℕ) (held : work′ ≡ over
       ap (overwrite (replicate k 0)) held ∙
       overwrite-twice (replicate k 0) (workOf ns) work (length-replicate k 0 ∙ sym (work-long afresh (commandsOf list)))
 
--- ---- a list that none of refusals 1 to 6 holds for
+-- ---- a list that none of refusals 1 to 6 and 19 holds for
 
 pub whole-list : (list : List ℕ) (words : ℕ) → judged list .number ≡ 0 → words ≡ length list / 8 → WholeList list words
 whole-list list words e w =
@@ -222,7 +222,7 @@ module _ (basis list work out : List ℕ) where
 
 -- ---- the two repairs, by what it is to be the least list
 
--- where none of 1 to 6 holds, the repair of `basis` is the least list for the given one, and the only one
+-- where none of 1 to 6 and 19 holds, the repair of `basis` is the least list for the given one, and the only one
 pub record LeastBy (Least : List ℕ → List ℕ → ℕ → Type 0) (basis list : List ℕ) : Type 0 where
   pub is : judged list .number ≡ 0 → Least list (repairedBytes basis) (leastCycles basis)
   pub only : {t : List ℕ} {k : ℕ} → judged list .number ≡ 0 → Least list t k → (t ≡ repairedBytes basis) × (k ≡ leastCycles basis)

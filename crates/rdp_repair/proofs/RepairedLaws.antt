@@ -101,7 +101,7 @@ module _ (s : List ℕ) (none : restOf s ≡ []) where
   commands-made : {ds : List (List ℕ)} {k : ℕ} → Inserted (commandsOf s) ds k → commandsOf (joined ds) ≡ ds
   commands-made {ds} i = commands-joined ds (alone-inserted i (parsed s .alone))
 
-  -- where it has none of refusals 3 to 9, no sync is missing
+  -- where it has none of refusals 3 to 9 and 19, no sync is missing
   made-passes :
       {ds : List (List ℕ)} {k : ℕ} (u : List ℕ) → Inserted (commandsOf s) ds k → joined ds ≡ u → Free checkRefusals u → Passes 0 ds
   made-passes {ds} u i e h =

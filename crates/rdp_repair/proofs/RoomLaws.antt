@@ -64,7 +64,7 @@ module _ (list : List ℕ) (bytes cycles work out : ℕ) where
   not-zero n p (littleWork h) z = suc-ne-zero 12 z
   not-zero n p (littleOut h) z = suc-ne-zero 13 z
 
-  -- the repair's answer is 0 exactly where none of 1 to 6, 13 and 14 holds, and is else the first in their order, at its place
+  -- the repair's answer is 0 exactly where none of 1 to 6, 19, 13 and 14 holds, and is else the first in their order, at its place
   pub repair-first : FirstRepairRefusal list bytes work out (repairOf list bytes cycles work out)
   unfolding repairOf
   repair-first =
@@ -78,7 +78,7 @@ module _ (list : List ℕ) (bytes cycles work out : ℕ) where
   unfolding repairOf
   repair-refused ne = ap withCycles (then-refused (judged-first list) ofRoom needed ne) ∙ rw (ne-eqb _ _ ne)
 
-  -- a list that no refusal of 1 to 6 holds for
+  -- a list that no refusal of 1 to 6 and 19 holds for
   unfoldable pub roomed : Repaired
   roomed =
       cond (ltb work (16 * length (commandsOf list))) (repairAnswer 13 (length (commandsOf list)) 0)
