@@ -8,7 +8,7 @@ use lib.ListN.{length}
 use Rattle.rdp_words.specs.Words.{wordAt}
 use Rattle.rdp_words.specs.Kinds.{between}
 use Rattle.rdp_words.proofs.Tests.{by-test}
-use Rattle.f3dex2.specs.Commands.{numberOf, Role, straight, rectangle, modes, list, end, unnamed, roleOf, inside, settingAfter, parameter, far, calls, invalid}
+use Rattle.f3dex2.specs.Commands.{firstByte, Role, straight, rectangle, modes, list, end, unnamed, roleOf, inside, settingAfter, parameter, far, calls, invalid}
 use Rattle.f3dex2.specs.Walk.{Walked, readable, named, wordRefusal, runsRole, runs, judged, walk}
 use Rattle.f3dex2.specs.Steps.{roleAction, actionBy, actionOf, perform}
 use Rattle.f3dex2.specs.declared.Due.{Due}
@@ -34,10 +34,10 @@ module _ (go : List ℕ → ℕ → Setting → Walked) (returns : List ℕ) (at
   role-is unnamed n w = refl
 
   step-is : (due : Due) (w : ℕ) →
-      judged (wordRefusal due (length returns) (numberOf w) w) at w (runs go returns at s w due) ≡ perform go returns at w s (actionBy due s (numberOf w) w)
-  step-is Command w = role-is (roleOf (numberOf w)) (numberOf w) w
-  step-is FirstHalf w = by-test (eqb (numberOf w) 0xE1) (λ t. rw t) (λ f. rw f)
-  step-is (SecondHalf first) w = by-test (eqb (numberOf w) 0xF1) (λ t. rw t) (λ f. rw f)
+      judged (wordRefusal due (length returns) (firstByte w) w) at w (runs go returns at s w due) ≡ perform go returns at w s (actionBy due s (firstByte w) w)
+  step-is Command w = role-is (roleOf (firstByte w)) (firstByte w) w
+  step-is FirstHalf w = by-test (eqb (firstByte w) 0xE1) (λ t. rw t) (λ f. rw f)
+  step-is (SecondHalf first) w = by-test (eqb (firstByte w) 0xF1) (λ t. rw t) (λ f. rw f)
 
 -- the walk from an offset where a command can be read
 pub stepped :

@@ -11,9 +11,9 @@ use lib.Dec.{eqb, leb}
 use lib.ListN.{length}
 use Rattle.rdp_words.specs.Words.{wordAt}
 use Rattle.rdp_words.proofs.Tests.{neither}
-use Rattle.f3dex2.specs.Commands.{numberOf, lowHalf, Role, straight, rectangle, modes, list, end, unnamed, roleOf, settingAfter, settingFirst, parameter, topByte, far, calls, invalid}
-use Rattle.f3dex2.specs.Walk.{Walked, stopped, written, resumed, refusalAt, runsRole, runs, judged, walk}
-use Rattle.f3dex2.specs.Translate.{walked, answerOf, translateAnswer}
+use Rattle.f3dex2.specs.Commands.{firstByte, lowHalf, Role, straight, rectangle, modes, list, end, unnamed, roleOf, settingAfter, settingFirst, parameter, topByte, far, calls, invalid}
+use Rattle.f3dex2.specs.Walk.{Walked, stopped, written, resumed, offsetRefusal, runsRole, runs, judged, walk}
+use Rattle.f3dex2.specs.Translate.{walked, translatedOf, translateAnswer}
 use Rattle.f3dex2.specs.declared.Due.{Due}
 use Rattle.f3dex2.specs.declared.Due.the-variants.{Command, FirstHalf, SecondHalf}
 use Rattle.f3dex2.specs.declared.Setting.{Setting}
@@ -64,8 +64,8 @@ module _ (m left : ℕ) (wide : 2 ^ 24 ≤ m) (go : List ℕ → ℕ → Setting
     role-bounded end depth n f = loose (resumes returns s all)
     role-bounded unnamed depth n f = record { number = omega arith; place = omega arith; read = omega arith; words = omega arith }
 
-    runs-bounded : (due : Due) (depth : ℕ) → Sane due depth (numberOf w) w → Bounded m left 1 (runs go returns at s w due)
-    runs-bounded Command depth h = role-bounded (roleOf (numberOf w)) depth (numberOf w) (h .valid)
+    runs-bounded : (due : Due) (depth : ℕ) → Sane due depth (firstByte w) w → Bounded m left 1 (runs go returns at s w due)
+    runs-bounded Command depth h = role-bounded (roleOf (firstByte w)) depth (firstByte w) (h .valid)
     runs-bounded FirstHalf depth h = loose (ih returns (at + 8) s all fits)
     runs-bounded (SecondHalf first) depth h = more _ (ih returns (at + 8) s all fits)
 
@@ -86,7 +86,7 @@ module _ (memory : List ℕ) (m : ℕ) (wide : 2 ^ 24 ≤ m) (long : length memo
   walk-bounded (suc left) returns at s all h =
       let w = wordAt memory (at / 8) in
       let depth = length returns in
-      judged-bounded m left (refusalAt memory (suc left) depth at s) at w _ (refusal-most memory (suc left) depth at s) h
+      judged-bounded m left (offsetRefusal memory (suc left) depth at s) at w _ (refusal-most memory (suc left) depth at s) h
       (λ z.
       runs-bounded m left wide (walk memory left) (walk-bounded left) returns all at (le-trans (read-there memory (suc left) depth at s z) long)
       (settingAfter s w) w (s .due) depth (sane-there memory (suc left) depth at s z))
@@ -109,8 +109,8 @@ pub record Bounds (m : ℕ) (a : Translated) : Type 0 where
   pub place : a .place ≤ m
   pub read : a .read ≤ 4096
 
-answered : (m : ℕ) (r : Walked) (room : ℕ) → 4096 ≤ m → Bounded m 4096 0 r → Bounds m (answerOf r room)
-unfolding answerOf
+answered : (m : ℕ) (r : Walked) (room : ℕ) → 4096 ≤ m → Bounded m 4096 0 r → Bounds m (translatedOf r room)
+unfolding translatedOf
 answered m r room h b = by-number (eqb (r .number) 0)
   where
     short : (c : Bool) → cond c 0 14 ≤ 23

@@ -9,8 +9,8 @@ use lib.Dec.{eqb, leb}
 use lib.ListN.{length}
 use Rattle.rdp_words.specs.Words.{wordAt}
 use Rattle.rdp_words.proofs.Tests.{and-true}
-use Rattle.f3dex2.specs.Commands.{numberOf}
-use Rattle.f3dex2.specs.Walk.{readable, spent, inPlace, isInvalid, wordRefusal, refusalAt}
+use Rattle.f3dex2.specs.Commands.{firstByte}
+use Rattle.f3dex2.specs.Walk.{readable, spent, inPlace, isInvalid, wordRefusal, offsetRefusal}
 use Rattle.f3dex2.specs.declared.Due.{Due}
 use Rattle.f3dex2.specs.declared.Setting.{Setting}
 
@@ -32,21 +32,21 @@ sane due depth n w z =
     let a = passed (not (inPlace due n)) 22 (cond (isInvalid due depth n w) 23 0) (omega arith) z in
     record { in-place = not-false _ (a .0); valid = passed (isInvalid due depth n w) 23 0 (omega arith) (a .1) .0 }
 
-module _ (memory : List ℕ) (left depth at : ℕ) (s : Setting) (z : refusalAt memory left depth at s ≡ 0) where
+module _ (memory : List ℕ) (left depth at : ℕ) (s : Setting) (z : offsetRefusal memory left depth at s ≡ 0) where
   abbrev w : ℕ
   w = wordAt memory (at / 8)
 
-  readable-there : (not (readable memory at) ≡ false) × (cond (spent left) 21 (wordRefusal (s .due) depth (numberOf w) w) ≡ 0)
-  readable-there = passed (not (readable memory at)) 20 (cond (spent left) 21 (wordRefusal (s .due) depth (numberOf w) w)) (omega arith) z
+  readable-there : (not (readable memory at) ≡ false) × (cond (spent left) 21 (wordRefusal (s .due) depth (firstByte w) w) ≡ 0)
+  readable-there = passed (not (readable memory at)) 20 (cond (spent left) 21 (wordRefusal (s .due) depth (firstByte w) w)) (omega arith) z
 
   pub read-there : at + 8 ≤ length memory
   read-there = leb-true _ _ (and-true (eqb (at % 8) 0) (leb (at + 8) (length memory)) (not-false _ (readable-there .0)) .1)
 
-  pub sane-there : Sane (s .due) depth (numberOf w) w
-  sane-there = sane (s .due) depth (numberOf w) w (passed (spent left) 21 (wordRefusal (s .due) depth (numberOf w) w) (omega arith) (readable-there .1) .1)
+  pub sane-there : Sane (s .due) depth (firstByte w) w
+  sane-there = sane (s .due) depth (firstByte w) w (passed (spent left) 21 (wordRefusal (s .due) depth (firstByte w) w) (omega arith) (readable-there .1) .1)
 
 -- where no more may be read, something refuses
-pub none-left : (memory : List ℕ) (depth at : ℕ) (s : Setting) → refusalAt memory 0 depth at s ≡ 0 → ⊥
+pub none-left : (memory : List ℕ) (depth at : ℕ) (s : Setting) → offsetRefusal memory 0 depth at s ≡ 0 → ⊥
 none-left memory depth at s z = omega (arith, readable-there memory 0 depth at s z .1)
 
 -- ---- which numbers there are
@@ -55,10 +55,10 @@ cond-most : (b : Bool) (x y m : ℕ) → x ≤ m → y ≤ m → cond b x y ≤ 
 cond-most true x y m h k = h
 cond-most false x y m h k = k
 
-pub refusal-most : (memory : List ℕ) (left depth at : ℕ) (s : Setting) → refusalAt memory left depth at s ≤ 23
+pub refusal-most : (memory : List ℕ) (left depth at : ℕ) (s : Setting) → offsetRefusal memory left depth at s ≤ 23
 refusal-most memory left depth at s =
     let w = wordAt memory (at / 8) in
-    let n = numberOf w in
+    let n = firstByte w in
     cond-most (not (readable memory at)) 20 _ 23 (omega arith)
     (cond-most (spent left) 21 _ 23 (omega arith)
     (cond-most (not (inPlace (s .due) n)) 22 _ 23 (omega arith)

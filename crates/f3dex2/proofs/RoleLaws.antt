@@ -11,7 +11,7 @@ use Rattle.rdp_words.specs.Kinds.{between, wordsOf, wordsOfKind}
 use Rattle.rdp_words.specs.Kinds as rdp
 use Rattle.rdp_words.proofs.Tests.{below, by-test}
 use Rattle.rdp_words.proofs.KindLaws.{by-kinds, words-of-kind}
-use Rattle.f3dex2.specs.Commands.{numberOf, Role, straight, rectangle, modes, list, end, unnamed, roleOf, commandWord, modesWord}
+use Rattle.f3dex2.specs.Commands.{firstByte, Role, straight, rectangle, modes, list, end, unnamed, roleOf, commandWord, modesWord}
 use Rattle.f3dex2.specs.Written.{becomes}
 use Rattle.f3dex2.specs.declared.Setting.{Setting}
 
@@ -62,7 +62,7 @@ second-none n e = rw (eqb-true n 0xF1 e)
 
 -- ---- the first words of commands
 
-pub number-kept : (w : ℕ) → numberIn (commandWord w) ≡ numberOf w % 64
+pub number-kept : (w : ℕ) → numberIn (commandWord w) ≡ firstByte w % 64
 number-kept w = omega arith
 
 pub modes-one : wordsOf 0x2F ≡ 1

@@ -4,7 +4,7 @@ use mathlib.Core.List.{List, _∷_}
 use Prim.Native.Nat.{ℕ, _+_, _-_, _≤_, _<_}
 use native.Mathlib.Omega.{arith}
 use lib.ListN.{length}
-use Rattle.f3dex2.specs.Steps.{walkFrom, Sound, Later, Refuses, Goes, Ends, Runs}
+use Rattle.f3dex2.specs.Steps.{walkFrom, InBounds, Later, Refuses, Goes, Ends, Runs}
 use Rattle.f3dex2.specs.declared.State.{State}
 
 later-trans : {r s t : State} → Later r s → Later s t → Later r t
@@ -25,12 +25,12 @@ module _ {memory : List ℕ} {at depth : ℕ} {s : State} {before : List ℕ} {t
 
 -- what holds at the head of the list's loop: the walk from the start of the list is the walk from here
 pub record Ran (memory : List ℕ) (start depth : ℕ) (begun : State) (before : List ℕ) (at : ℕ) (s : State) (out : List ℕ) : Type 0 where
-  pub sound : Sound s
+  pub sound : InBounds s
   pub more : begun .read ≤ s .read
   pub as-long : length out ≡ length before
   pub same : (returns : List ℕ) → length returns ≡ depth → walkFrom memory returns start begun before ≡ walkFrom memory returns at s out
 
-pub at-start : (memory : List ℕ) (start depth : ℕ) (begun : State) (before : List ℕ) → Sound begun → Ran memory start depth begun before start begun before
+pub at-start : (memory : List ℕ) (start depth : ℕ) (begun : State) (before : List ℕ) → InBounds begun → Ran memory start depth begun before start begun before
 at-start memory start depth begun before sound =
     record { sound = sound; more = omega arith; as-long = refl; same = λ returns d. refl }
 

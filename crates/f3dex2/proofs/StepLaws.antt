@@ -10,9 +10,9 @@ use lib.ListN.{length}
 use borrow.Author.Tests.{le-leb, lt-leb, leb-true, leb-false, eqb-true}
 use Rattle.rdp_words.specs.Words.{wordAt}
 use Rattle.rdp_words.proofs.Tests.{and-true}
-use Rattle.f3dex2.specs.Commands.{numberOf, settingAfter}
+use Rattle.f3dex2.specs.Commands.{firstByte, settingAfter}
 use Rattle.f3dex2.specs.Walk.{Walked, stopped, counted, written, resumed, readable, walk}
-use Rattle.f3dex2.specs.Steps.{actionBy, actionOf, perform, readRefusal, putWord, putWords, refusedWith, settled, walkFrom, Sound, Later, Refuses, Goes, Ends, Runs}
+use Rattle.f3dex2.specs.Steps.{actionBy, actionOf, perform, readRefusal, putWord, putWords, refusedWith, settledOn, walkFrom, InBounds, Later, Refuses, Goes, Ends, Runs}
 use Rattle.f3dex2.proofs.ActionLaws.{stepped}
 use Rattle.f3dex2.specs.declared.Setting.{Setting}
 use Rattle.f3dex2.specs.declared.State.{State}
@@ -20,13 +20,13 @@ use Rattle.f3dex2.specs.declared.Action.{Action}
 use Rattle.f3dex2.specs.declared.Action.the-variants.{Unknown, Invalid, Write, Pass, Call, Branch, End}
 
 -- nothing is to come
-pub settled-stopped : (g at : ℕ) (s : State) (out : List ℕ) → settled (stopped g at) s out ≡ refusedWith g at s out
+pub settled-stopped : (g at : ℕ) (s : State) (out : List ℕ) → settledOn (stopped g at) s out ≡ refusedWith g at s out
 settled-stopped g at s out =
     λ i. record { number = g; place = at; read = add-zero (s .read) i; words = add-zero (s .written) i; out = out }
 
 module _ (r : Walked) (s t : State) (out : List ℕ) (read-more : t .read ≡ s .read + 1) where
   -- one command is read
-  settled-counted : (w : ℕ) → t .written ≡ s .written → settled (counted w r) s out ≡ settled r t out
+  settled-counted : (w : ℕ) → t .written ≡ s .written → settledOn (counted w r) s out ≡ settledOn r t out
   settled-counted w e =
       let reads : s .read + suc (length (r .commands)) ≡ t .read + length (r .commands) = omega arith in
       λ i.
@@ -39,7 +39,7 @@ module _ (r : Walked) (s t : State) (out : List ℕ) (read-more : t .read ≡ s 
       }
 
   -- and one word is written
-  settled-written : (w x : ℕ) → t .written ≡ s .written + 1 → settled (counted w (written x r)) s out ≡ settled r t (putWord (s .written) x out)
+  settled-written : (w x : ℕ) → t .written ≡ s .written + 1 → settledOn (counted w (written x r)) s out ≡ settledOn r t (putWord (s .written) x out)
   settled-written w x e =
       let reads : s .read + suc (length (r .commands)) ≡ t .read + length (r .commands) = omega arith in
       let words : s .written + suc (length (r .words)) ≡ t .written + length (r .words) = omega arith in
@@ -87,7 +87,7 @@ module _ (memory : List ℕ) (at depth : ℕ) (s : State) (out : List ℕ) {g : 
         some = λ z. omega arith;
         same =
             λ returns d.
-            ap (λ (r : Walked). settled r s out) (unreadable memory at (4096 - s .read) returns (s .setting) e) ∙ settled-stopped 20 at s out;
+            ap (λ (r : Walked). settledOn r s out) (unreadable memory at (4096 - s .read) returns (s .setting) e) ∙ settled-stopped 20 at s out;
       })
   unread-by (no-more e m is) =
       rw is
@@ -95,7 +95,7 @@ module _ (memory : List ℕ) (at depth : ℕ) (s : State) (out : List ℕ) {g : 
         some = λ z. omega arith;
         same =
             λ returns d.
-            ap (λ (r : Walked). settled r s out) (full memory at (4096 - s .read) returns (s .setting) e (omega arith)) ∙ settled-stopped 21 at s out;
+            ap (λ (r : Walked). settledOn r s out) (full memory at (4096 - s .read) returns (s .setting) e (omega arith)) ∙ settled-stopped 21 at s out;
       })
   unread-by (can-read e m is) = absurd (some is)
 
@@ -123,21 +123,21 @@ module _ (memory : List ℕ) (at read : ℕ) {g : ℕ} (is-g : g ≡ readRefusal
 
 -- the command at an offset is read: it does `action`, and leaves `set`
 pub record Reading (memory : List ℕ) (at : ℕ) (s : State) (set : Setting) (action : Action) : Type 0 where
-  pub sound : Sound s
+  pub sound : InBounds s
   pub can : Readable memory at (s .read)
   pub is-set : set ≡ settingAfter (s .setting) (wordAt memory (at / 8))
   pub is-action : action ≡ actionOf (s .setting) (wordAt memory (at / 8))
 
 pub reading :
-    (memory : List ℕ) (at : ℕ) (s : State) → Sound s → {g : ℕ} → g ≡ readRefusal memory at (s .read) → g ≡ 0 → {w : ℕ} → w ≡ wordAt memory (at / 8) →
-    {set : Setting} → set ≡ settingAfter (s .setting) w → {action : Action} → action ≡ actionBy (s .setting .due) set (numberOf w) w → Reading memory at s set action
+    (memory : List ℕ) (at : ℕ) (s : State) → InBounds s → {g : ℕ} → g ≡ readRefusal memory at (s .read) → g ≡ 0 → {w : ℕ} → w ≡ wordAt memory (at / 8) →
+    {set : Setting} → set ≡ settingAfter (s .setting) w → {action : Action} → action ≡ actionBy (s .setting .due) set (firstByte w) w → Reading memory at s set action
 unfolding actionOf
 reading memory at s sound is-g zero-g {w} is-w is-set is-action =
     record {
       sound = sound;
       can = found memory at (s .read) is-g zero-g;
       is-set = rw is-w at is-set;
-      is-action = rw is-w at (is-action ∙ ap (λ (t : Setting). actionBy (s .setting .due) t (numberOf w) w) is-set);
+      is-action = rw is-w at (is-action ∙ ap (λ (t : Setting). actionBy (s .setting .due) t (firstByte w) w) is-set);
     }
 
 module _ {memory : List ℕ} {at : ℕ} {s : State} {set : Setting} {action : Action} (known : Reading memory at s set action) where
@@ -152,9 +152,9 @@ module _ {memory : List ℕ} {at : ℕ} {s : State} {set : Setting} {action : Ac
       let e : 4096 - s .read ≡ suc (4096 - (s .read + 1)) = omega (arith, known .can .left) in
       rw (e, known .is-action, known .is-set) (stepped memory at (4096 - (s .read + 1)) returns (s .setting) (known .can .there))
 
-  step-by : {b : Action} → action ≡ b → (returns out : List ℕ) → walkFrom memory returns at s out ≡ settled (perform go returns at word set b) s out
+  step-by : {b : Action} → action ≡ b → (returns out : List ℕ) → walkFrom memory returns at s out ≡ settledOn (perform go returns at word set b) s out
   step-by {b} e returns out =
-      ap (λ (r : Walked). settled r s out) (one-step returns) ∙ ap (λ (b : Action). settled (perform go returns at word set b) s out) e
+      ap (λ (r : Walked). settledOn r s out) (one-step returns) ∙ ap (λ (b : Action). settledOn (perform go returns at word set b) s out) e
 
   -- the state after the command, with as many words written as before or one more
   abbrev next : ℕ → State

@@ -12,8 +12,8 @@ use lib.ListN.{length}
 use Rattle.rdp_words.specs.Words.{wordAt, numberIn}
 use Rattle.rdp_words.specs.Kinds.{between, wordsOf}
 use Rattle.rdp_words.proofs.Tests.{both, true-of, false-of}
-use Rattle.f3dex2.specs.Commands.{numberOf, lowHalf, Role, straight, rectangle, modes, list, end, unnamed, roleOf, commandWord, secondWord, modesWord, countIn, shiftCode, inside, masked, modified, settingBy, settingAfter, settingFirst, calls}
-use Rattle.f3dex2.specs.Walk.{Walked, counted, resumed, named, refusalAt, runsRole, runs, judged, walk}
+use Rattle.f3dex2.specs.Commands.{firstByte, lowHalf, Role, straight, rectangle, modes, list, end, unnamed, roleOf, commandWord, secondWord, modesWord, countIn, shiftCode, inside, masked, modified, settingBy, settingAfter, settingFirst, calls}
+use Rattle.f3dex2.specs.Walk.{Walked, counted, resumed, named, offsetRefusal, runsRole, runs, judged, walk}
 use Rattle.f3dex2.specs.Translate.{walked}
 use Rattle.f3dex2.specs.Written.{becomes, numbersFor, AreCommands, none, one, two}
 use Rattle.f3dex2.specs.declared.Due.{Due}
@@ -66,38 +66,38 @@ module _ (go : List ℕ → ℕ → Setting → Walked)
   resumes (at ∷ returns) s h e z = subst (λ (d : Due). Good d (go returns at s)) e (ih returns at s h z)
 
   module _ (returns : List ℕ) (at w : ℕ) (s : Setting) (small : s .low < 2 ^ 32) where
-    module _ (is : s .due ≡ cond (between 0xE4 0xE5 (numberOf w)) FirstHalf Command) where
-      due-by : (b : Bool) → between 0xE4 0xE5 (numberOf w) ≡ b → s .due ≡ cond b FirstHalf Command
+    module _ (is : s .due ≡ cond (between 0xE4 0xE5 (firstByte w)) FirstHalf Command) where
+      due-by : (b : Bool) → between 0xE4 0xE5 (firstByte w) ≡ b → s .due ≡ cond b FirstHalf Command
       due-by b e = is ∙ ap (λ (c : Bool). cond c FirstHalf Command) e
 
       -- no half-word is due after it
-      plain : (to : List ℕ) (on : ℕ) → T (not (between 0xE4 0xE5 (numberOf w))) → go to on s .number ≡ 0 → Good Command (go to on s)
+      plain : (to : List ℕ) (on : ℕ) → T (not (between 0xE4 0xE5 (firstByte w))) → go to on s .number ≡ 0 → Good Command (go to on s)
       plain to on t z = subst (λ (d : Due). Good d (go to on s)) (due-by false (false-of _ t)) (ih to on s small z)
 
-      halved : T (between 0xE4 0xE5 (numberOf w)) → go returns (at + 8) s .number ≡ 0 → Halved (go returns (at + 8) s)
+      halved : T (between 0xE4 0xE5 (firstByte w)) → go returns (at + 8) s .number ≡ 0 → Halved (go returns (at + 8) s)
       halved t z = subst (λ (d : Due). Good d (go returns (at + 8) s)) (due-by true (true-of _ t)) (ih returns (at + 8) s small z)
 
       -- a word of the command's own number
-      own : {ws ns : List ℕ} → AreCommands ws (numberIn (commandWord w) ∷ ns) → AreCommands ws (numberOf w % 64 ∷ ns)
+      own : {ws ns : List ℕ} → AreCommands ws (numberIn (commandWord w) ∷ ns) → AreCommands ws (firstByte w % 64 ∷ ns)
       own {ws} {ns} = subst (λ (k : ℕ). AreCommands ws (k ∷ ns)) (number-kept w)
 
-      words-by : {k : ℕ} → T (eqb (wordsOf (numberOf w % 64)) k) → wordsOf (numberIn (commandWord w)) ≡ k
+      words-by : {k : ℕ} → T (eqb (wordsOf (firstByte w % 64)) k) → wordsOf (numberIn (commandWord w)) ≡ k
       words-by t = ap wordsOf (number-kept w) ∙ eqb→eq _ _ t
 
       either :
-          (b : Bool) (to : List ℕ) (on : ℕ) → T (not (between 0xE4 0xE5 (numberOf w))) → cond b (go to on s) (go returns on s) .number ≡ 0 →
+          (b : Bool) (to : List ℕ) (on : ℕ) → T (not (between 0xE4 0xE5 (firstByte w))) → cond b (go to on s) (go returns on s) .number ≡ 0 →
           Good Command (cond b (go to on s) (go returns on s))
       either true to on t z = plain to on t z
       either false to on t z = plain returns on t z
 
       role-written :
-          (k : Role) → T (roleTest k (numberOf w)) → named k ≡ true → runsRole go returns at s w k .number ≡ 0 →
-          AreCommands (runsRole go returns at s w k .words) (becomes k (numberOf w) ++ numbersFor (runsRole go returns at s w k .commands))
+          (k : Role) → T (roleTest k (firstByte w)) → named k ≡ true → runsRole go returns at s w k .number ≡ 0 →
+          AreCommands (runsRole go returns at s w k .words) (becomes k (firstByte w) ++ numbersFor (runsRole go returns at s w k .commands))
       role-written straight t m z =
-          let b = both (not (between 0xE4 0xE5 (numberOf w))) (eqb (wordsOf (numberOf w % 64)) 1) t in
+          let b = both (not (between 0xE4 0xE5 (firstByte w))) (eqb (wordsOf (firstByte w % 64)) 1) t in
           own (one (commandWord w) (mod-lt w (lit< tt)) (words-by (b .1)) (plain returns (at + 8) (b .0) z))
       role-written rectangle t m z =
-          let b = both (between 0xE4 0xE5 (numberOf w)) (eqb (wordsOf (numberOf w % 64)) 2) t in
+          let b = both (between 0xE4 0xE5 (firstByte w)) (eqb (wordsOf (firstByte w % 64)) 2) t in
           let h = halved (b .0) z in
           own
           (subst (λ (ws : List ℕ). AreCommands (commandWord w ∷ ws) (numberIn (commandWord w) ∷ numbersFor (go returns (at + 8) s .commands))) (sym (h .split))
@@ -112,7 +112,7 @@ module _ (go : List ℕ → ℕ → Setting → Walked)
       role-written unnamed t m z = absurd (false≢true m)
 
     -- one more command is read, which becomes none
-    passed-over : {r : Walked} → becomes (roleOf (numberOf w)) (numberOf w) ≡ [] → Halved r → Halved (counted w r)
+    passed-over : {r : Walked} → becomes (roleOf (firstByte w)) (firstByte w) ≡ [] → Halved r → Halved (counted w r)
     passed-over {r} e h =
         record {
           second = h .second;
@@ -122,23 +122,23 @@ module _ (go : List ℕ → ℕ → Setting → Walked)
         }
 
   runs-written :
-      (returns : List ℕ) (at w depth : ℕ) (due : Due) (s : Setting) → s .low < 2 ^ 32 → Sane due depth (numberOf w) w →
-      runs go returns at (settingBy due s (numberOf w) w) w due .number ≡ 0 → Good due (counted w (runs go returns at (settingBy due s (numberOf w) w) w due))
+      (returns : List ℕ) (at w depth : ℕ) (due : Due) (s : Setting) → s .low < 2 ^ 32 → Sane due depth (firstByte w) w →
+      runs go returns at (settingBy due s (firstByte w) w) w due .number ≡ 0 → Good due (counted w (runs go returns at (settingBy due s (firstByte w) w) w due))
   runs-written returns at w depth Command s h sane z =
-      let n = numberOf w in
+      let n = firstByte w in
       role-written returns at w (settingBy Command s n w) (low-by Command s n w h) refl (roleOf n) (role-known n) (sane .in-place) z
   runs-written returns at w depth FirstHalf s h sane z =
-      let after = settingBy FirstHalf s (numberOf w) w in
-      passed-over returns at w after h (first-none (numberOf w) (sane .in-place)) (ih returns (at + 8) after h z)
+      let after = settingBy FirstHalf s (firstByte w) w in
+      passed-over returns at w after h (first-none (firstByte w) (sane .in-place)) (ih returns (at + 8) after h z)
   runs-written returns at w depth (SecondHalf first) s h sane z =
-      let after = settingBy (SecondHalf first) s (numberOf w) w in
+      let after = settingBy (SecondHalf first) s (firstByte w) w in
       let r = go returns (at + 8) after in
       record {
         second = secondWord first w;
         rest = r .words;
         split = refl;
         commands =
-            subst (λ (ns : List ℕ). AreCommands (r .words) (ns ++ numbersFor (r .commands))) (sym (second-none (numberOf w) (sane .in-place)))
+            subst (λ (ns : List ℕ). AreCommands (r .words) (ns ++ numbersFor (r .commands))) (sym (second-none (firstByte w) (sane .in-place)))
             (ih returns (at + 8) after h z);
       }
 
@@ -156,7 +156,7 @@ unfolding walk settingAfter
 walk-good memory zero returns at s h z = absurd (none-left memory (length returns) at s z)
 walk-good memory (suc left) returns at s h z =
     let w = wordAt memory (at / 8) in
-    judged-good (s .due) (refusalAt memory (suc left) (length returns) at s) at w _
+    judged-good (s .due) (offsetRefusal memory (suc left) (length returns) at s) at w _
     (λ g. runs-written (walk memory left) (walk-good memory left) returns at w (length returns) (s .due) s h (sane-there memory (suc left) (length returns) at s g)) z
 
 pub words-commands :

@@ -9,8 +9,8 @@ use Rattle.f3dex2.specs.declared.Due.the-variants.{Command, FirstHalf, S
 use Rattle.f3dex2.specs.declared.Setting.{Setting}
 
 -- the number of a command: its first byte
-abbrev pub numberOf : ℕ → ℕ
-numberOf w = w / 2 ^ 56
+abbrev pub firstByte : ℕ → ℕ
+firstByte w = w / 2 ^ 56
 
 -- the low 32 bits of a command: an address, a half-word, or mode bits
 abbrev pub lowHalf : ℕ → ℕ
@@ -86,7 +86,7 @@ settingBy (SecondHalf first) s n w = record { high = s .high; low = s .low; due 
 
 -- the setting after a command
 unfoldable pub settingAfter : Setting → ℕ → Setting
-settingAfter s w = settingBy (s .due) s (numberOf w) w
+settingAfter s w = settingBy (s .due) s (firstByte w) w
 
 -- "The setting starts at zero"
 abbrev pub settingFirst : Setting

@@ -2,8 +2,9 @@
 use Prim.Native.Nat.{ℕ}
 use mathlib.Core.List.{List, [], _∷_}
 use lib.ListN.{length}
+use Rattle.rdp_words.specs.Words.{bytesOfWords}
 use Rattle.f3dex2.specs.Walk.{Walked}
-use Rattle.f3dex2.specs.Translate.{walked, joined}
+use Rattle.f3dex2.specs.Translate.{walked}
 
 -- the number, the place, the commands read and the words of a walk
 pub record Result : Type 0 where
@@ -23,26 +24,26 @@ pub record Example : Type 0 where
 abbrev pub refused : List ℕ → ℕ → ℕ → ℕ → List ℕ → Example
 refused list number place read words = record { list = list; result = record { number = number; place = place; read = read; words = words } }
 
-abbrev pub accepted : List ℕ → ℕ → List ℕ → Example
-accepted list read words = refused list 0 0 read words
+abbrev pub translated : List ℕ → ℕ → List ℕ → Example
+translated list read words = refused list 0 0 read words
 
 abbrev pub return : ℕ
 return = 0xDF00000000000000
 
-unfoldable pub examples : List Example
-examples =
+unfoldable pub walkExamples : List Example
+walkExamples =
     -- straight commands
-    accepted (0xE700000000000000 ∷ 0xFF10013F00100000 ∷ return ∷ []) 3 (0x2700000000000000 ∷ 0x3F10013F00100000 ∷ [])
+    translated (0xE700000000000000 ∷ 0xFF10013F00100000 ∷ return ∷ []) 3 (0x2700000000000000 ∷ 0x3F10013F00100000 ∷ [])
     -- a call, a return, and the end of the outermost list
-    ∷ accepted (0xDE00000000000018 ∷ 0xE700000000000000 ∷ return ∷ 0xE600000000000000 ∷ return ∷ []) 5 (0x2600000000000000 ∷ 0x2700000000000000 ∷ [])
+    ∷ translated (0xDE00000000000018 ∷ 0xE700000000000000 ∷ return ∷ 0xE600000000000000 ∷ return ∷ []) 5 (0x2600000000000000 ∷ 0x2700000000000000 ∷ [])
     -- for good
-    ∷ accepted (0xDE01000000000018 ∷ 0xE700000000000000 ∷ return ∷ 0xE600000000000000 ∷ return ∷ []) 3 (0x2600000000000000 ∷ [])
+    ∷ translated (0xDE01000000000018 ∷ 0xE700000000000000 ∷ return ∷ 0xE600000000000000 ∷ return ∷ []) 3 (0x2600000000000000 ∷ [])
     -- a texture rectangle with its half-words
-    ∷ accepted (0xE400000007000000 ∷ 0xE100000000100020 ∷ 0xF100000004000400 ∷ return ∷ []) 4 (0x2400000007000000 ∷ 0x0010002004000400 ∷ [])
+    ∷ translated (0xE400000007000000 ∷ 0xE100000000100020 ∷ 0xF100000004000400 ∷ return ∷ []) 4 (0x2400000007000000 ∷ 0x0010002004000400 ∷ [])
     -- the render mode, 29 bits from bit 3 up, and then the cycle type, 2 bits from bit 20 up of the high word
-    ∷ accepted (0xE200001C00504240 ∷ 0xE3000A0100300000 ∷ return ∷ []) 3 (0x2F00000000504240 ∷ 0x2F30000000504240 ∷ [])
+    ∷ translated (0xE200001C00504240 ∷ 0xE3000A0100300000 ∷ return ∷ []) 3 (0x2F00000000504240 ∷ 0x2F30000000504240 ∷ [])
     -- 0xEF sets the whole, and 0xE2 clears what it changes
-    ∷ accepted (0xEF30000000000005 ∷ 0xE2001E0100000001 ∷ return ∷ []) 3 (0x2F30000000000005 ∷ 0x2F30000000000005 ∷ [])
+    ∷ translated (0xEF30000000000005 ∷ 0xE2001E0100000001 ∷ return ∷ []) 3 (0x2F30000000000005 ∷ 0x2F30000000000005 ∷ [])
     -- no command after the last; a number that is not named; a half-word that is missing, one beyond the memory, and one out of place
     ∷ refused (0xE700000000000000 ∷ []) 20 8 1 (0x2700000000000000 ∷ [])
     ∷ refused (0xE000000000000000 ∷ []) 22 0 0 []
@@ -61,7 +62,7 @@ examples =
 -- what the walks come to, and what they should
 abbrev pub results : List Example → List Result
 results [] = []
-results (e ∷ es) = resultOf (walked (joined (e .list)) 0) ∷ results es
+results (e ∷ es) = resultOf (walked (bytesOfWords (e .list)) 0) ∷ results es
 
 abbrev pub expected : List Example → List Result
 expected [] = []

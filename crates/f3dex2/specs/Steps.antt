@@ -8,7 +8,7 @@ use lib.Dec.{eqb, leb}
 use lib.ListN.{length}
 use Rattle.rdp_words.specs.Words.{bytesOf, pasted}
 use Rattle.rdp_words.specs.Kinds.{between}
-use Rattle.f3dex2.specs.Commands.{numberOf, lowHalf, Role, straight, rectangle, modes, list, end, unnamed, roleOf, commandWord, secondWord, modesWord, inside, settingAfter, settingFirst, parameter, far, calls}
+use Rattle.f3dex2.specs.Commands.{firstByte, lowHalf, Role, straight, rectangle, modes, list, end, unnamed, roleOf, commandWord, secondWord, modesWord, inside, settingAfter, settingFirst, parameter, far, calls}
 use Rattle.f3dex2.specs.Walk.{Walked, stopped, counted, written, readable, resumed, walk}
 use Rattle.f3dex2.specs.declared.Due.{Due}
 use Rattle.f3dex2.specs.declared.Due.the-variants.{Command, FirstHalf, SecondHalf}
@@ -54,7 +54,7 @@ actionBy FirstHalf s n w = cond (eqb n 0xE1) Pass Unknown
 actionBy (SecondHalf first) s n w = cond (eqb n 0xF1) (Write (secondWord first w)) Unknown
 
 unfoldable pub actionOf : Setting → ℕ → Action
-actionOf s w = actionBy (s .due) (settingAfter s w) (numberOf w) w
+actionOf s w = actionBy (s .due) (settingAfter s w) (firstByte w) w
 
 -- the walk from there on; a ninth call deep is refused here
 abbrev pub perform : (List ℕ → ℕ → Setting → Walked) → List ℕ → ℕ → ℕ → Setting → Action → Walked
@@ -84,8 +84,8 @@ putWords k (w ∷ ws) out = putWords (suc k) ws (putWord k w out)
 -- ---- how far a walk has come
 
 -- before the first command
-abbrev pub start : State
-start = record { setting = settingFirst; read = 0; written = 0 }
+abbrev pub walkStart : State
+walkStart = record { setting = settingFirst; read = 0; written = 0 }
 
 -- a walk that is over, with its output
 pub record Settled : Type 0 where
@@ -99,8 +99,8 @@ abbrev pub refusedWith : ℕ → ℕ → State → List ℕ → Settled
 refusedWith number place s out = record { number = number; place = place; read = s .read; words = s .written; out = out }
 
 -- what is to come, settled on what has been read and written
-abbrev pub settled : Walked → State → List ℕ → Settled
-settled r s out =
+abbrev pub settledOn : Walked → State → List ℕ → Settled
+settledOn r s out =
     record {
       number = r .number;
       place = r .place;
@@ -110,20 +110,20 @@ settled r s out =
     }
 
 abbrev pub walkFrom : List ℕ → List ℕ → ℕ → State → List ℕ → Settled
-walkFrom memory returns at s out = settled (walk memory (4096 - s .read) returns at (s .setting)) s out
+walkFrom memory returns at s out = settledOn (walk memory (4096 - s .read) returns at (s .setting)) s out
 
 -- on after the end of a list
 abbrev pub walkBack : List ℕ → List ℕ → State → List ℕ → Settled
-walkBack memory returns s out = settled (resumed (walk memory (4096 - s .read)) returns (s .setting)) s out
+walkBack memory returns s out = settledOn (resumed (walk memory (4096 - s .read)) returns (s .setting)) s out
 
 -- the counts are in bounds
-pub record Sound (s : State) : Type 0 where
+pub record InBounds (s : State) : Type 0 where
   pub read : s .read ≤ 4096
   pub written : s .written ≤ s .read
 
 -- a state that comes later
 pub record Later (s t : State) : Type 0 where
-  pub sound : Sound t
+  pub sound : InBounds t
   pub more : s .read < t .read
 
 -- the walk from an offset, whatever stands on the stack of `depth` offsets to return to, is refused, goes on elsewhere, ends its list, or runs a list first

@@ -6,7 +6,7 @@ use mathlib.Core.List.{List, [], _∷_}
 use lib.Dec.{eqb, leb}
 use lib.ListN.{length}
 use Rattle.rdp_words.specs.Words.{wordAt}
-use Rattle.f3dex2.specs.Commands.{numberOf, lowHalf, Role, straight, rectangle, modes, list, end, unnamed, roleOf, commandWord, secondWord, modesWord, settingAfter, calls, invalid}
+use Rattle.f3dex2.specs.Commands.{firstByte, lowHalf, Role, straight, rectangle, modes, list, end, unnamed, roleOf, commandWord, secondWord, modesWord, settingAfter, calls, invalid}
 use Rattle.f3dex2.specs.declared.Due.{Due}
 use Rattle.f3dex2.specs.declared.Due.the-variants.{Command, FirstHalf, SecondHalf}
 use Rattle.f3dex2.specs.declared.Setting.{Setting}
@@ -18,7 +18,7 @@ pub record Walked : Type 0 where
   pub commands : List ℕ
   pub words : List ℕ
 
--- a refusal; "a refused one not" counted
+-- a refusal, "a refused one not" counted; with number 0 the end of the outermost list
 abbrev pub stopped : ℕ → ℕ → Walked
 stopped number place = record { number = number; place = place; commands = []; words = [] }
 
@@ -70,12 +70,12 @@ wordRefusal due depth n w =
     0)
 
 -- "first 20, ..; 21, the 4,097th command; 22, ..; 23, ..": the first that holds of the command at an offset, or 0. `left` commands may still be read
-abbrev pub refusalAt : List ℕ → ℕ → ℕ → ℕ → Setting → ℕ
-refusalAt memory left depth at s =
+abbrev pub offsetRefusal : List ℕ → ℕ → ℕ → ℕ → Setting → ℕ
+offsetRefusal memory left depth at s =
     let w = wordAt memory (at / 8) in
     cond (not (readable memory at)) 20
     (cond (spent left) 21
-    (wordRefusal (s .due) depth (numberOf w) w))
+    (wordRefusal (s .due) depth (firstByte w) w))
 
 -- ---- what a command does that is not refused
 
@@ -97,7 +97,7 @@ runsRole go returns at s w unnamed = stopped 22 at
 
 -- by what is due: a rectangle's second word is written where its second half-word is read
 abbrev pub runs : (List ℕ → ℕ → Setting → Walked) → List ℕ → ℕ → Setting → ℕ → Due → Walked
-runs go returns at s w Command = runsRole go returns at s w (roleOf (numberOf w))
+runs go returns at s w Command = runsRole go returns at s w (roleOf (firstByte w))
 runs go returns at s w FirstHalf = go returns (at + 8) s
 runs go returns at s w (SecondHalf first) = written (secondWord first w) (go returns (at + 8) s)
 
@@ -110,7 +110,7 @@ judged (suc g) at w r = stopped (suc g) at
 
 -- from an offset, with so many commands that may still be read
 unfoldable pub walk : List ℕ → ℕ → List ℕ → ℕ → Setting → Walked
-walk memory zero returns at s = stopped (refusalAt memory 0 (length returns) at s) at
+walk memory zero returns at s = stopped (offsetRefusal memory 0 (length returns) at s) at
 walk memory (suc left) returns at s =
     let w = wordAt memory (at / 8) in
-    judged (refusalAt memory (suc left) (length returns) at s) at w (runs (walk memory left) returns at (settingAfter s w) w (s .due))
+    judged (offsetRefusal memory (suc left) (length returns) at s) at w (runs (walk memory left) returns at (settingAfter s w) w (s .due))

@@ -9,7 +9,7 @@ use Rattle.rdp_command.specs.Commands as rdp
 use Rattle.rdp_command.specs.Decode.{decodeOf}
 use Rattle.rdp_command.specs.declared.Command.{Command}
 use Rattle.rdp_command.specs.declared.Decoded.the-variants.{Whole}
-use Rattle.f3dex2.specs.Commands.{numberOf, Role, straight, rectangle, modes, list, end, unnamed, roleOf}
+use Rattle.f3dex2.specs.Commands.{firstByte, Role, straight, rectangle, modes, list, end, unnamed, roleOf}
 
 -- the RDP commands that a display list command becomes, by their numbers: "the command of the low six bits"; "each then writes one Set Other Modes"; a
 -- half-word's bits are in its rectangle, and 0xDE and 0xDF write nothing
@@ -24,7 +24,7 @@ becomes unnamed n = []
 -- those of the commands that are read, in their order
 abbrev pub numbersFor : List ℕ → List ℕ
 numbersFor [] = []
-numbersFor (w ∷ ws) = becomes (roleOf (numberOf w)) (numberOf w) ++ numbersFor ws
+numbersFor (w ∷ ws) = becomes (roleOf (firstByte w)) (firstByte w) ++ numbersFor ws
 
 -- words that are whole commands of one or two words, of these numbers; "bits 63:62 zero" in the first word of each
 pub data AreCommands : List ℕ → List ℕ → Type 0 where

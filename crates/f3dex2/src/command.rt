@@ -2,7 +2,7 @@
 use crate::*;
 ghost use mathlib.Core.Path.{_≡_};
 ghost use Prim.Native.Nat.{_+_, _≤_};
-ghost use Rattle.f3dex2.specs.Commands.{numberOf, lowHalf, roleOf, countIn, shiftCode, masked, modified, settingBy, settingAfter, modesWord};
+ghost use Rattle.f3dex2.specs.Commands.{firstByte, lowHalf, roleOf, countIn, shiftCode, masked, modified, settingBy, settingAfter, modesWord};
 ghost use Rattle.f3dex2.specs.Steps.{modesOnly, listAction, modesAction, roleAction, actionBy};
 
 // x & ~(((1 << count) - 1) << shift) | bits
@@ -60,7 +60,7 @@ fn modes(high: u32, low: u32) -> Setting
 
 // The setting after a command, where no half-word is due before it.
 fn after_command(s: Setting, w: u64) -> Setting
-    ensures { λ r. ⌜ r ≡ settingBy Due.Command s (numberOf w) w ⌝ }
+    ensures { λ r. ⌜ r ≡ settingBy Due.Command s (firstByte w) w ⌝ }
 {
     let number = w >> 56;
     if number == 0xEF {
@@ -136,7 +136,7 @@ fn modes_action(after: Setting, w: u64) -> Action
 
 // What a command does, where no half-word is due; `after` is the setting after it.
 fn command_action(after: Setting, w: u64) -> Action
-    ensures { λ r. ⌜ r ≡ roleAction (roleOf (numberOf w)) after (numberOf w) w ⌝ }
+    ensures { λ r. ⌜ r ≡ roleAction (roleOf (firstByte w)) after (firstByte w) w ⌝ }
 {
     let number = w >> 56;
     let kept = w % 0x4000_0000_0000_0000;
@@ -163,7 +163,7 @@ fn command_action(after: Setting, w: u64) -> Action
 
 // What a command does, by what is due before it and by its word; `after` is the setting after it.
 pub fn action_for(due: Due, after: Setting, w: u64) -> Action
-    ensures { λ r. ⌜ r ≡ actionBy due after (numberOf w) w ⌝ }
+    ensures { λ r. ⌜ r ≡ actionBy due after (firstByte w) w ⌝ }
 {
     let number = w >> 56;
     match due {

@@ -4,11 +4,11 @@ use crate::output::put;
 use crate::*;
 ghost use mathlib.Core.Path.{_≡_};
 ghost use Prim.Native.Nat.{_≤_};
-ghost use Rattle.f3dex2.specs.Steps.{start, readRefusal, Sound, AskedIs, StepIs, ListIs};
+ghost use Rattle.f3dex2.specs.Steps.{walkStart, readRefusal, InBounds, AskedIs, StepIs, ListIs};
 
 // Before the first command.
 pub fn fresh() -> State
-    ensures { λ r. ⌜ r ≡ start ⌝ }
+    ensures { λ r. ⌜ r ≡ walkStart ⌝ }
 {
     State {
         setting: Setting {
@@ -43,7 +43,7 @@ fn read_refusal(memory: &[u8], at: usize, read: usize) -> u32
 
 // Reads the command at an offset, with `depth` calls open, and writes its word; a list that it calls is left to the caller.
 fn read_command(memory: &[u8], at: usize, depth: usize, state: State, out: &mut [u8]) -> Asked
-    requires { ⌜ Sound state ⌝ }
+    requires { ⌜ InBounds state ⌝ }
     ensures { λ r. ⌜ AskedIs (now (memory .entry)) at depth state (now (out .entry)) r (now (out .exit)) ⌝ }
 {
     let read = state.read;
@@ -84,7 +84,7 @@ fn read_command(memory: &[u8], at: usize, depth: usize, state: State, out: &mut 
 
 // Runs the command at an offset, with `depth` calls open.
 fn run_command(memory: &[u8], at: usize, depth: usize, state: State, out: &mut [u8]) -> Stepped
-    requires { ⌜ Sound state × (depth ≤ 8) ⌝ }
+    requires { ⌜ InBounds state × (depth ≤ 8) ⌝ }
     ensures { λ r. ⌜ StepIs (now (memory .entry)) at depth state (now (out .entry)) r (now (out .exit)) ⌝ }
 {
     match read_command(memory, at, depth, state, out) {
@@ -100,7 +100,7 @@ fn run_command(memory: &[u8], at: usize, depth: usize, state: State, out: &mut [
 
 // Runs the list at an offset, with `depth` calls open, up to its end.
 pub fn run_list(memory: &[u8], start: usize, depth: usize, begun: State, out: &mut [u8]) -> Outcome
-    requires { ⌜ Sound begun × (depth ≤ 8) ⌝ }
+    requires { ⌜ InBounds begun × (depth ≤ 8) ⌝ }
     ensures { λ r. ⌜ ListIs (now (memory .entry)) start depth begun (now (out .entry)) r (now (out .exit)) ⌝ }
 {
     let mut at = start;

@@ -16,7 +16,7 @@ use Rattle.rdp_texels.specs.Load.{loadNeeds}
 use Rattle.rdp_texels.proofs.ActLaws.{never, both-lie}
 use Rattle.rdp_block.specs.declared.Strip.{Strip}
 use Rattle.rdp_block.specs.Block.{blockCount, blockNeeds, blockMoves, blockRefusals, blockRefusal, blockTexture}
-use Rattle.rdp_block.specs.Strips.{Small, stripMoves, stripOf, flat, stripRefusal, Fits}
+use Rattle.rdp_block.specs.Strips.{SmallStrip, stripMoves, stripOf, flat, stripRefusal, Fits}
 use Rattle.rdp_block.proofs.StripLaws.{block-strip}
 use Rattle.rdp_block.proofs.EndLaws.{strip-refusal}
 
@@ -52,7 +52,7 @@ module _ (l : LoadFields) where
       ∙ rw (needs, block-strip l) (sym (strip-refusal (stripOf l) (strip-some needs) strip-whole start len))
 
   -- where nothing is refused, the strip is there
-  pub block-fits : (start len : ℕ) {q : Strip} → q ≡ stripOf l → Small q → blockRefusal l start len ≡ 0 → Fits q start len
+  pub block-fits : (start len : ℕ) {q : Strip} → q ≡ stripOf l → SmallStrip q → blockRefusal l start len ≡ 0 → Fits q start len
   unfolding blockRefusal stripRefusal
   block-fits start len {q} e small clear =
       by-test (blockNeeds l)

@@ -26,7 +26,7 @@ stripOf l =
     }
 
 -- far below what a sum or a product could wrap at
-pub record Small (q : Strip) : Type 0 where
+pub record SmallStrip (q : Strip) : Type 0 where
   pub address : q .address ≤ 68719476736
   pub ahead : q .ahead ≤ 524288
   pub dxt : q .dxt ≤ 65536
@@ -41,7 +41,7 @@ stripRefusal q start len = cond (flat (q .address) (q .count) start len) (cond (
 
 -- every texel of the strip is there, in memory of `len` bytes from `start` on and in texture memory
 pub record Fits (q : Strip) (start len : ℕ) : Type 0 where
-  pub small : Small q
+  pub small : SmallStrip q
   pub from : start ≤ q .address
   pub memory : q .address + 2 * q .count ≤ start + len
   pub texture : q .ahead + 2 * q .count ≤ 4096

@@ -6,7 +6,7 @@ ghost use mathlib.Core.Path.{_≡_};
 ghost use Prim.Native.Nat.{suc, _+_, _-_, _*_, _≤_};
 ghost use Rattle.rdp_texels.specs.Texels.{texelAddress};
 ghost use Rattle.rdp_block.specs.Block.{blockCount, blockNeeds};
-ghost use Rattle.rdp_block.specs.Strips.{Small, stripOf, flat, stripRefusal};
+ghost use Rattle.rdp_block.specs.Strips.{SmallStrip, stripOf, flat, stripRefusal};
 
 // The texels from the first to the last.
 fn count_of(first: u16, last: u16) -> u64
@@ -45,7 +45,7 @@ fn wide(x: u16) -> u64
 }
 
 pub fn strip_of(load: LoadFields) -> Strip
-    ensures { λ r. ⌜ (r ≡ stripOf load) × Small r ⌝ }
+    ensures { λ r. ⌜ (r ≡ stripOf load) × SmallStrip r ⌝ }
 {
     let s = load.area.upper_left.s;
     let t = load.area.upper_left.t;
@@ -70,7 +70,7 @@ fn flat_in(base: u64, count: u64, low: u64, size: u64) -> bool
 
 // 12, else 18, else 0.
 pub fn strip_refusal(strip: Strip, start: u64, len: usize) -> u32
-    requires { ⌜ Small strip ⌝ }
+    requires { ⌜ SmallStrip strip ⌝ }
     ensures { λ r. ⌜ r ≡ stripRefusal strip start len ⌝ }
 {
     if !flat_in(strip.address, strip.count, start, len as u64) {

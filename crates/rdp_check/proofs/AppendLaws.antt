@@ -11,14 +11,14 @@ use Rattle.rdp_words.specs.Kinds.{wordsOf}
 use Rattle.rdp_words.specs.Lengths.{firstNumber}
 use Rattle.rdp_check.specs.Commands.{wordsIn}
 use Rattle.rdp_check.specs.Refusals.{stateAfter}
-use Rattle.rdp_check.specs.Check.{State, afterCommand, Refusals, refusalAt, Outcome, outcome, atEnd, settle, judge}
+use Rattle.rdp_check.specs.Check.{State, afterCommand, Refusals, refusalAt, Judgement, outcome, atEnd, settle, judge}
 
 pub state-append : (s : State) (bs cs : List (List ℕ)) → stateAfter s (bs ++ cs) ≡ stateAfter (stateAfter s bs) cs
 state-append s [] cs = refl
 state-append s (b ∷ bs) cs = state-append (afterCommand s b) bs cs
 
 -- commands that are accepted are judged to the place and the state after them
-settle-accepted : (g at : ℕ) (s : State) (o end : Outcome) → (o .number ≡ 0 → o ≡ end) → settle g at s o .number ≡ 0 → settle g at s o ≡ end
+settle-accepted : (g at : ℕ) (s : State) (o end : Judgement) → (o .number ≡ 0 → o ≡ end) → settle g at s o .number ≡ 0 → settle g at s o ≡ end
 settle-accepted zero at s o end h e = h e
 settle-accepted (suc g) at s o end h e = absurd (omega arith)
 
@@ -34,11 +34,11 @@ accepted-at refusals s at (c ∷ cs) e =
     (λ z. accepted-at refusals (afterCommand s c) (at + w) cs z ∙ ap (λ (p : ℕ). outcome 0 p (stateAfter (afterCommand s c) cs)) place) e
 
 -- further commands are judged from where the first end, unless one of those is refused
-abbrev pub thenJudge : Refusals → Outcome → List (List ℕ) → List ℕ → Outcome
+abbrev pub thenJudge : Refusals → Judgement → List (List ℕ) → List ℕ → Judgement
 thenJudge refusals o cs rest = cond (eqb (o .number) 0) (judge refusals (o .state) (o .place) cs rest) o
 
 settle-then :
-    (refusals : Refusals) (g at : ℕ) (s : State) (o : Outcome) (cs : List (List ℕ)) (rest : List ℕ) →
+    (refusals : Refusals) (g at : ℕ) (s : State) (o : Judgement) (cs : List (List ℕ)) (rest : List ℕ) →
     settle g at s (thenJudge refusals o cs rest) ≡ thenJudge refusals (settle g at s o) cs rest
 settle-then refusals zero at s o cs rest = refl
 settle-then refusals (suc g) at s o cs rest = let some : eqb (suc g) 0 ≡ false = ne-eqb (suc g) 0 (λ z. omega arith) in rw some
@@ -54,7 +54,7 @@ judge-append refusals s at (b ∷ bs) cs rest =
     settle-then refusals (refusalAt refusals s b) at s (judge refusals (afterCommand s b) (at + w) bs []) cs rest
 
 -- the bytes of a command that is cut count only where no command is refused
-abbrev pub ending : Outcome → List ℕ → Outcome
+abbrev pub ending : Judgement → List ℕ → Judgement
 ending o rest = cond (eqb (o .number) 0) (atEnd (o .state) (o .place) rest) o
 
 pub judge-ending : (refusals : Refusals) (s : State) (at : ℕ) (cs : List (List ℕ)) (rest : List ℕ) → judge refusals s at cs rest ≡ ending (judge refusals s at cs []) rest
@@ -62,7 +62,7 @@ unfolding judge
 judge-ending refusals s at cs rest = ap (λ (x : List (List ℕ)). judge refusals s at x rest) (sym (append-nil cs)) ∙ judge-append refusals s at cs [] rest
 
 -- a judgement goes on from its place
-settle-from : (g at : ℕ) (s : State) (o : Outcome) → at ≤ o .place → at ≤ settle g at s o .place
+settle-from : (g at : ℕ) (s : State) (o : Judgement) → at ≤ o .place → at ≤ settle g at s o .place
 settle-from zero at s o h = h
 settle-from (suc g) at s o h = le-refl at
 

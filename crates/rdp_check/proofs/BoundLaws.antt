@@ -10,7 +10,7 @@ use Rattle.rdp_words.specs.Kinds.{among, wordsOf}
 use Rattle.rdp_words.specs.Lengths.{firstNumber}
 use Rattle.rdp_words.proofs.Tests.{both, true-of, by-test}
 use Rattle.rdp_check.specs.Commands.{commandsOf, restOf, wordsIn}
-use Rattle.rdp_check.specs.Check.{State, start, Refusals, ownRefusals, syncRefusals, checkRefusals, Outcome, settle, afterCommand, refusalAt, judge, outcomeWithin, checkOf}
+use Rattle.rdp_check.specs.Check.{State, start, Refusals, ownRefusals, syncRefusals, checkRefusals, Judgement, settle, afterCommand, refusalAt, judge, outcomeWithin, checkOf}
 use Rattle.rdp_check.specs.Refusals.{Holds}
 use Rattle.rdp_check.proofs.OrderLaws.{allGive}
 use Rattle.rdp_check.proofs.FirstLaws.{outcome-gives, holds-gives}
@@ -45,7 +45,7 @@ among-below b n (x ∷ xs) t m =
 
 -- ---- places
 
-settled-place : (g at words : ℕ) (s : State) (next : Outcome) → next .place ≤ at + words → settle g at s next .place ≤ at + words
+settled-place : (g at words : ℕ) (s : State) (next : Judgement) → next .place ≤ at + words → settle g at s next .place ≤ at + words
 settled-place zero at words s next h = h
 settled-place (suc g) at words s next h = omega arith
 

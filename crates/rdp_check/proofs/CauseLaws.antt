@@ -344,7 +344,7 @@ module _ {list : List ℕ} {place : ℕ} (m : Missing list place) where
       record {
         before = l .before;
         command = l .command;
-        between = l .after;
+        meanwhile = l .after;
         refused = m .refused;
         after = m .after;
         split = m .split ∙ ap (λ (x : List (List ℕ)). x ++ m .refused ∷ m .after) (l .split);
@@ -364,7 +364,7 @@ cause-is list t = rw (true-of (between 7 9 (checkOf list .number)) t) (is-cause 
 pub cause-before : (list : List ℕ) → T (between 7 9 (checkOf list .number)) → checkOf list .cause < checkOf list .place
 cause-before list t =
     let c = cause-is list t in
-    omega (arith, c .at-command, c .at-refused, words-append (c .before) (c .command ∷ c .between), command-some (c .command))
+    omega (arith, c .at-command, c .at-refused, words-append (c .before) (c .command ∷ c .meanwhile), command-some (c .command))
 
 pub cause-words : (list : List ℕ) → T (not (between 7 9 (checkOf list .number))) → checkOf list .cause ≡ length list / 8
 unfolding causeOf

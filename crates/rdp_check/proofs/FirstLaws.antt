@@ -12,10 +12,11 @@ use lib.ListN.{length}
 use Rattle.rdp_words.specs.Kinds.{wordsOf}
 use Rattle.rdp_words.specs.Lengths.{firstNumber}
 use Rattle.rdp_command.specs.declared.Answer.{Answer}
+use Rattle.rdp_command.specs.Decode.{answer}
 use Rattle.rdp_words.proofs.Tests.{by-test, true-of, false-of}
 use Rattle.rdp_check.specs.Commands.{commandsOf, restOf, wordsIn}
-use Rattle.rdp_check.specs.Order.{Ground, firstOf, answer, placed, Among, IsFirst}
-use Rattle.rdp_check.specs.Check.{State, start, afterCommand, Refusals, ownRefusals, syncRefusals, checkRefusals, repairRefusals, noRefusals, Outcome, settle, judge, judgeList, outcomeWithin, checkOf}
+use Rattle.rdp_check.specs.Order.{Ground, firstOf, placed, Among, IsFirst}
+use Rattle.rdp_check.specs.Check.{State, start, afterCommand, Refusals, ownRefusals, syncRefusals, checkRefusals, repairRefusals, noRefusals, Judgement, settle, judge, judgeList, outcomeWithin, checkOf}
 use Rattle.rdp_check.specs.Refusals.{stateAfter, CommandHolds, pastEnd, atCommand, Holds, tooLong, notWords, ofCommands, Free, isSome, commandGrounds, groundsOf, FirstRefusal}
 use Rattle.rdp_check.proofs.OrderLaws.{Found, none, some, found, among-left, among-right, among-parts, none-among, among-placed, placed-among, refusedAt, placed-first, allGive, among-gives, first-gives, answered}
 use Rattle.rdp_check.proofs.JoinLaws.{parsed, joined-whole, length-joined}
@@ -52,10 +53,10 @@ no-bytes (b ∷ bs) h = absurd (h (λ e. suc-ne-zero (length bs) (ap length e)))
 
 -- ---- the judgement is the first in the order
 
-abbrev pub answerOf : Outcome → Answer
+abbrev pub answerOf : Judgement → Answer
 answerOf o = answer (o .number) (o .place)
 
-settled-refused : (g at : ℕ) (s : State) (next : Outcome) → answerOf (settle g at s next) ≡ refusedAt g at (answerOf next)
+settled-refused : (g at : ℕ) (s : State) (next : Judgement) → answerOf (settle g at s next) ≡ refusedAt g at (answerOf next)
 settled-refused zero at s next = refl
 settled-refused (suc g) at s next = refl
 
@@ -247,7 +248,7 @@ module _ (refusals : Refusals) where
 
 -- ---- the numbers that there are
 
-pub settled-gives : (f : ℕ → Bool) (g at : ℕ) (s : State) (next : Outcome) → T (f g) → T (f (next .number)) → T (f (settle g at s next .number))
+pub settled-gives : (f : ℕ → Bool) (g at : ℕ) (s : State) (next : Judgement) → T (f g) → T (f (next .number)) → T (f (settle g at s next .number))
 settled-gives f zero at s next t u = u
 settled-gives f (suc g) at s next t u = t
 
@@ -279,7 +280,7 @@ module _ (f : ℕ → Bool) (refusals : Refusals) (all : (s : State) (c : List �
   holds-gives at-one at-two words list n p (notWords h) = at-two
   holds-gives at-one at-two words list n p (ofCommands m q h) = command-gives list m q h
 
--- the check: none of 1 to 9
+-- the check: none of 1 to 9 and 19
 pub check-first : (list : List ℕ) → FirstRefusal 4096 checkRefusals list (checkOf list .number) (checkOf list .place)
 check-first list = judge-first checkRefusals list 4096 check-numbered
 

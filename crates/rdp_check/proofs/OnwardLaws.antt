@@ -12,7 +12,7 @@ use Rattle.rdp_words.specs.Lengths.{firstNumber}
 use Rattle.rdp_words.proofs.Tests.{by-test, false-of}
 use Rattle.rdp_check.specs.Order.{ground, firstOf}
 use Rattle.rdp_check.specs.Commands.{commandsOf, restOf}
-use Rattle.rdp_check.specs.Check.{State, afterCommand, ownRefusals, syncRefusals, checkRefusals, refusalAt, Outcome, atEnd, settle, judge}
+use Rattle.rdp_check.specs.Check.{State, afterCommand, ownRefusals, syncRefusals, checkRefusals, refusalAt, Judgement, atEnd, settle, judge}
 use Rattle.rdp_check.specs.Checkpoint.{registersAt, stateAt, judgedOf, checkFrom, StandsAt}
 use Rattle.rdp_check.specs.View.{code, view, viewOf, stopAt, stopOf, lowOf, judgeView, judgedView}
 use Rattle.rdp_check.specs.declared.Checkpoint.{Checkpoint}
@@ -46,11 +46,11 @@ judge-apart s at (c ∷ cs) =
 abbrev uncutOf : Stop → Stop
 uncutOf q = stopAt (cond (eqb (q .number) 3) 0 (q .number)) (q .place) (q .view)
 
-uncut-none : (o : Outcome) (rest : List ℕ) → o .number ≡ 0 → uncutOf (stopOf (atEnd (o .state) (o .place) rest)) ≡ stopOf o
+uncut-none : (o : Judgement) (rest : List ℕ) → o .number ≡ 0 → uncutOf (stopOf (atEnd (o .state) (o .place) rest)) ≡ stopOf o
 uncut-none o [] z = λ i. stopAt (sym z i) (o .place) (viewOf (o .state))
 uncut-none o (b ∷ bs) z = λ i. stopAt (sym z i) (o .place) (viewOf (o .state))
 
-uncut-ending : (o : Outcome) (rest : List ℕ) → T (apart (o .number)) → uncutOf (stopOf (ending o rest)) ≡ stopOf o
+uncut-ending : (o : Judgement) (rest : List ℕ) → T (apart (o .number)) → uncutOf (stopOf (ending o rest)) ≡ stopOf o
 uncut-ending o rest a =
     by-test (eqb (o .number) 0) (λ t. rw t (uncut-none o rest (eqb-true _ _ t))) (λ f. rw (f, false-of (eqb (o .number) 3) a))
 
@@ -69,7 +69,7 @@ whole-commands s bs q is n is-n =
 -- ---- the low four bits of the hazards count
 
 -- an outcome from hazards, and from their low bits: the hazards stay as they were where no command is accepted
-record Low (h at : ℕ) (o low : Outcome) : Type 0 where
+record Low (h at : ℕ) (o low : Judgement) : Type 0 where
   number : low .number ≡ o .number
   place : low .place ≡ o .place
   ended : low .state .ended ≡ o .state .ended
@@ -86,7 +86,7 @@ unfolding ownRefusals syncRefusals
 refusal-low s c =
     ap (λ (x : ℕ). firstOf (ownRefusals s c ++ (ground 7 (eqb x 1) ∷ ground 8 (eqb x 2) ∷ ground 9 (eqb x 3) ∷ [])) 0) (required-low (s .hazards) (firstNumber c))
 
-low-settled : (g at : ℕ) (s : State) (o : Outcome) → at < o .place → Low (s .hazards) at (settle g at s o) (settle g at (lowOf s) o)
+low-settled : (g at : ℕ) (s : State) (o : Judgement) → at < o .place → Low (s .hazards) at (settle g at s o) (settle g at (lowOf s) o)
 low-settled zero at s o h = record { number = refl; place = refl; ended = refl; hazards = rw (ne-eqb (o .place) at (λ e. omega arith)) }
 low-settled (suc g) at s o h = record { number = refl; place = refl; ended = refl; hazards = rw (eq-eqb at at refl) }
 
@@ -139,7 +139,7 @@ seen-at k =
 abbrev shownIn : Stop → Judged
 shownIn q = record { number = q .number; place = q .place; hazards = q .view .hazards; ended = q .view .rest .ended }
 
-shown-in : (o : Outcome) → judgedOf o ≡ shownIn (stopOf o)
+shown-in : (o : Judgement) → judgedOf o ≡ shownIn (stopOf o)
 unfolding viewOf
 shown-in o = refl
 

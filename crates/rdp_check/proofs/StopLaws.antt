@@ -8,7 +8,7 @@ use Rattle.rdp_words.specs.Kinds.{wordsOf}
 use Rattle.rdp_words.specs.Lengths.{firstNumber, wholeWords}
 use Rattle.rdp_words.proofs.PlaceLaws.{words-there}
 use Rattle.rdp_check.specs.Commands.{commandsOf, restOf}
-use Rattle.rdp_check.specs.Check.{State, start, afterCommand, refusalAt, Outcome, settle, judge, judgeList, checked}
+use Rattle.rdp_check.specs.Check.{State, start, afterCommand, refusalAt, Judgement, settle, judge, judgeList, checked}
 use Rattle.rdp_check.specs.Cause.{causeOf}
 use Rattle.rdp_check.specs.View.{refusalsBy, viewOf, stopOf, settleView, judgeView, judgedView}
 use Rattle.rdp_check.specs.declared.Checked.{Checked}
@@ -21,7 +21,7 @@ use Rattle.rdp_check.proofs.ViewLaws.{refusal-seen, view-after}
 pub alone-there : (c : List ℕ) → Alone c → wholeWords c ≡ 0 → ⊥
 alone-there c alone z = omega (arith, words-there c (omega (arith, alone)), command-some c)
 
-settle-seen : (g at : ℕ) (s : State) (o : Outcome) → stopOf (settle g at s o) ≡ settleView g at (viewOf s) (stopOf o)
+settle-seen : (g at : ℕ) (s : State) (o : Judgement) → stopOf (settle g at s o) ≡ settleView g at (viewOf s) (stopOf o)
 settle-seen zero at s o = refl
 settle-seen (suc g) at s o = refl
 
@@ -55,6 +55,6 @@ first-view r e = λ i. record { hazards = 0; rest = e i }
 abbrev pub shownOf : List ℕ → Stop → Checked
 shownOf list q = record { number = q .number; place = q .place; hazards = q .view .hazards; cause = causeOf list (q .number) (q .place) }
 
-pub shown : (list : List ℕ) (o : Outcome) → shownOf list (stopOf o) ≡ checked list o
+pub shown : (list : List ℕ) (o : Judgement) → shownOf list (stopOf o) ≡ checked list o
 unfolding viewOf
 shown list o = refl

@@ -33,12 +33,12 @@ causeOf list number place = cond (between 7 9 number) (causeAt list place) (leng
 pub record IsCause (list : List ℕ) (place cause : ℕ) : Type 0 where
   pub before : List (List ℕ)
   pub command : List ℕ
-  pub between : List (List ℕ)
+  pub meanwhile : List (List ℕ)
   pub refused : List ℕ
   pub after : List (List ℕ)
-  pub split : commandsOf list ≡ (before ++ command ∷ between) ++ refused ∷ after
-  pub at-refused : place ≡ wordsIn (before ++ command ∷ between)
+  pub split : commandsOf list ≡ (before ++ command ∷ meanwhile) ++ refused ∷ after
+  pub at-refused : place ≡ wordsIn (before ++ command ∷ meanwhile)
   pub at-command : cause ≡ wordsIn before
   pub sets : T (awaited (firstNumber refused) .sets (firstNumber command))
-  pub last : NoneOf (awaited (firstNumber refused) .sets) between
-  pub uncleared : NoneOf (awaited (firstNumber refused) .clears) between
+  pub last : NoneOf (awaited (firstNumber refused) .sets) meanwhile
+  pub uncleared : NoneOf (awaited (firstNumber refused) .clears) meanwhile

@@ -79,43 +79,43 @@ abbrev pub refusalAt : Refusals → State → List ℕ → ℕ
 refusalAt refusals s c = firstOf (refusals s c) 0
 
 -- the number of the first refusal, 0 where there is none; its place; and the state there
-pub record Outcome : Type 0 where
+pub record Judgement : Type 0 where
   pub number : ℕ
   pub place : ℕ
   pub state : State
 
-abbrev pub outcome : ℕ → ℕ → State → Outcome
+abbrev pub outcome : ℕ → ℕ → State → Judgement
 outcome number place s = record { number = number; place = place; state = s }
 
 -- 0 at the end, or 3 at a command that runs past it
-abbrev pub atEnd : State → ℕ → List ℕ → Outcome
+abbrev pub atEnd : State → ℕ → List ℕ → Judgement
 atEnd s at [] = outcome 0 at s
 atEnd s at (b ∷ bs) = outcome 3 at s
 
-abbrev pub settle : ℕ → ℕ → State → Outcome → Outcome
+abbrev pub settle : ℕ → ℕ → State → Judgement → Judgement
 settle zero at s next = next
 settle (suc refusal) at s next = outcome (suc refusal) at s
 
 -- the commands from a place on, in order, with the bytes of one that runs past the end
-unfoldable pub judge : Refusals → State → ℕ → List (List ℕ) → List ℕ → Outcome
+unfoldable pub judge : Refusals → State → ℕ → List (List ℕ) → List ℕ → Judgement
 judge refusals s at [] rest = atEnd s at rest
 judge refusals s at (c ∷ cs) rest =
     settle (refusalAt refusals s c) at s (judge refusals (afterCommand s c) (at + wordsOf (firstNumber c)) cs rest)
 
-abbrev pub judgeList : Refusals → List ℕ → Outcome
+abbrev pub judgeList : Refusals → List ℕ → Judgement
 judgeList refusals list = judge refusals start 0 (commandsOf list) (restOf list)
 
 -- 1: more bytes than those of the words allowed, at that number of words; 2: the length is no multiple of 8; then the commands
-unfoldable pub outcomeWithin : ℕ → Refusals → List ℕ → Outcome
+unfoldable pub outcomeWithin : ℕ → Refusals → List ℕ → Judgement
 outcomeWithin words refusals list =
     cond (ltb (8 * words) (length list)) (outcome 1 words start)
     (cond (eqb (length list % 8) 0) (judgeList refusals list) (outcome 2 (length list / 8) start))
 
 -- the check: at most 32,768 bytes
-abbrev pub outcomeOf : List ℕ → Outcome
+abbrev pub outcomeOf : List ℕ → Judgement
 outcomeOf list = outcomeWithin 4096 checkRefusals list
 
-abbrev pub checked : List ℕ → Outcome → Checked
+abbrev pub checked : List ℕ → Judgement → Checked
 checked list o = record { number = o .number; place = o .place; hazards = o .state .hazards; cause = causeOf list (o .number) (o .place) }
 
 -- what the check answers

@@ -8,7 +8,7 @@ use lib.ListN.{length}
 use Rattle.rdp_command.specs.Reads.{otherModesIn, scissorIn, colorImageIn}
 use Rattle.rdp_check.specs.Commands.{commandsOf}
 use Rattle.rdp_check.specs.Registers.{noRegisters, withModes, withImages, modesOf, imagesOf}
-use Rattle.rdp_check.specs.Check.{State, checkRefusals, Outcome, outcome, judge}
+use Rattle.rdp_check.specs.Check.{State, checkRefusals, Judgement, outcome, judge}
 use Rattle.rdp_check.specs.declared.OtherModesRegister.{OtherModesRegister}
 use Rattle.rdp_check.specs.declared.ScissorRegister.{ScissorRegister}
 use Rattle.rdp_check.specs.declared.ImageRegister.{ImageRegister}
@@ -39,7 +39,7 @@ abbrev pub stateAt : Checkpoint → State
 stateAt b = record { hazards = b .hazards; ended = b .ended; registers = registersAt b }
 
 -- number and place of an outcome, with what it has of its state
-abbrev pub judgedOf : Outcome → Judged
+abbrev pub judgedOf : Judgement → Judged
 judgedOf o = record { number = o .number; place = o .place; hazards = o .state .hazards; ended = o .state .ended }
 
 -- the whole commands of bytes; one that is cut is not looked at. 1: over 32,768 bytes, at 4,096, and none is judged

@@ -5,6 +5,7 @@ use mathlib.Core.List.{List, [], _∷_, _++_}
 use mathlib.Core.Logic.{_⊎_}
 use mathlib.Core.Path.{_≡_}
 use lib.Dec.{T}
+use Rattle.rdp_command.specs.Decode.{answer}
 use Rattle.rdp_command.specs.declared.Answer.{Answer}
 
 -- a ground of refusal: what it gives (its number, or number and place), and whether it holds
@@ -19,10 +20,6 @@ ground gives holds = record { gives = gives; holds = holds }
 abbrev pub firstOf : {A : Type 0} → List (Ground A) → A → A
 firstOf [] other = other
 firstOf (g ∷ gs) other = cond (g .holds) (g .gives) (firstOf gs other)
-
--- a number and a place
-abbrev pub answer : ℕ → ℕ → Answer
-answer number place = record { number = number; place = place }
 
 -- grounds that give a number, at a place
 abbrev pub placed : ℕ → List (Ground ℕ) → List (Ground Answer)

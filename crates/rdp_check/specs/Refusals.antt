@@ -9,7 +9,8 @@ use lib.ListN.{length}
 use Rattle.rdp_words.specs.Kinds.{wordsOf}
 use Rattle.rdp_words.specs.Lengths.{firstNumber}
 use Rattle.rdp_command.specs.declared.Answer.{Answer}
-use Rattle.rdp_check.specs.Order.{Ground, ground, answer, placed, Among, IsFirst}
+use Rattle.rdp_command.specs.Decode.{answer}
+use Rattle.rdp_check.specs.Order.{Ground, ground, placed, Among, IsFirst}
 use Rattle.rdp_check.specs.Commands.{commandsOf, restOf, wordsIn}
 use Rattle.rdp_check.specs.Check.{State, start, afterCommand, Refusals}
 

@@ -13,7 +13,7 @@ use Rattle.rdp_hazards.specs.Hazards.{nextOf, requiredOf}
 use Rattle.rdp_check.specs.Commands.{commandsOf, restOf}
 use Rattle.rdp_hazards.specs.Marks.{draws}
 use Rattle.rdp_check.specs.Cause.{causeOf}
-use Rattle.rdp_check.specs.Check.{State, Refusals, checkRefusals, repairRefusals, Outcome, judgeList}
+use Rattle.rdp_check.specs.Check.{State, Refusals, checkRefusals, repairRefusals, Judgement, judgeList}
 use Rattle.rdp_check.specs.declared.walk.Rest.{Rest}
 use Rattle.rdp_check.specs.declared.walk.View.{View}
 use Rattle.rdp_check.specs.declared.walk.Advanced.{Advanced}
@@ -122,7 +122,7 @@ abbrev pub stopAt : ℕ → ℕ → View → Stop
 stopAt number place v = record { number = number; place = place; view = v }
 
 -- what an outcome shows of its state
-abbrev pub stopOf : Outcome → Stop
+abbrev pub stopOf : Judgement → Stop
 stopOf o = stopAt (o .number) (o .place) (viewOf (o .state))
 
 -- a state with the low four bits of its hazards

@@ -194,8 +194,8 @@ pub fn check_for_repair(list: &[u8]) -> Checked
     walk::check_within(list, 2048, false)
 }
 
-// The first refusal of the whole commands of bytes, 4 to 9, from a checkpoint on; 0 after them where none holds. A command whose words are not all there is
-// not looked at. Of more than 32,768 bytes none is judged: 1 at 4,096.
+// The first refusal of the whole commands of bytes, 4 to 9 and 19, from a checkpoint on; 0 after them where none holds. A command whose words are not all
+// there is not looked at. Of more than 32,768 bytes none is judged: 1 at 4,096.
 pub fn check_from(before: Checkpoint, bytes: &[u8]) -> Judged
     ensures { λ r. ⌜ r ≡ checkFrom before (now (bytes .entry)) ⌝ }
 {

@@ -10,15 +10,12 @@ use borrow.Author.Tests.{ne-eqb, eqb-false}
 use Rattle.rdp_words.specs.Words.{wordAt}
 use Rattle.rdp_words.specs.Kinds.{wordsOf}
 use Rattle.rdp_words.specs.Lengths.{firstNumber, wholeWords}
-use Rattle.rdp_command.specs.Decode.{ownWord, ownWords, commandIn, decodeOf, decodedFrom}
+use Rattle.rdp_command.specs.Decode.{answer, ownWord, ownWords, commandIn, decodeOf, decodedFrom}
 use Rattle.rdp_command.specs.declared.Answer.{Answer}
 use Rattle.rdp_command.specs.declared.Command.{Command}
 use Rattle.rdp_command.specs.declared.Decoded.{Decoded}
 use Rattle.rdp_command.specs.declared.Decoded.the-variants.{Whole, Refused}
 use Rattle.rdp_command.specs.declared.Base.{Base}
-
-abbrev pub answer : ℕ → ℕ → Answer
-answer number place = record { number = number; place = place }
 
 -- ---- a test that answers a command or a refusal
 

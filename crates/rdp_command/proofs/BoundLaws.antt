@@ -6,11 +6,11 @@ use lib.Dec.{eqb, leb, leb→le}
 use lib.ListN.{length}
 use Rattle.rdp_command.specs.Layout.{layout}
 use Rattle.rdp_words.specs.Lengths.{firstNumber, wholeWords}
-use Rattle.rdp_command.specs.Decode.{ownWords, commandIn, decodeOf}
+use Rattle.rdp_command.specs.Decode.{ownWords, commandIn, decodeOf, answer}
 use Rattle.rdp_command.specs.declared.Answer.{Answer}
 use Rattle.rdp_command.specs.declared.Decoded.the-variants.{Refused}
 use Rattle.rdp_words.proofs.Tests.{below}
-use Rattle.rdp_command.proofs.AnswerLaws.{answer, refusal-first}
+use Rattle.rdp_command.proofs.AnswerLaws.{refusal-first}
 
 -- ---- decoding
 

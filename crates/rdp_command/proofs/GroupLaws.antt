@@ -9,7 +9,7 @@ use lib.ListN.{length, getD, drop}
 use mir.Val.{boolByte}
 use borrow.Author.Tests.{eqb-true, eqb-false, ltb-true, not-true}
 use Rattle.rdp_words.specs.Kinds.{among, isNoOperation, isUnassigned}
-use Rattle.rdp_command.specs.Layout.{Line, layout, bit, bits, signedBits, otherModesLines, scissorLines, tileDescriptorLines, triangleBaseLines}
+use Rattle.rdp_command.specs.Layout.{Line, layout, oneBit, bits, signedBits, otherModesLines, scissorLines, tileDescriptorLines, triangleBaseLines}
 use Rattle.rdp_command.specs.Fields.{Value, unsigned, flag, shiftRight, bitsAt, fieldAt, fieldsOf}
 use Rattle.rdp_command.specs.Groups.{scissorOf, scissorValues, otherModesOf, otherModesValues, tileDescriptorOf, tileDescriptorValues, triangleBaseOf, triangleBaseValues}
 use Rattle.rdp_command.specs.Commands.{commandOf, valuesOf}
@@ -78,10 +78,10 @@ flag-kept n =
     (λ f. let g : n % 2 ≡ 1 → ⊥ = eqb-false (n % 2) 1 f in rw f (omega arith))
 
 -- the flags of what was read
-pub flag-kept-bits : (w k : ℕ) → boolByte (eqb (bitsAt (bit 0 k) w) 1) ≡ bitsAt (bit 0 k) w
+pub flag-kept-bits : (w k : ℕ) → boolByte (eqb (bitsAt (oneBit 0 k) w) 1) ≡ bitsAt (oneBit 0 k) w
 flag-kept-bits w k = let e : k - k + 1 ≡ 1 = omega arith in rw e (flag-kept (shiftRight w k))
 
-read-flag : (w : ℕ) (k : ℕ) → flag (eqb (bitsAt (bit 0 k) w) 1) ≡ unsigned (bitsAt (bit 0 k) w)
+read-flag : (w : ℕ) (k : ℕ) → flag (eqb (bitsAt (oneBit 0 k) w) 1) ≡ unsigned (bitsAt (oneBit 0 k) w)
 read-flag w k = ap unsigned (flag-kept-bits w k)
 
 scissor-kept : (ws : List ℕ) → scissorValues (scissorOf (fieldsOf scissorLines ws)) ≡ fieldsOf scissorLines ws

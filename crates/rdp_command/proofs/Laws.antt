@@ -11,14 +11,14 @@ use Rattle.rdp_words.specs.Words.{wordAt, numberIn}
 use Rattle.rdp_words.specs.Kinds.{wordsOf}
 use Rattle.rdp_command.specs.Commands.{numberOf}
 use Rattle.rdp_words.specs.Lengths.{firstNumber, commandWords, wholeWords, suffixOf}
-use Rattle.rdp_command.specs.Decode.{ownWords, commandIn, decodeOf}
+use Rattle.rdp_command.specs.Decode.{ownWords, commandIn, decodeOf, answer}
 use Rattle.rdp_command.specs.declared.Command.{Command}
 use Rattle.rdp_command.specs.declared.Decoded.the-variants.{Whole, Refused}
 use Rattle.rdp_words.proofs.Tests.{by-test}
 use Rattle.rdp_words.proofs.KindLaws.{words-pos}
 use Rattle.rdp_words.proofs.WordLaws.{word-front}
 use Rattle.rdp_words.proofs.PlaceLaws.{number-small, command-words, words-there, words-cut}
-use Rattle.rdp_command.proofs.AnswerLaws.{answer, decoded-there, decoded-is}
+use Rattle.rdp_command.proofs.AnswerLaws.{decoded-there, decoded-is}
 use Rattle.rdp_command.proofs.WholeLaws.{number-whole, decode-whole-later, suffix-whole-later}
 
 -- ---- what was decoded

@@ -10,7 +10,7 @@ use lib.Dec.{eqb, eqb→eq, lit<}
 use lib.ListN.{getD}
 use lib.Pow.{shr-shr}
 use Rattle.rdp_words.specs.Words.{numberIn}
-use Rattle.rdp_command.specs.Layout.{Line, width, bit, layout}
+use Rattle.rdp_command.specs.Layout.{Line, width, oneBit, layout}
 use Rattle.rdp_command.specs.Fields.{shiftRight, bitsAt, fieldsOf}
 use Rattle.rdp_command.specs.Commands.{commandOf, numberOf}
 use Rattle.rdp_command.specs.Decode.{commandIn}
@@ -47,8 +47,8 @@ shift-right n (suc k) = refl
 pub bits-are : (l : Line) (w : ℕ) → bitsAt l w ≡ w / 2 ^ l .low % 2 ^ width l
 bits-are l w = ap (λ (x : ℕ). x % 2 ^ width l) (shift-right w (l .low))
 
-flag-bits : (w k : ℕ) → bitsAt (bit 0 (56 + k)) w ≡ w / 2 ^ 56 / 2 ^ k % 2
-flag-bits w k = bits-are (bit 0 (56 + k)) w ∙ (let e : 56 + k - (56 + k) + 1 ≡ 1 = omega arith in rw (e, shr-shr w 56 k))
+flag-bits : (w k : ℕ) → bitsAt (oneBit 0 (56 + k)) w ≡ w / 2 ^ 56 / 2 ^ k % 2
+flag-bits w k = bits-are (oneBit 0 (56 + k)) w ∙ (let e : 56 + k - (56 + k) + 1 ≡ 1 = omega arith in rw (e, shr-shr w 56 k))
 
 triangle-number-read : (n : ℕ) (ws : List ℕ) → n / 8 ≡ 1 → numberIn (getD ws 0 0) ≡ n → numberOf (commandIn n ws) ≡ n
 triangle-number-read n ws e h =

@@ -8,6 +8,7 @@ use Rattle.rdp_words.specs.Lengths.{firstNumber, wholeWords}
 use Rattle.rdp_command.specs.Layout.{layout}
 use Rattle.rdp_command.specs.Fields.{fieldsOf}
 use Rattle.rdp_command.specs.Commands.{commandOf}
+use Rattle.rdp_command.specs.declared.Answer.{Answer}
 use Rattle.rdp_command.specs.declared.Base.{Base}
 use Rattle.rdp_command.specs.declared.Command.{Command}
 use Rattle.rdp_command.specs.declared.Decoded.{Decoded}
@@ -25,13 +26,17 @@ ownWords bs n = wordAt bs 0 ∷ ownWord bs n 1 ∷ ownWord bs n 2 ∷ ownWord bs
 abbrev pub commandIn : ℕ → List ℕ → Command
 commandIn n ws = commandOf n (fieldsOf (layout n) ws)
 
+-- a number and a place
+abbrev pub answer : ℕ → ℕ → Answer
+answer number place = record { number = number; place = place }
+
 -- what decoding answers: 3 at 0 where the words of the first command are not all there, else the command
 unfoldable pub decodeOf : List ℕ → Decoded
 decodeOf bs =
-    cond (eqb (wholeWords bs) 0) (Refused (record { number = 3; place = 0 }))
+    cond (eqb (wholeWords bs) 0) (Refused (answer 3 0))
     (Whole (commandIn (firstNumber bs) (ownWords bs (wholeWords bs))))
 
 -- the command of a base, or a refusal at 0
 unfoldable pub decodedFrom : ℕ → Base → Decoded
 decodedFrom refusal b =
-    cond (b .ok) (Whole (commandIn (b .number) (b .w0 ∷ b .w1 ∷ b .w2 ∷ b .w3 ∷ []))) (Refused (record { number = refusal; place = 0 }))
+    cond (b .ok) (Whole (commandIn (b .number) (b .w0 ∷ b .w1 ∷ b .w2 ∷ b .w3 ∷ []))) (Refused (answer refusal 0))

@@ -27,7 +27,7 @@ use Rattle.rdp_command.specs.declared.Color.{Color}
 use Rattle.rdp_command.specs.declared.PrimitiveColor.{PrimitiveColor}
 use Rattle.rdp_command.specs.declared.Image.{Image}
 
--- value k as a number, as a signed number and as a flag
+-- a value as a number, and as a signed number
 abbrev pub natOf : Value → ℕ
 natOf (unsigned n) = n
 natOf (signed z) = 0
@@ -36,6 +36,7 @@ abbrev pub intOf : Value → ℤ
 intOf (unsigned n) = pos n
 intOf (signed z) = z
 
+-- value k as a number, as a signed number and as a flag
 abbrev pub natAt : List Value → ℕ → ℕ
 natAt vs k = natOf (getD vs k (unsigned 0))
 

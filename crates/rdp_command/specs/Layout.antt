@@ -20,8 +20,8 @@ abbrev pub bits : ℕ → ℕ → ℕ → Line
 bits w h l = record { isSigned = false; word = w; high = h; low = l }
 
 -- "bit K" of a word
-abbrev pub bit : ℕ → ℕ → Line
-bit w k = bits w k k
+abbrev pub oneBit : ℕ → ℕ → Line
+oneBit w k = bits w k k
 
 -- the lines that 01 names as signed
 abbrev pub signedBits : ℕ → ℕ → ℕ → Line
@@ -30,10 +30,10 @@ signedBits w h l = record { isSigned = true; word = w; high = h; low = l }
 -- Fill Triangle, word 0 of the base
 abbrev pub triangleHeadLines : List Line
 triangleHeadLines =
-    bit 0 58 ∷  -- shade
-    bit 0 57 ∷  -- texture
-    bit 0 56 ∷  -- zbuffer
-    bit 0 55 ∷  -- lmajor
+    oneBit 0 58 ∷  -- shade
+    oneBit 0 57 ∷  -- texture
+    oneBit 0 56 ∷  -- zbuffer
+    oneBit 0 55 ∷  -- lmajor
     bits 0 53 51 ∷  -- level
     bits 0 50 48 ∷  -- tile
     signedBits 0 45 32 ∷  -- yl
@@ -106,8 +106,8 @@ abbrev pub scissorLines : List Line
 scissorLines =
     bits 0 55 44 ∷  -- upper_left.x
     bits 0 43 32 ∷  -- upper_left.y
-    bit 0 25 ∷  -- field
-    bit 0 24 ∷  -- odd
+    oneBit 0 25 ∷  -- field
+    oneBit 0 24 ∷  -- odd
     bits 0 23 12 ∷  -- lower_right.x
     bits 0 11 0 ∷  -- lower_right.y
     []
@@ -122,17 +122,17 @@ primitiveDepthLines =
 -- Set Other Modes; bits 54, 35:32 and 15 are named by no field
 abbrev pub textureModesLines : List Line
 textureModesLines =
-    bit 0 51 ∷  -- persp_tex_en
-    bit 0 50 ∷  -- detail_tex_en
-    bit 0 49 ∷  -- sharpen_tex_en
-    bit 0 48 ∷  -- tex_lod_en
-    bit 0 47 ∷  -- tlut_en
-    bit 0 46 ∷  -- tlut_type
-    bit 0 45 ∷  -- sample_type
-    bit 0 44 ∷  -- mid_texel
-    bit 0 43 ∷  -- bi_lerp_0
-    bit 0 42 ∷  -- bi_lerp_1
-    bit 0 41 ∷  -- convert_one
+    oneBit 0 51 ∷  -- persp_tex_en
+    oneBit 0 50 ∷  -- detail_tex_en
+    oneBit 0 49 ∷  -- sharpen_tex_en
+    oneBit 0 48 ∷  -- tex_lod_en
+    oneBit 0 47 ∷  -- tlut_en
+    oneBit 0 46 ∷  -- tlut_type
+    oneBit 0 45 ∷  -- sample_type
+    oneBit 0 44 ∷  -- mid_texel
+    oneBit 0 43 ∷  -- bi_lerp_0
+    oneBit 0 42 ∷  -- bi_lerp_1
+    oneBit 0 41 ∷  -- convert_one
     []
 
 abbrev pub blenderInputsLines : List Line
@@ -149,27 +149,27 @@ blenderInputsLines =
 
 abbrev pub pixelModesLines : List Line
 pixelModesLines =
-    bit 0 14 ∷  -- force_blend
-    bit 0 13 ∷  -- alpha_cvg_select
-    bit 0 12 ∷  -- cvg_x_alpha
+    oneBit 0 14 ∷  -- force_blend
+    oneBit 0 13 ∷  -- alpha_cvg_select
+    oneBit 0 12 ∷  -- cvg_x_alpha
     bits 0 11 10 ∷  -- z_mode
     bits 0 9 8 ∷  -- cvg_dest
-    bit 0 7 ∷  -- color_on_cvg
-    bit 0 6 ∷  -- image_read_en
-    bit 0 5 ∷  -- z_update_en
-    bit 0 4 ∷  -- z_compare_en
-    bit 0 3 ∷  -- antialias_en
-    bit 0 2 ∷  -- z_source_sel
-    bit 0 1 ∷  -- dither_alpha_en
-    bit 0 0 ∷  -- alpha_compare_en
+    oneBit 0 7 ∷  -- color_on_cvg
+    oneBit 0 6 ∷  -- image_read_en
+    oneBit 0 5 ∷  -- z_update_en
+    oneBit 0 4 ∷  -- z_compare_en
+    oneBit 0 3 ∷  -- antialias_en
+    oneBit 0 2 ∷  -- z_source_sel
+    oneBit 0 1 ∷  -- dither_alpha_en
+    oneBit 0 0 ∷  -- alpha_compare_en
     []
 
 abbrev pub otherModesLines : List Line
 otherModesLines =
-    bit 0 55 ∷  -- atomic_prim
+    oneBit 0 55 ∷  -- atomic_prim
     bits 0 53 52 ∷  -- cycle_type
     (textureModesLines ++
-    bit 0 40 ∷  -- key_en
+    oneBit 0 40 ∷  -- key_en
     bits 0 39 38 ∷  -- rgb_dither_sel
     bits 0 37 36 ∷  -- alpha_dither_sel
     (blenderInputsLines ++ pixelModesLines))
@@ -203,12 +203,12 @@ tileDescriptorLines =
     bits 0 40 32 ∷  -- address
     bits 0 26 24 ∷  -- index
     bits 0 23 20 ∷  -- palette
-    bit 0 19 ∷  -- clamp_t
-    bit 0 18 ∷  -- mirror_t
+    oneBit 0 19 ∷  -- clamp_t
+    oneBit 0 18 ∷  -- mirror_t
     bits 0 17 14 ∷  -- mask_t
     bits 0 13 10 ∷  -- shift_t
-    bit 0 9 ∷  -- clamp_s
-    bit 0 8 ∷  -- mirror_s
+    oneBit 0 9 ∷  -- clamp_s
+    oneBit 0 8 ∷  -- mirror_s
     bits 0 7 4 ∷  -- mask_s
     bits 0 3 0 ∷  -- shift_s
     []
@@ -272,7 +272,7 @@ combineModeLines = bits 0 55 0 ∷ []
 abbrev pub depthImageLines : List Line
 depthImageLines = bits 0 23 0 ∷ []
 
--- the bit lines of a command after its number; a no operation and a sync have none
+-- the bit lines of a command after its number; a no operation, an unassigned number and a sync have none
 unfoldable pub layout : ℕ → List Line
 layout n =
     cond (eqb (n / 8) 1) triangleBaseLines

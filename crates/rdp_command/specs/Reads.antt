@@ -95,7 +95,8 @@ blockIn w = blockOf (fieldsIn blockLines w)
 abbrev pub texturedRectangleIn : ℕ → ℕ → TexturedRectangle
 texturedRectangleIn w v = texturedRectangleOf (fieldsOf texturedRectangleLines (w ∷ v ∷ []))
 
--- a Load Tile by its word, with the fields of the words that set what it is done under; a register is set where its word is not 0
+-- a Load Tile or a Load Block, whose dxt stands as lower right t, by its word, with the fields of the words that set what it is done under; a register is
+-- set where its word is not 0
 abbrev pub loadFields : LoadWords → ℕ → LoadFields
 loadFields set w =
     record {

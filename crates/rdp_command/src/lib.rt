@@ -18,7 +18,7 @@ pub struct Corner {
     pub y: u16,
 }
 
-// A corner of an area of texels, in quarter texels.
+// A corner of an area of texels, in quarter texels; that of a Load Block in whole ones.
 #[repr(C)]
 pub struct TexelCorner {
     pub s: u16,
@@ -277,14 +277,15 @@ pub struct FillFields {
     pub color: u32,
 }
 
-// The first words of the commands that set what a Load Tile is done under: Set Texture Image, and the Set Tile of its tile. 0 stands where none has come.
+// The first words of the commands that set what a Load Tile or a Load Block is done under: Set Texture Image, and the Set Tile of its tile. 0 stands where
+// none has come.
 #[repr(C)]
 pub struct LoadWords {
     pub image: u64,
     pub tile: u64,
 }
 
-// A Load Tile with what it is done under; a register is set where its word is not 0.
+// A Load Tile or a Load Block with what it is done under; a register is set where its word is not 0. The dxt of a Load Block stands as lower right t.
 #[repr(C)]
 pub struct LoadFields {
     pub image_set: bool,
@@ -427,7 +428,7 @@ pub enum Command {
     Unassigned(u8),
 }
 
-// The number of a refusal, 0 for acceptance, and its place in words.
+// The number of a refusal, 0 for acceptance, and its place in words; for `fields` of rdp_encode a count of numbers.
 #[repr(C)]
 pub struct Answer {
     pub number: u32,
@@ -475,7 +476,7 @@ pub fn fill_fields(set: FillWords, rectangle: u64) -> FillFields
     }
 }
 
-// A Load Tile by its word, with the fields of the words that set what it is done under.
+// A Load Tile or a Load Block by its word, with the fields of the words that set what it is done under.
 pub fn load_fields(set: LoadWords, load: u64) -> LoadFields
     ensures { λ r. ⌜ r ≡ loadFields set load ⌝ }
 {

@@ -1,7 +1,7 @@
 -- Which answers the comparison gives, and how large their parts are. Assumes nothing.
 use Prim.Native.Nat.{ℕ, _+_, _%_, _≤_}
 use mathlib.Core.List.{List, [], _∷_}
-use mathlib.Core.Path.{_≡_, refl, sym, _∙_}
+use mathlib.Core.Path.{_≡_, refl, sym, subst, _∙_}
 use native.Mathlib.Omega.{arith}
 use borrow.Author.Tests.{ltb-true, ltb-false, eqb-true, eqb-false}
 use lib.Dec.{eqb, ltb}
@@ -13,16 +13,17 @@ use Rattle.rdp_command.specs.declared.Answer.{Answer}
 use Rattle.rdp_check.specs.Commands.{commandsOf, restOf}
 use Rattle.rdp_check.specs.Refusals.{isSome}
 use Rattle.rdp_check.proofs.JoinLaws.{words-inside}
-use Rattle.rdp_compare.specs.Entries.{entriesOf, decodeAnswer, compareAnswer}
+use Rattle.rdp_compare.specs.Entries.{pairEntries, compareAnswer}
 use Rattle.rdp_compare.specs.Part.{longerFrom, restStart}
-use Rattle.rdp_compare.proofs.GroundLaws.{bothAnswer, of-first, of-second, first-sound, not-decoded, no-room, enough}
+use Rattle.rdp_compare.proofs.GroundLaws.{firstOfThree, opened, bothAnswer, of-first, of-second, first-sound, not-decoded, no-room, enough}
 use Rattle.rdp_compare.proofs.PairLaws.{entries-few}
+use Rattle.rdp_compare.specs.Steps.{decodeAnswer}
 
 abbrev Within : ℕ → ℕ → Answer → Type 0
 Within number place a = (a .number ≤ number) × (a .place ≤ place)
 
-ground-bounds : (list : List ℕ) → Within 3 4096 (decodeAnswer list)
-ground-bounds list =
+three-bounds : (list : List ℕ) → Within 3 4096 (firstOfThree list)
+three-bounds list =
     by-test (ltb 32768 (length list)) (λ t. rw t (omega arith, omega arith))
     (λ f.
     let h : length list ≤ 32768 = ltb-false _ _ f in
@@ -31,6 +32,9 @@ ground-bounds list =
     by-test (isSome (restOf list)) (λ t. rw (f, e, t) (omega arith, omega (arith, words-inside list, h)))
     (λ g. rw (f, e, g) (omega arith, omega (arith, h))))
     (λ e. rw (f, e) (omega arith, omega (arith, h))))
+
+ground-bounds : (list : List ℕ) → Within 3 4096 (decodeAnswer list)
+ground-bounds list = subst (Within 3 4096) (sym (opened list)) (three-bounds list)
 
 both-bounds : (first second : List ℕ) → Within 3 4096 (bothAnswer first second)
 both-bounds first second =
@@ -45,7 +49,7 @@ compare-bounds first second room =
     (λ t.
     let z = eqb-true _ _ t in
     let few = entries-few second (first-sound first second refl z) in
-    by-test (ltb room (length (entriesOf first second))) (λ u. rw (no-room first second room refl z refl (ltb-true _ _ u)) (omega arith, few))
+    by-test (ltb room (length (pairEntries first second))) (λ u. rw (no-room first second room refl z refl (ltb-true _ _ u)) (omega arith, few))
     (λ u. rw (enough first second room refl z refl (ltb-false _ _ u)) (omega arith, few)))
     (λ f.
     let b = both-bounds first second in

@@ -11,7 +11,7 @@ use lib.Dec.{eqb, ltb, ltb→lt}
 use lib.ListN.{length, getD, take, drop, length-drop, drop-of-length-le}
 use lib.Pow.{pow-mono}
 use lib.Seq.{drop-cons, drop-length, take-all}
-use Rattle.rdp_words.specs.Words.{wordAt, numberIn, overwrite}
+use Rattle.rdp_words.specs.Words.{wordAt, numberIn, overwrite, sameBytes}
 use Rattle.rdp_words.specs.Kinds.{wordsOf}
 use Rattle.rdp_words.specs.Lengths.{firstNumber, wholeWords, suffixWords, suffixStart, suffixOf}
 use Rattle.rdp_words.proofs.Tests.{below, both, by-test}
@@ -30,7 +30,7 @@ use Rattle.rdp_encode.specs.Encode.{numbersOf}
 use Rattle.rdp_encode.specs.Numbers.{fieldsAnswer, fieldsOut}
 use Rattle.rdp_encode.proofs.PackLaws.{power}
 use Rattle.rdp_encode.proofs.BoundLaws.{fields-decoded, fields-place}
-use Rattle.rdp_compare.specs.Differing.{numbersIn, fieldsIn, unlike, sameBytes, fieldsDiffer, unnamedBefore, lineIndex, bitsFrom, differingFields}
+use Rattle.rdp_compare.specs.Differing.{numbersIn, fieldNumbers, unlike, fieldsDiffer, unnamedBefore, lineIndex, bitsFrom, differingFields}
 use Rattle.rdp_compare.specs.Entries.{differ}
 use Rattle.rdp_compare.specs.Steps.{OneCommand, Alike, DifferenceIs}
 use Rattle.rdp_compare.proofs.WordLaws.{same-same, bytes-same}
@@ -150,7 +150,7 @@ module _ (c : List ℕ) (one : OneCommand c) where
   pub there : wholeWords c ≡ 0 → ⊥
   there z = omega (arith, whole, words-pos (firstNumber c) (number-small (wordAt c 0)))
 
-  pub fields-long : length (fieldsIn c) ≡ length (layout (firstNumber c))
+  pub fields-long : length (fieldNumbers c) ≡ length (layout (firstNumber c))
   fields-long =
       ap (λ (x : Decoded). length (numbersIn x)) (decodes c there) ∙
       fields-decoded c (decodes c there)
@@ -197,24 +197,24 @@ base-decodes c one is-n e₀ e₁ e₂ e₃ e =
 module _ (c numbers : List ℕ) (room : 37 ≤ length numbers) {r : Decoded} (is : r ≡ decodeOf c) where
   pub whole-numbers :
       {x : Command} → r ≡ Whole x → {a : Answer} {new : List ℕ} → a ≡ fieldsAnswer x numbers → new ≡ fieldsOut x numbers →
-      ((a .place ≡ length (fieldsIn c)) × (a .place ≤ 37)) × (new ≡ overwrite (fieldsIn c) numbers)
+      ((a .place ≡ length (fieldNumbers c)) × (a .place ≤ 37)) × (new ≡ overwrite (fieldNumbers c) numbers)
   unfolding fieldsOut
   whole-numbers {x} w {a} {new} is-a is-new =
       let d : decodeOf c ≡ Whole x = sym is ∙ w in
-      let e : fieldsIn c ≡ numbersOf x = ap numbersIn d in
+      let e : fieldNumbers c ≡ numbersOf x = ap numbersIn d in
       let p : a .place ≡ length (numbersOf x) = ap (λ (y : Answer). y .place) is-a ∙ fields-place x numbers in
       let l : length (numbersOf x) ≤ 37 = rw (fields-decoded c d) (lines-most (firstNumber c) (number-small (wordAt c 0))) in
       let fits = le-ltb (length numbers) (length (numbersOf x)) (omega (arith, l, room)) in
       ((p ∙ ap length (sym e), rw p l), is-new ∙ rw fits (ap (λ (l : List ℕ). overwrite l numbers) (sym e)))
 
-  pub no-numbers : {a : Answer} → r ≡ Refused a → ((0 ≡ length (fieldsIn c)) × (0 ≤ 37)) × (numbers ≡ overwrite (fieldsIn c) numbers)
+  pub no-numbers : {a : Answer} → r ≡ Refused a → ((0 ≡ length (fieldNumbers c)) × (0 ≤ 37)) × (numbers ≡ overwrite (fieldNumbers c) numbers)
   no-numbers {a} w =
-      let e : fieldsIn c ≡ [] = ap numbersIn (sym is ∙ w) in
+      let e : fieldNumbers c ≡ [] = ap numbersIn (sym is ∙ w) in
       ((ap length (sym e), omega arith), sym (overwrite-none numbers) ∙ ap (λ (l : List ℕ). overwrite l numbers) (sym e))
 
 -- the numbers at the front of what holds them
-pub front : (c : List ℕ) {n : ℕ} {new : List ℕ} → n ≡ length (fieldsIn c) → (old : List ℕ) → new ≡ overwrite (fieldsIn c) old → take n new ≡ fieldsIn c
-front c {n} is old e = ap (take n) e ∙ take-overwrite (fieldsIn c) old n (sym is)
+pub front : (c : List ℕ) {n : ℕ} {new : List ℕ} → n ≡ length (fieldNumbers c) → (old : List ℕ) → new ≡ overwrite (fieldNumbers c) old → take n new ≡ fieldNumbers c
+front c {n} is old e = ap (take n) e ∙ take-overwrite (fieldNumbers c) old n (sym is)
 
 -- ---- two commands of one number
 
@@ -228,20 +228,20 @@ module _ {c d : List ℕ} {n : ℕ} (a : Alike c d n) where
   pub in-words : length c % 8 ≡ 0
   in-words = omega (arith, a .one)
 
-  pub as-many : length (fieldsIn c) ≡ length (fieldsIn d)
+  pub as-many : length (fieldNumbers c) ≡ length (fieldNumbers d)
   as-many = fields-long c (a .one) ∙ ap (λ (k : ℕ). length (layout k)) same ∙ sym (fields-long d (a .two))
 
   suffixes : sameBytes (suffixOf c) (suffixOf d) ≡ sameBytes (drop 32 c) (drop 32 d)
   suffixes = λ i. sameBytes (suffix-is c (a .one) i) (suffix-is d (a .two) i)
 
-  module _ {x y bits : ℕ} {xs ys : List ℕ} (is-x : x ≡ length (fieldsIn c)) (is-y : y ≡ length (fieldsIn d))
-      (is-xs : xs ≡ fieldsIn c) (is-ys : ys ≡ fieldsIn d) (is-bits : bits ≡ bitsFrom n 0 (unlike xs ys))
+  module _ {x y bits : ℕ} {xs ys : List ℕ} (is-x : x ≡ length (fieldNumbers c)) (is-y : y ≡ length (fieldNumbers d))
+      (is-xs : xs ≡ fieldNumbers c) (is-ys : ys ≡ fieldNumbers d) (is-bits : bits ≡ bitsFrom n 0 (unlike xs ys))
       {s : Bool} (is-s : s ≡ sameBytes (drop 32 c) (drop 32 d)) where
     together : differingFields c d ≡ bits + cond (not s) (2 ^ lineIndex n x) 0
     unfolding differingFields
     together =
-        let us = unlike (fieldsIn c) (fieldsIn d) in
-        let k : 0 + length us ≡ x = zero-add (length us) ∙ length-unlike (fieldsIn c) (fieldsIn d) as-many ∙ sym is-x in
+        let us = unlike (fieldNumbers c) (fieldNumbers d) in
+        let k : 0 + length us ≡ x = zero-add (length us) ∙ length-unlike (fieldNumbers c) (fieldNumbers d) as-many ∙ sym is-x in
         let t : sameBytes (suffixOf c) (suffixOf d) ≡ s = suffixes ∙ sym is-s in
         rw (eq-eqb (firstNumber c) (firstNumber d) same)
         (ap (λ (j : ℕ). bitsFrom j 0 (fieldsDiffer c d)) (sym (a .first)) ∙
@@ -266,18 +266,18 @@ unfolding bitsFrom unlike
 none-unlike n k [] b e = rw e
 none-unlike n k (x ∷ xs) b e = rw (eq-eqb x x refl) (zero-add _ ∙ none-unlike n (suc k) xs b e)
 
-pub no-difference : (c d : List ℕ) → firstNumber c ≡ firstNumber d → fieldsIn c ≡ fieldsIn d → suffixOf c ≡ suffixOf d → differingFields c d ≡ 0
+pub no-difference : (c d : List ℕ) → firstNumber c ≡ firstNumber d → fieldNumbers c ≡ fieldNumbers d → suffixOf c ≡ suffixOf d → differingFields c d ≡ 0
 unfolding differingFields
 no-difference c d e f s =
     let b : not (sameBytes (suffixOf c) (suffixOf d)) ≡ false = ap not (ap (sameBytes (suffixOf c)) (sym s) ∙ same-same (suffixOf c)) in
     rw (eq-eqb (firstNumber c) (firstNumber d) e)
-    (ap (λ (l : List ℕ). bitsFrom (firstNumber c) 0 (unlike (fieldsIn c) l ++ (not (sameBytes (suffixOf c) (suffixOf d)) ∷ []))) (sym f) ∙
-    none-unlike (firstNumber c) 0 (fieldsIn c) (not (sameBytes (suffixOf c) (suffixOf d))) b)
+    (ap (λ (l : List ℕ). bitsFrom (firstNumber c) 0 (unlike (fieldNumbers c) l ++ (not (sameBytes (suffixOf c) (suffixOf d)) ∷ []))) (sym f) ∙
+    none-unlike (firstNumber c) 0 (fieldNumbers c) (not (sameBytes (suffixOf c) (suffixOf d))) b)
 
 same-none : (c d : List ℕ) → c ≡ d → (false ≡ differ c d) × (0 ≡ differingFields c d)
 same-none c d e =
     let n = ap firstNumber e in
-    let z = no-difference c d n (ap fieldsIn e) (ap suffixOf e) in
+    let z = no-difference c d n (ap fieldNumbers e) (ap suffixOf e) in
     (sym (rw (eq-eqb (firstNumber c) (firstNumber d) n, eq-eqb (differingFields c d) 0 z)), sym z)
 
 -- ---- as the code takes the numbers

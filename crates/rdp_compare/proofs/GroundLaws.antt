@@ -2,7 +2,7 @@
 use Prim.Native.Nat.{ℕ, _+_, _*_, _-_, _/_, _%_, _<_, _≤_}
 use mathlib.Core.Bool.{Bool, true, false, cond, not}
 use mathlib.Core.List.{List, [], _∷_, _++_, append-assoc}
-use mathlib.Core.Path.{_≡_, refl, sym, ap, _∙_}
+use mathlib.Core.Path.{_≡_, refl, sym, ap, subst, _∙_}
 use native.Mathlib.Nat.{suc-ne-zero}
 use native.Mathlib.Omega.{arith}
 use borrow.Author.Tests.{lt-ltb, le-ltb, eq-eqb, ne-eqb, ltb-false, eqb-true, eqb-false}
@@ -12,17 +12,18 @@ use Rattle.rdp_words.specs.Words.{wordAt, numberIn, overwrite}
 use Rattle.rdp_words.specs.Kinds.{wordsOf}
 use Rattle.rdp_words.specs.Lengths.{firstNumber}
 use Rattle.rdp_command.specs.declared.Answer.{Answer}
+use Rattle.rdp_command.specs.Decode.{answer}
 use Rattle.rdp_words.proofs.Tests.{by-test}
 use Rattle.rdp_words.proofs.PlaceLaws.{some-words}
 use Rattle.rdp_check.specs.Commands.{commandsFrom, restFrom, commandsOf, restOf, wordsIn}
-use Rattle.rdp_check.specs.Order.{Ground, ground, answer, firstOf}
+use Rattle.rdp_check.specs.Order.{Ground, ground, firstOf}
 use Rattle.rdp_check.specs.Check.{State, start, afterCommand, noRefusals}
 use Rattle.rdp_check.specs.Refusals.{isSome, commandGrounds, groundsOf}
 use Rattle.rdp_check.proofs.ListLaws.{commands-at, command-number, rest-at, commands-past, rest-past}
-use Rattle.rdp_compare.specs.Entries.{entriesOf, decodeGrounds, decodeAnswer, roomGrounds, compareAnswer, entriesAfter}
+use Rattle.rdp_compare.specs.Entries.{pairEntries, decodeGrounds, roomGrounds, compareAnswer, entriesAfter}
 use Rattle.rdp_compare.specs.Part.{inFirst, longerIn, restStart}
 use Rattle.rdp_compare.specs.declared.RestStart.{RestStart}
-use Rattle.rdp_compare.specs.Steps.{Sound}
+use Rattle.rdp_compare.specs.Steps.{Decodable, decodeAnswer}
 
 pub commands-none : commandsOf [] ≡ []
 unfolding commandsFrom
@@ -101,21 +102,60 @@ module _ {list : List ℕ} {words at : ℕ} (t : Cutting list words at) where
       pub falls : words - (at + count) < words - at
       falls = omega (arith, is, some-words list at n refl, whole)
 
+-- ---- the grounds of a list: those of the check where a command has none of its own
+
+only-cut : (s : State) (at : ℕ) (cs : List (List ℕ)) (bs : List ℕ) → commandGrounds noRefusals s at cs bs ≡ ground (answer 3 (at + wordsIn cs)) (isSome bs) ∷ []
+unfolding commandGrounds
+only-cut s at [] bs = let e : at ≡ at + 0 = omega arith in ap (λ (k : ℕ). ground (answer 3 k) (isSome bs) ∷ []) e
+only-cut s at (c ∷ cs) bs =
+    let e : (at + wordsOf (firstNumber c)) + wordsIn cs ≡ at + (wordsOf (firstNumber c) + wordsIn cs) = omega arith in
+    only-cut (afterCommand s c) (at + wordsOf (firstNumber c)) cs bs ∙ ap (λ (k : ℕ). ground (answer 3 k) (isSome bs) ∷ []) e
+
+-- 1, 2 and 3
+abbrev pub threeGrounds : List ℕ → List (Ground Answer)
+threeGrounds list =
+    ground (answer 1 4096) (ltb 32768 (length list))
+    ∷ ground (answer 2 (length list / 8)) (not (eqb (length list % 8) 0))
+    ∷ ground (answer 3 (wordsIn (commandsOf list))) (isSome (restOf list))
+    ∷ []
+
+pub grounds-are : (list : List ℕ) → decodeGrounds list ≡ threeGrounds list
+unfolding groundsOf
+grounds-are list =
+    let e : 0 + wordsIn (commandsOf list) ≡ wordsIn (commandsOf list) = omega arith in
+    ap (λ (gs : List (Ground Answer)). ground (answer 1 4096) (ltb 32768 (length list)) ∷ ground (answer 2 (length list / 8)) (not (eqb (length list % 8) 0)) ∷ gs)
+    (only-cut start 0 (commandsOf list) (restOf list) ∙ ap (λ (k : ℕ). ground (answer 3 k) (isSome (restOf list)) ∷ []) e)
+
 -- ---- the first ground of a list
 
 module _ (list : List ℕ) where
+  abbrev pub firstOfThree : Answer
+  firstOfThree = firstOf (threeGrounds list) (answer 0 (length list / 8))
+
+  pub opened : decodeAnswer list ≡ firstOfThree
+  opened = ap (λ (gs : List (Ground Answer)). firstOf gs (answer 0 (length list / 8))) (grounds-are list)
+
+  long-first : 32768 < length list → answer 1 4096 ≡ firstOfThree
+  long-first h = rw (lt-ltb _ _ h)
+
+  words-first : length list ≤ 32768 → (length list % 8 ≡ 0 → ⊥) → answer 2 (length list / 8) ≡ firstOfThree
+  words-first h ne = rw (le-ltb _ _ h, ne-eqb _ _ ne)
+
+  cut-first : length list ≤ 32768 → length list % 8 ≡ 0 → {r : Answer} → r ≡ cutAnswer list (length list / 8) → r ≡ firstOfThree
+  cut-first h e f = rw (le-ltb _ _ h, eq-eqb _ _ e) f
+
   pub too-long : 32768 < length list → answer 1 4096 ≡ decodeAnswer list
-  too-long h = rw (lt-ltb _ _ h)
+  too-long h = long-first h ∙ sym opened
 
   pub not-words : length list ≤ 32768 → (length list % 8 ≡ 0 → ⊥) → answer 2 (length list / 8) ≡ decodeAnswer list
-  not-words h ne = rw (le-ltb _ _ h, ne-eqb _ _ ne)
+  not-words h ne = words-first h ne ∙ sym opened
 
   pub by-cut : length list ≤ 32768 → length list % 8 ≡ 0 → {r : Answer} → r ≡ cutAnswer list (length list / 8) → r ≡ decodeAnswer list
-  by-cut h e f = rw (le-ltb _ _ h, eq-eqb _ _ e) f
+  by-cut h e f = cut-first h e f ∙ sym opened
 
   -- where none holds
-  pub sound : decodeAnswer list .number ≡ 0 → Sound list (length list / 8)
-  sound z =
+  none-holds : firstOfThree .number ≡ 0 → Decodable list (length list / 8)
+  none-holds z =
       by-test (ltb 32768 (length list)) (λ t. absurd (suc-ne-zero 0 (rw t at z)))
       (λ f.
       by-test (eqb (length list % 8) 0)
@@ -127,21 +167,8 @@ module _ (list : List ℕ) where
       record { long = omega arith; few = omega arith; none = none-some (restOf list) g }))
       (λ e. absurd (suc-ne-zero 1 (rw (f, e) at z))))
 
--- ---- these grounds are those of the check where a command has none of its own
-
-only-cut : (s : State) (at : ℕ) (cs : List (List ℕ)) (bs : List ℕ) → commandGrounds noRefusals s at cs bs ≡ ground (answer 3 (at + wordsIn cs)) (isSome bs) ∷ []
-unfolding commandGrounds
-only-cut s at [] bs = let e : at ≡ at + 0 = omega arith in ap (λ (k : ℕ). ground (answer 3 k) (isSome bs) ∷ []) e
-only-cut s at (c ∷ cs) bs =
-    let e : (at + wordsOf (firstNumber c)) + wordsIn cs ≡ at + (wordsOf (firstNumber c) + wordsIn cs) = omega arith in
-    only-cut (afterCommand s c) (at + wordsOf (firstNumber c)) cs bs ∙ ap (λ (k : ℕ). ground (answer 3 k) (isSome bs) ∷ []) e
-
-pub grounds-are : (list : List ℕ) → groundsOf 4096 noRefusals list ≡ decodeGrounds list
-unfolding groundsOf
-grounds-are list =
-    let e : 0 + wordsIn (commandsOf list) ≡ wordsIn (commandsOf list) = omega arith in
-    ap (λ (gs : List (Ground Answer)). ground (answer 1 4096) (ltb 32768 (length list)) ∷ ground (answer 2 (length list / 8)) (not (eqb (length list % 8) 0)) ∷ gs)
-    (only-cut start 0 (commandsOf list) (restOf list) ∙ ap (λ (k : ℕ). ground (answer 3 k) (isSome (restOf list)) ∷ []) e)
+  pub sound : decodeAnswer list .number ≡ 0 → Decodable list (length list / 8)
+  sound z = none-holds (ap (λ (x : Answer). x .number) (sym opened) ∙ z)
 
 -- ---- grounds one after the other
 
@@ -163,7 +190,7 @@ module _ (k : ℕ) (hs : List (Ground Answer)) (other : Answer) where
   passed (g ∷ gs) nz e = by-test (g .holds) (λ t. absurd (nz .0 (rw t at e))) (λ f. rw f (passed gs (nz .1) (rw f at e)))
 
 numbered : (list : List ℕ) → Numbered (decodeGrounds list)
-numbered list = (suc-ne-zero 0, (suc-ne-zero 1, (suc-ne-zero 2, tt)))
+numbered list = subst Numbered (sym (grounds-are list)) (suc-ne-zero 0, (suc-ne-zero 1, (suc-ne-zero 2, tt)))
 
 -- ---- the grounds of both lists
 
@@ -200,17 +227,17 @@ module _ (first second : List ℕ) where
         let ne = eqb-false (decodeAnswer first .number) 0 f in
         absurd (ne (ap (λ (x : Answer). x .number) (of-first refl ne) ∙ none)))
 
-    pub first-sound : Sound first (length first / 8)
+    pub first-sound : Decodable first (length first / 8)
     first-sound = sound first none-first
 
-    pub second-sound : Sound second (length second / 8)
+    pub second-sound : Decodable second (length second / 8)
     second-sound = sound second (ap (λ (x : Answer). x .number) (of-second refl none-first refl) ∙ none)
 
 -- ---- the answer of the comparison, by the room
 
 module _ (first second : List ℕ) (room : ℕ) {r : Answer} (is : r ≡ bothAnswer first second) where
   abbrev needed : ℕ
-  needed = length (entriesOf first second)
+  needed = length (pairEntries first second)
 
   joined : compareAnswer first second room ≡ firstOf (bothGrounds first second ++ roomGrounds room needed) (answer 0 needed)
   unfolding compareAnswer
@@ -251,7 +278,7 @@ module _ (first second old : List ℕ) where
   untouched e ne = (sym e, rw (ne-eqb _ _ (λ z. ne (ap (λ (x : Answer). x .number) (sym e) ∙ z))))
 
   pub written :
-      {count : ℕ} → compareAnswer first second (length old) ≡ answer 0 count → {new : List ℕ} → new ≡ overwrite (entriesOf first second) old →
+      {count : ℕ} → compareAnswer first second (length old) ≡ answer 0 count → {new : List ℕ} → new ≡ overwrite (pairEntries first second) old →
       (answer 0 count ≡ compareAnswer first second (length old)) × (new ≡ entriesAfter first second old)
   unfolding entriesAfter
   written a e = (sym a, e ∙ rw a)

@@ -15,6 +15,7 @@ use lib.Seq.{getD-append-seam}
 use mir.Val.{boolByte}
 use Rattle.rdp_words.specs.Lengths.{firstNumber, suffixOf}
 use Rattle.rdp_words.proofs.Tests.{below, by-test}
+use Rattle.rdp_words.specs.Words.{sameBytes}
 use Rattle.rdp_command.specs.Layout.{Line, bits, otherModesLines, layout}
 use Rattle.rdp_command.specs.Fields.{Value}
 use Rattle.rdp_command.specs.Commands.{valuesOf}
@@ -27,7 +28,7 @@ use Rattle.rdp_encode.specs.Numbers.{valueFrom, valuesFrom}
 use Rattle.rdp_encode.proofs.FieldLaws.{values-decoded}
 use Rattle.rdp_command.proofs.Signed.{bool-le}
 use Rattle.rdp_command.proofs.Triangles.{layout-at}
-use Rattle.rdp_compare.specs.Differing.{numbersIn, fieldsIn, unlike, sameBytes, fieldsDiffer, unnamedBefore, lineIndex, bitsFrom, differingFields}
+use Rattle.rdp_compare.specs.Differing.{numbersIn, fieldNumbers, unlike, fieldsDiffer, unnamedBefore, lineIndex, bitsFrom, differingFields}
 use Rattle.rdp_compare.specs.Steps.{OneCommand, Alike}
 use Rattle.rdp_compare.proofs.DifferingLaws.{there, length-unlike, fields-long, as-many}
 
@@ -213,7 +214,7 @@ number-at : (r : Decoded) (k : ℕ) (v : Value) → k < length (numbersIn r) →
 number-at (Whole x) k v h = of-map (valuesOf x) k v h
 number-at (Refused r) k v h = absurd (omega arith)
 
-values-are : (c : List ℕ) {n : ℕ} → OneCommand c → n ≡ firstNumber c → valuesFrom (layout n) (fieldsIn c) ≡ valuesIn (decodeOf c)
+values-are : (c : List ℕ) {n : ℕ} → OneCommand c → n ≡ firstNumber c → valuesFrom (layout n) (fieldNumbers c) ≡ valuesIn (decodeOf c)
 values-are c one e =
     let d = decodes c (there c one) in
     (λ i. valuesFrom (layout ((e ∙ sym (decoded-number c (there c one))) i)) (numbersIn (d i))) ∙
@@ -243,31 +244,31 @@ module _ {c d : List ℕ} {n : ℕ} (a : Alike c d n) where
 
   -- the bit of each field, whatever the suffix
   pub field-set :
-      (k : ℕ) → k < length (fieldsIn c) → differingFields c d / 2 ^ lineIndex n k % 2 ≡ boolByte (not (eqb (getD (fieldsIn c) k 0) (getD (fieldsIn d) k 0)))
-  field-set k h = bit-at k ∙ ap boolByte (unlike-at (fieldsIn c) (fieldsIn d) (as-many a) (not (sameBytes (suffixOf c) (suffixOf d)) ∷ []) k h)
+      (k : ℕ) → k < length (fieldNumbers c) → differingFields c d / 2 ^ lineIndex n k % 2 ≡ boolByte (not (eqb (getD (fieldNumbers c) k 0) (getD (fieldNumbers d) k 0)))
+  field-set k h = bit-at k ∙ ap boolByte (unlike-at (fieldNumbers c) (fieldNumbers d) (as-many a) (not (sameBytes (suffixOf c) (suffixOf d)) ∷ []) k h)
 
-  fields-of-first : valuesFrom (layout n) (fieldsIn c) ≡ valuesIn (decodeOf c)
+  fields-of-first : valuesFrom (layout n) (fieldNumbers c) ≡ valuesIn (decodeOf c)
   fields-of-first = values-are c (a .one) (a .first)
 
-  fields-of-second : valuesFrom (layout n) (fieldsIn d) ≡ valuesIn (decodeOf d)
+  fields-of-second : valuesFrom (layout n) (fieldNumbers d) ≡ valuesIn (decodeOf d)
   fields-of-second = values-are d (a .two) (a .second)
 
   -- the bit is clear exactly where the values of the field are the same
   pub value-clear :
-      (k : ℕ) (v : Value) → k < length (fieldsIn c) → differingFields c d / 2 ^ lineIndex n k % 2 ≡ 0 →
+      (k : ℕ) (v : Value) → k < length (fieldNumbers c) → differingFields c d / 2 ^ lineIndex n k % 2 ≡ 0 →
       getD (valuesIn (decodeOf c)) k v ≡ getD (valuesIn (decodeOf d)) k v
   value-clear k v h z =
       let s = getD (layout n) k (bits 0 0 0) .isSigned in
-      let e = no-byte (getD (fieldsIn c) k 0) (getD (fieldsIn d) k 0) (sym (field-set k h) ∙ z) in
-      let long : length (layout n) ≡ length (fieldsIn c) = ap (λ (m : ℕ). length (layout m)) (a .first) ∙ sym (fields-long c (a .one)) in
+      let e = no-byte (getD (fieldNumbers c) k 0) (getD (fieldNumbers d) k 0) (sym (field-set k h) ∙ z) in
+      let long : length (layout n) ≡ length (fieldNumbers c) = ap (λ (m : ℕ). length (layout m)) (a .first) ∙ sym (fields-long c (a .one)) in
       ap (λ (vs : List Value). getD vs k v) (sym fields-of-first) ∙
-      value-at (layout n) (fieldsIn c) k v long h ∙
+      value-at (layout n) (fieldNumbers c) k v long h ∙
       ap (valueFrom s) e ∙
-      sym (value-at (layout n) (fieldsIn d) k v (long ∙ as-many a) (omega (arith, h, as-many a))) ∙
+      sym (value-at (layout n) (fieldNumbers d) k v (long ∙ as-many a) (omega (arith, h, as-many a))) ∙
       ap (λ (vs : List Value). getD vs k v) fields-of-second
 
   pub clear-value :
-      (k : ℕ) (v : Value) → k < length (fieldsIn c) → getD (valuesIn (decodeOf c)) k v ≡ getD (valuesIn (decodeOf d)) k v →
+      (k : ℕ) (v : Value) → k < length (fieldNumbers c) → getD (valuesIn (decodeOf c)) k v ≡ getD (valuesIn (decodeOf d)) k v →
       differingFields c d / 2 ^ lineIndex n k % 2 ≡ 0
   clear-value k v h e =
       let f = number-at (decodeOf c) k v h ∙ ap numberOfValue e ∙ sym (number-at (decodeOf d) k v (omega (arith, h, as-many a))) in
@@ -276,10 +277,10 @@ module _ {c d : List ℕ} {n : ℕ} (a : Alike c d n) where
   -- a triangle's suffix has bit 21
   pub suffix-set : n / 8 ≡ 1 → differingFields c d / 2 ^ 21 % 2 ≡ boolByte (not (sameBytes (suffixOf c) (suffixOf d)))
   suffix-set e =
-      let us = unlike (fieldsIn c) (fieldsIn d) in
+      let us = unlike (fieldNumbers c) (fieldNumbers d) in
       let s = not (sameBytes (suffixOf c) (suffixOf d)) in
       let t : firstNumber c / 8 ≡ 1 = ap (λ (k : ℕ). k / 8) (sym (a .first)) ∙ e in
-      let long : length us ≡ 21 = length-unlike (fieldsIn c) (fieldsIn d) (as-many a) ∙ fields-long c (a .one) ∙ ap length (layout-at (firstNumber c) t) in
+      let long : length us ≡ 21 = length-unlike (fieldNumbers c) (fieldNumbers d) (as-many a) ∙ fields-long c (a .one) ∙ ap length (layout-at (firstNumber c) t) in
       let index : lineIndex n 21 ≡ 21 = rw (ne-eqb n 0x2F (λ q. omega (arith, e, q))) in
       ap (λ (j : ℕ). differingFields c d / 2 ^ j % 2) (sym index) ∙
       bit-at 21 ∙

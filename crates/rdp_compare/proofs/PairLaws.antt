@@ -10,7 +10,7 @@ use lib.ListN.{length, take, drop, set, length-append, length-drop, drop-of-leng
 use lib.Dec.{eqb, ltb}
 use lib.Seq.{take-all, length-take-le}
 use borrow.Author.Tests.{lt-ltb, le-ltb, ltb-true, ltb-false}
-use Rattle.rdp_words.specs.Words.{wordAt, numberIn, overwrite, pasted}
+use Rattle.rdp_words.specs.Words.{wordAt, numberIn, overwrite, pasted, WrittenIs}
 use Rattle.rdp_words.specs.Kinds.{wordsOf}
 use Rattle.rdp_words.specs.Lengths.{firstNumber}
 use Rattle.rdp_compare.specs.Differing.{differingFields}
@@ -18,12 +18,11 @@ use Rattle.rdp_words.proofs.OverwriteLaws.{length-overwrite, pasted-after}
 use Rattle.rdp_words.proofs.Tests.{by-test}
 use Rattle.rdp_words.proofs.PlaceLaws.{some-words}
 use Rattle.rdp_check.specs.Commands.{commandsOf, restOf, wordsIn}
-use Rattle.rdp_compare.specs.Steps.{WrittenIs}
 use Rattle.rdp_check.proofs.ListLaws.{commands-at, command-number, rest-at, rest-past}
 use Rattle.rdp_check.proofs.JoinLaws.{parsed, count-joined, words-inside}
-use Rattle.rdp_compare.specs.Entries.{differ, entryWith, entryOf, entriesFrom, entriesOf, compareAnswer}
+use Rattle.rdp_compare.specs.Entries.{differ, entryWith, pairEntry, pairEntriesFrom, pairEntries, compareAnswer}
 use Rattle.rdp_compare.specs.Part.{inFirst, inSecond, longerFrom, longerIn, restStart}
-use Rattle.rdp_compare.specs.Steps.{Sound, wordsFrom, OneCommand, DifferenceIs, PairedIs}
+use Rattle.rdp_compare.specs.Steps.{Decodable, wordsFrom, OneCommand, DifferenceIs, PairedIs}
 use Rattle.rdp_compare.specs.declared.RestStart.{RestStart}
 use Rattle.rdp_compare.specs.declared.pairs.Difference.{Difference}
 use Rattle.rdp_compare.proofs.GroundLaws.{commands-none}
@@ -31,11 +30,11 @@ use Rattle.rdp_compare.proofs.GroundLaws.{commands-none}
 -- ---- a place of one list, at which a command begins or the list ends
 
 pub record At (list : List ℕ) (words at : ℕ) : Type 0 where
-  pub sound : Sound list words
+  pub sound : Decodable list words
   pub within : at ≤ words
   pub none : restOf (drop (8 * at) list) ≡ []
 
-pub at-first : {list : List ℕ} {words : ℕ} → Sound list words → At list words 0
+pub at-first : {list : List ℕ} {words : ℕ} → Decodable list words → At list words 0
 at-first s = record { sound = s; within = omega arith; none = s .none }
 
 abbrev pub left : List ℕ → ℕ → List (List ℕ)
@@ -104,7 +103,7 @@ module _ {list : List ℕ} {words at : ℕ} (r : At list words at) where
 -- ---- the entries from two places on
 
 abbrev pub due : List ℕ → List ℕ → ℕ → ℕ → List ℕ
-due first second a b = entriesFrom a b (left first a) (left second b)
+due first second a b = pairEntriesFrom a b (left first a) (left second b)
 
 entry-some : (b : Bool) (x y m : ℕ) → length (entryWith b x y m) ≤ 4
 entry-some true x y m = omega arith
@@ -114,19 +113,19 @@ pub entry-long : (b : Bool) (x y m : ℕ) → length (entryWith b 0 0 m) ≡ len
 entry-long true x y m = refl
 entry-long false x y m = refl
 
-entries-most : (a b : ℕ) (cs ds : List (List ℕ)) → length (entriesFrom a b cs ds) ≤ 4 * length cs
-unfolding entriesFrom
+entries-most : (a b : ℕ) (cs ds : List (List ℕ)) → length (pairEntriesFrom a b cs ds) ≤ 4 * length cs
+unfolding pairEntriesFrom
 entries-most a b [] ds = omega arith
 entries-most a b (c ∷ cs) [] = omega arith
 entries-most a b (c ∷ cs) (d ∷ ds) =
-    let e = entryOf a b c d in
-    let more = entriesFrom (a + wordsOf (firstNumber c)) (b + wordsOf (firstNumber d)) cs ds in
+    let e = pairEntry a b c d in
+    let more = pairEntriesFrom (a + wordsOf (firstNumber c)) (b + wordsOf (firstNumber d)) cs ds in
     let l : length e ≤ 4 = entry-some (differ c d) a b (differingFields c d) in
     let m : length more ≤ 4 * length cs = entries-most (a + wordsOf (firstNumber c)) (b + wordsOf (firstNumber d)) cs ds in
     let s : length (e ++ more) ≡ length e + length more = length-append e more in
     rw s (omega (arith, l, m))
 
-pub entries-few : {first : List ℕ} {words : ℕ} (second : List ℕ) → Sound first words → length (entriesOf first second) ≤ 16384
+pub entries-few : {first : List ℕ} {words : ℕ} (second : List ℕ) → Decodable first words → length (pairEntries first second) ≤ 16384
 entries-few {first} second s =
     let cs = commandsOf first in
     let m = entries-most 0 0 cs (commandsOf second) in
@@ -134,21 +133,21 @@ entries-few {first} second s =
     let w = words-inside first in
     omega (arith, m, k, w, s .long, s .few)
 
-none-second : (a b : ℕ) (cs : List (List ℕ)) → entriesFrom a b cs [] ≡ []
-unfolding entriesFrom
+none-second : (a b : ℕ) (cs : List (List ℕ)) → pairEntriesFrom a b cs [] ≡ []
+unfolding pairEntriesFrom
 none-second a b [] = refl
 none-second a b (c ∷ cs) = refl
 
-none-first : (a b : ℕ) (ds : List (List ℕ)) → entriesFrom a b [] ds ≡ []
-unfolding entriesFrom
+none-first : (a b : ℕ) (ds : List (List ℕ)) → pairEntriesFrom a b [] ds ≡ []
+unfolding pairEntriesFrom
 none-first a b ds = refl
 
 module _ {first second : List ℕ} {n m a b : ℕ} (one : At first n a) (two : At second m b) where
   pub due-none-first : n ≤ a → due first second a b ≡ []
-  due-none-first h = ap (λ (cs : List (List ℕ)). entriesFrom a b cs (left second b)) (none-left one h) ∙ none-first a b (left second b)
+  due-none-first h = ap (λ (cs : List (List ℕ)). pairEntriesFrom a b cs (left second b)) (none-left one h) ∙ none-first a b (left second b)
 
   pub due-none-second : m ≤ b → due first second a b ≡ []
-  due-none-second h = ap (entriesFrom a b (left first a)) (none-left two h) ∙ none-second a b (left first a)
+  due-none-second h = ap (pairEntriesFrom a b (left first a)) (none-left two h) ∙ none-second a b (left first a)
 
   module _ (more-one : a < n) (more-two : b < m) {x y : ℕ} (is-x : x ≡ wordsOf (numberIn (wordAt first a))) (is-y : y ≡ wordsOf (numberIn (wordAt second b))) where
     abbrev c : List ℕ
@@ -157,11 +156,11 @@ module _ {first second : List ℕ} {n m a b : ℕ} (one : At first n a) (two : A
     abbrev d : List ℕ
     d = wordsFrom second b y
 
-    due-next : due first second a b ≡ entryOf a b c d ++ due first second (a + x) (b + y)
-    unfolding entriesFrom
+    due-next : due first second a b ≡ pairEntry a b c d ++ due first second (a + x) (b + y)
+    unfolding pairEntriesFrom
     due-next =
-        (λ i. entriesFrom a b (next one more-one is-x i) (next two more-two is-y i)) ∙
-        ap₂ (λ (u v : ℕ). entryOf a b c d ++ entriesFrom (a + u) (b + v) (left first (a + x)) (left second (b + y)))
+        (λ i. pairEntriesFrom a b (next one more-one is-x i) (next two more-two is-y i)) ∙
+        ap₂ (λ (u v : ℕ). pairEntry a b c d ++ pairEntriesFrom (a + u) (b + v) (left first (a + x)) (left second (b + y)))
         (next-words one more-one is-x) (next-words two more-two is-y)
 
     module _ {r : Difference} (is : DifferenceIs c d r) where
@@ -179,10 +178,10 @@ restFor first second a b = longerFrom (length first) a b (left first a) (left se
 pub record Counting (first : List ℕ) (n : ℕ) (second : List ℕ) (m a b count : ℕ) : Type 0 where
   pub one : At first n a
   pub two : At second m b
-  pub whole : count + length (due first second a b) ≡ length (entriesOf first second)
+  pub whole : count + length (due first second a b) ≡ length (pairEntries first second)
   pub same : restFor first second a b ≡ longerIn first second
 
-pub counting-first : {first second : List ℕ} {n m : ℕ} → Sound first n → Sound second m → Counting first n second m 0 0 0
+pub counting-first : {first second : List ℕ} {n m : ℕ} → Decodable first n → Decodable second m → Counting first n second m 0 0 0
 counting-first s t = record { one = at-first s; two = at-first t; whole = omega arith; same = refl }
 
 module _ {first second : List ℕ} {n m a b count : ℕ} (t : Counting first n second m a b count) where
@@ -241,14 +240,14 @@ module _ {first second : List ℕ} {n m a b count : ℕ} (t : Counting first n s
 pub record Writing (first : List ℕ) (n : ℕ) (second : List ℕ) (m : ℕ) (old new : List ℕ) (a b to : ℕ) : Type 0 where
   pub one : At first n a
   pub two : At second m b
-  pub room : length (entriesOf first second) ≤ length old
+  pub room : length (pairEntries first second) ≤ length old
   pub done : List ℕ
   pub output : new ≡ overwrite done old
   pub index : to ≡ length done
-  pub whole : done ++ due first second a b ≡ entriesOf first second
+  pub whole : done ++ due first second a b ≡ pairEntries first second
 
 pub writing-first :
-    {first second old : List ℕ} {n m : ℕ} → Sound first n → Sound second m → length (entriesOf first second) ≤ length old →
+    {first second old : List ℕ} {n m : ℕ} → Decodable first n → Decodable second m → length (pairEntries first second) ≤ length old →
     Writing first n second m old old 0 0 0
 unfolding overwrite
 writing-first s t h = record { one = at-first s; two = at-first t; room = h; done = []; output = refl; index = refl; whole = refl }
@@ -260,15 +259,15 @@ module _ {first second old new : List ℕ} {n m a b to : ℕ} (t : Writing first
   pub new-long : length new ≡ length old
   new-long = ap length (t .output) ∙ length-overwrite (t .done) old fitting
 
-  all-written : due first second a b ≡ [] → new ≡ overwrite (entriesOf first second) old
+  all-written : due first second a b ≡ [] → new ≡ overwrite (pairEntries first second) old
   all-written e =
       t .output ∙
       ap (λ (l : List ℕ). overwrite l old) (sym (append-nil (t .done)) ∙ ap (λ (l : List ℕ). t .done ++ l) (sym e) ∙ t .whole)
 
-  pub written-first : n ≤ a → new ≡ overwrite (entriesOf first second) old
+  pub written-first : n ≤ a → new ≡ overwrite (pairEntries first second) old
   written-first h = all-written (due-none-first (t .one) (t .two) h)
 
-  pub written-second : m ≤ b → new ≡ overwrite (entriesOf first second) old
+  pub written-second : m ≤ b → new ≡ overwrite (pairEntries first second) old
   written-second h = all-written (due-none-second (t .one) (t .two) h)
 
   module _ (more-one : a < n) (more-two : b < m) {x y : ℕ} (is-x : x ≡ wordsOf (numberIn (wordAt first a))) (is-y : y ≡ wordsOf (numberIn (wordAt second b)))
@@ -276,7 +275,7 @@ module _ {first second old new : List ℕ} {n m a b to : ℕ} (t : Writing first
     abbrev entry : List ℕ
     entry = entryWith (r .differs) a b (r .mask)
 
-    whole-turn : (t .done ++ entry) ++ due first second (a + x) (b + y) ≡ entriesOf first second
+    whole-turn : (t .done ++ entry) ++ due first second (a + x) (b + y) ≡ pairEntries first second
     whole-turn =
         append-assoc (t .done) entry (due first second (a + x) (b + y)) ∙
         ap (λ (l : List ℕ). t .done ++ l) (sym (due-turn (t .one) (t .two) more-one more-two is-x is-y is)) ∙

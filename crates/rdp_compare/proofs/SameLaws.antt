@@ -13,6 +13,7 @@ use lib.Pow.{pow-pos}
 use Rattle.rdp_words.specs.Kinds.{wordsOf}
 use Rattle.rdp_words.specs.Lengths.{firstNumber, suffixOf}
 use Rattle.rdp_words.proofs.Tests.{neither}
+use Rattle.rdp_words.specs.Words.{sameBytes}
 use Rattle.rdp_command.specs.Commands.{numberOf}
 use Rattle.rdp_command.specs.Decode.{decodeOf}
 use Rattle.rdp_command.specs.declared.Command.{Command}
@@ -25,8 +26,8 @@ use Rattle.rdp_encode.proofs.Bytes.{empty}
 use Rattle.rdp_encode.proofs.FieldLaws.{from-fields-decoded}
 use Rattle.rdp_check.specs.Commands.{commandsOf}
 use Rattle.rdp_check.proofs.JoinLaws.{AllAlone, parsed}
-use Rattle.rdp_compare.specs.Differing.{numbersIn, fieldsIn, unlike, sameBytes, lineIndex, bitsFrom, differingFields}
-use Rattle.rdp_compare.specs.Entries.{differ, entryWith, entryOf, entriesFrom, entriesOf}
+use Rattle.rdp_compare.specs.Differing.{numbersIn, fieldNumbers, unlike, lineIndex, bitsFrom, differingFields}
+use Rattle.rdp_compare.specs.Entries.{differ, entryWith, pairEntry, pairEntriesFrom, pairEntries}
 use Rattle.rdp_compare.specs.Same.{SameCommand, AllSame}
 use Rattle.rdp_compare.specs.Steps.{OneCommand}
 use Rattle.rdp_compare.proofs.WordLaws.{bytes-same}
@@ -66,15 +67,15 @@ module _ (c d : List ℕ) (one : OneCommand c) (two : OneCommand d) where
   abbrev y : Command
   y = decoded d (there d two)
 
-  fields-c : fieldsIn c ≡ numbersOf x
+  fields-c : fieldNumbers c ≡ numbersOf x
   fields-c = ap numbersIn (decodes c (there c one))
 
-  fields-d : fieldsIn d ≡ numbersOf y
+  fields-d : fieldNumbers d ≡ numbersOf y
   fields-d = ap numbersIn (decodes d (there d two))
 
   module _ (same : firstNumber c ≡ firstNumber d) where
     -- the same fields give the same command
-    same-command : fieldsIn c ≡ fieldsIn d → decodeOf c ≡ decodeOf d
+    same-command : fieldNumbers c ≡ fieldNumbers d → decodeOf c ≡ decodeOf d
     same-command f =
         let n : numberOf x ≡ numberOf y = decoded-number c (there c one) ∙ same ∙ sym (decoded-number d (there d two)) in
         let e : numbersOf x ≡ numbersOf y = sym fields-c ∙ f ∙ fields-d in
@@ -88,8 +89,8 @@ module _ (c d : List ℕ) (one : OneCommand c) (two : OneCommand d) where
     unfolding differingFields
     same-decoded z =
         let s = not (sameBytes (suffixOf c) (suffixOf d)) in
-        let m : bitsFrom (firstNumber c) 0 (unlike (fieldsIn c) (fieldsIn d) ++ (s ∷ [])) ≡ 0 = rw (eq-eqb (firstNumber c) (firstNumber d) same) at z in
-        let p = same-numbers (firstNumber c) 0 (fieldsIn c) (fieldsIn d) s (as-many (record { one = one; two = two; first = refl; second = same })) m in
+        let m : bitsFrom (firstNumber c) 0 (unlike (fieldNumbers c) (fieldNumbers d) ++ (s ∷ [])) ≡ 0 = rw (eq-eqb (firstNumber c) (firstNumber d) same) at z in
+        let p = same-numbers (firstNumber c) 0 (fieldNumbers c) (fieldNumbers d) s (as-many (record { one = one; two = two; first = refl; second = same })) m in
         (same-command (p .0), bytes-same (suffixOf c) (suffixOf d) (not-false (sameBytes (suffixOf c) (suffixOf d)) (p .1)))
 
   pub no-differ : differ c d ≡ false → SameCommand c d
@@ -122,21 +123,21 @@ no-entry : (b : Bool) (x y m : ℕ) → length (entryWith b x y m) ≡ 0 → b �
 no-entry true x y m e = absurd (suc-ne-zero 3 e)
 no-entry false x y m e = refl
 
-none-entries : (a b : ℕ) (cs ds : List (List ℕ)) → AllAlone cs → AllAlone ds → entriesFrom a b cs ds ≡ [] → AllSame cs ds
-unfolding entriesFrom
+none-entries : (a b : ℕ) (cs ds : List (List ℕ)) → AllAlone cs → AllAlone ds → pairEntriesFrom a b cs ds ≡ [] → AllSame cs ds
+unfolding pairEntriesFrom
 none-entries a b [] ds hc hd e = tt
 none-entries a b (c ∷ cs) [] hc hd e = tt
 none-entries a b (c ∷ cs) (d ∷ ds) hc hd e =
     let a′ = a + wordsOf (firstNumber c) in
     let b′ = b + wordsOf (firstNumber d) in
-    let more = entriesFrom a′ b′ cs ds in
-    let p = none-both (length (entryOf a b c d)) (length more) (sym (length-append (entryOf a b c d) more) ∙ ap length e) in (
+    let more = pairEntriesFrom a′ b′ cs ds in
+    let p = none-both (length (pairEntry a b c d)) (length more) (sym (length-append (pairEntry a b c d) more) ∙ ap length e) in (
       no-differ c d (hc .0) (hd .0) (no-entry (differ c d) a b (differingFields c d) (p .0)),
       none-entries a′ b′ cs ds (hc .1) (hd .1) (empty more (p .1)),
     )
 
-entries-none : (a b : ℕ) (cs ds : List (List ℕ)) → AllAlone cs → AllAlone ds → AllSame cs ds → entriesFrom a b cs ds ≡ []
-unfolding entriesFrom
+entries-none : (a b : ℕ) (cs ds : List (List ℕ)) → AllAlone cs → AllAlone ds → AllSame cs ds → pairEntriesFrom a b cs ds ≡ []
+unfolding pairEntriesFrom
 entries-none a b [] ds hc hd s = refl
 entries-none a b (c ∷ cs) [] hc hd s = refl
 entries-none a b (c ∷ cs) (d ∷ ds) hc hd s =
@@ -144,8 +145,8 @@ entries-none a b (c ∷ cs) (d ∷ ds) hc hd s =
 
 -- no entry exactly where all paired commands have the same number and fields
 module _ (first second : List ℕ) where
-  pub no-entries : entriesOf first second ≡ [] → AllSame (commandsOf first) (commandsOf second)
+  pub no-entries : pairEntries first second ≡ [] → AllSame (commandsOf first) (commandsOf second)
   no-entries = none-entries 0 0 (commandsOf first) (commandsOf second) (parsed first .alone) (parsed second .alone)
 
-  pub all-same : AllSame (commandsOf first) (commandsOf second) → entriesOf first second ≡ []
+  pub all-same : AllSame (commandsOf first) (commandsOf second) → pairEntries first second ≡ []
   all-same = entries-none 0 0 (commandsOf first) (commandsOf second) (parsed first .alone) (parsed second .alone)

@@ -8,10 +8,9 @@ use borrow.Author.Tests.{eq-eqb, eqb-true}
 use lib.Dec.{eqb}
 use lib.ListN.{length, getD, drop, length-drop, drop-of-length-le}
 use lib.Seq.{getD-drop, drop-drop}
-use Rattle.rdp_words.specs.Words.{halfOf, wordOf, wordAt}
+use Rattle.rdp_words.specs.Words.{halfOf, wordOf, wordAt, sameBytes}
 use Rattle.rdp_words.proofs.Tests.{by-test, and-true}
 use Rattle.rdp_words.proofs.WordLaws.{word-whole}
-use Rattle.rdp_compare.specs.Differing.{sameBytes}
 
 pub same-same : (xs : List ℕ) → sameBytes xs xs ≡ true
 unfolding sameBytes

@@ -1,9 +1,10 @@
 -- Request #110: which fields of two commands of one number differ, as a number of 64 bits. The commands are given as their bytes.
-use mathlib.Core.Bool.{Bool, true, false, cond, not, _&&_}
+use mathlib.Core.Bool.{Bool, cond, not}
 use mathlib.Core.List.{List, [], _∷_, _++_}
 use Prim.Native.Nat.{ℕ, suc, _+_, _^_}
 use lib.Dec.{eqb, leb}
 use mir.Val.{boolByte}
+use Rattle.rdp_words.specs.Words.{sameBytes}
 use Rattle.rdp_words.specs.Lengths.{firstNumber, suffixOf}
 use Rattle.rdp_command.specs.Decode.{decodeOf}
 use Rattle.rdp_command.specs.declared.Decoded.{Decoded}
@@ -15,8 +16,8 @@ abbrev pub numbersIn : Decoded → List ℕ
 numbersIn (Whole c) = numbersOf c
 numbersIn (Refused a) = []
 
-abbrev pub fieldsIn : List ℕ → List ℕ
-fieldsIn c = numbersIn (decodeOf c)
+abbrev pub fieldNumbers : List ℕ → List ℕ
+fieldNumbers c = numbersIn (decodeOf c)
 
 -- for each number whether it differs
 unfoldable pub unlike : List ℕ → List ℕ → List Bool
@@ -24,17 +25,10 @@ unlike [] ys = []
 unlike (x ∷ xs) [] = []
 unlike (x ∷ xs) (y ∷ ys) = not (eqb x y) ∷ unlike xs ys
 
--- the same bytes
-unfoldable pub sameBytes : List ℕ → List ℕ → Bool
-sameBytes [] [] = true
-sameBytes [] (b ∷ bs) = false
-sameBytes (a ∷ xs) [] = false
-sameBytes (a ∷ xs) (b ∷ ys) = eqb a b && sameBytes xs ys
-
 -- for each field whether two commands differ in it. "A triangle's suffix is one field, its last, and all its bits count"; that of any other command is
 -- empty, and so never differs
 abbrev pub fieldsDiffer : List ℕ → List ℕ → List Bool
-fieldsDiffer c d = unlike (fieldsIn c) (fieldsIn d) ++ (not (sameBytes (suffixOf c) (suffixOf d)) ∷ [])
+fieldsDiffer c d = unlike (fieldNumbers c) (fieldNumbers d) ++ (not (sameBytes (suffixOf c) (suffixOf d)) ∷ [])
 
 -- the bit lines of Set Other Modes that name no field (bits 54, 35:32 and 15) and stand before field k: after the first field, the 16th and the 24th
 abbrev pub unnamedBefore : ℕ → ℕ

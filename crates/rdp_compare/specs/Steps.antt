@@ -1,22 +1,28 @@
 -- What the comparison carries on its way. No public contract cites this.
-use Prim.Native.Nat.{ℕ, _+_, _*_, _≤_}
+use Prim.Native.Nat.{ℕ, _*_, _/_, _≤_}
 use mathlib.Core.Bool.{cond}
 use mathlib.Core.Path.{_≡_}
 use mathlib.Core.List.{List, []}
 use lib.Dec.{ltb}
 use lib.ListN.{length, take, drop}
-use Rattle.rdp_words.specs.Words.{pasted}
 use Rattle.rdp_words.specs.Kinds.{wordsOf}
 use Rattle.rdp_words.specs.Lengths.{firstNumber}
+use Rattle.rdp_command.specs.Decode.{answer}
+use Rattle.rdp_command.specs.declared.Answer.{Answer}
+use Rattle.rdp_check.specs.Order.{firstOf}
 use Rattle.rdp_check.specs.Commands.{restOf}
 use Rattle.rdp_compare.specs.Differing.{differingFields}
-use Rattle.rdp_compare.specs.Entries.{differ, entriesOf}
+use Rattle.rdp_compare.specs.Entries.{differ, pairEntries, decodeGrounds}
 use Rattle.rdp_compare.specs.Part.{inFirst, inSecond, longerIn}
 use Rattle.rdp_compare.specs.declared.pairs.Difference.{Difference}
 use Rattle.rdp_compare.specs.declared.pairs.Paired.{Paired}
 
+-- the first of the grounds of a list that holds, or 0 and the words of the list
+abbrev pub decodeAnswer : List ℕ → Answer
+decodeAnswer list = firstOf (decodeGrounds list) (answer 0 (length list / 8))
+
 -- a list that decodes, of so many words
-pub record Sound (list : List ℕ) (words : ℕ) : Type 0 where
+pub record Decodable (list : List ℕ) (words : ℕ) : Type 0 where
   pub long : length list ≡ 8 * words
   pub few : words ≤ 4096
   pub none : restOf list ≡ []
@@ -43,13 +49,8 @@ pub record DifferenceIs (c d : List ℕ) (r : Difference) : Type 0 where
 
 -- after the paired commands: the numbers of their entries, and where the rest begins
 pub record PairedIs (first : List ℕ) (n : ℕ) (second : List ℕ) (m : ℕ) (r : Paired) : Type 0 where
-  pub count : r .count ≡ length (entriesOf first second)
+  pub count : r .count ≡ length (pairEntries first second)
   pub few : r .count ≤ 16384
   pub one : r .a ≤ n
   pub two : r .b ≤ m
   pub rest : cond (ltb (r .a) n) (inFirst 0 (8 * r .a)) (cond (ltb (r .b) m) (inSecond (8 * r .b)) (inFirst 0 (length first))) ≡ longerIn first second
-
--- numbers written to an index, and the index after them
-pub record WrittenIs (numbers : List ℕ) (at next : ℕ) (out out′ : List ℕ) : Type 0 where
-  pub after : next ≡ at + length numbers
-  pub output : out′ ≡ pasted at numbers out

@@ -4,8 +4,8 @@ ghost use mathlib.Core.Path.{_≡_};
 ghost use Prim.Native.Nat.{_*_, _%_, _^_, _<_, _≤_};
 ghost use lib.Dec.{eqb};
 ghost use lib.ListN.{length, drop};
-ghost use Rattle.rdp_words.specs.Words.{overwrite};
-ghost use Rattle.rdp_compare.specs.Differing.{fieldsIn, unlike, sameBytes, unnamedBefore, lineIndex, bitsFrom, differingFields};
+ghost use Rattle.rdp_words.specs.Words.{overwrite, sameBytes};
+ghost use Rattle.rdp_compare.specs.Differing.{fieldNumbers, unlike, unnamedBefore, lineIndex, bitsFrom, differingFields};
 ghost use Rattle.rdp_compare.specs.Steps.{Alike, OneCommand};
 ghost use Rattle.rdp_words.specs.Lengths.{firstNumber};
 use rdp_command::Base;
@@ -32,8 +32,8 @@ pub fn same_from(first: &[u8], second: &[u8], from: usize) -> bool
 // Writes the numbers of a command's fields to the front, and answers their count. A command has no word beyond its own, so each reads as its base asks.
 fn numbers_of(number: u8, command: &[u8], numbers: &mut [u64]) -> usize
     requires { ⌜ (OneCommand (now command) × (number ≡ firstNumber (now command))) × (37 ≤ length (now numbers)) ⌝ }
-    ensures count { λ r. ⌜ (r ≡ length (fieldsIn (now (command .entry)))) × (r ≤ 37) ⌝ }
-    ensures numbers { λ _. ⌜ now (numbers .exit) ≡ overwrite (fieldsIn (now (command .entry))) (now (numbers .entry)) ⌝ }
+    ensures count { λ r. ⌜ (r ≡ length (fieldNumbers (now (command .entry)))) × (r ≤ 37) ⌝ }
+    ensures numbers { λ _. ⌜ now (numbers .exit) ≡ overwrite (fieldNumbers (now (command .entry))) (now (numbers .entry)) ⌝ }
 {
     let base = Base {
         ok: true,

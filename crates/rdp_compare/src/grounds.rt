@@ -4,12 +4,14 @@ ghost use mathlib.Core.Path.{_≡_};
 ghost use mathlib.Core.List.{_++_};
 ghost use Prim.Native.Nat.{_*_, _/_, _≤_};
 ghost use lib.ListN.{length};
+ghost use Rattle.rdp_command.specs.Decode.{answer};
 ghost use Rattle.rdp_words.specs.Words.{wordAt, numberIn};
 ghost use Rattle.rdp_words.specs.Kinds.{wordsOf};
 ghost use Rattle.rdp_check.specs.Commands.{commandsOf, restOf, wordsIn};
-ghost use Rattle.rdp_check.specs.Order.{answer, firstOf};
+ghost use Rattle.rdp_check.specs.Order.{firstOf};
 ghost use Rattle.rdp_check.specs.Refusals.{isSome};
-ghost use Rattle.rdp_compare.specs.Entries.{decodeGrounds, decodeAnswer};
+ghost use Rattle.rdp_compare.specs.Entries.{decodeGrounds};
+ghost use Rattle.rdp_compare.specs.Steps.{decodeAnswer};
 use rdp_command::Answer;
 
 // The words of the command at a place, by its number.

@@ -5,11 +5,10 @@ ghost use mathlib.Core.Path.{_≡_};
 ghost use Prim.Native.Nat.{_+_, _*_, _/_, _%_, _^_, _≤_};
 ghost use lib.Dec.{ltb};
 ghost use lib.ListN.{length};
-ghost use Rattle.rdp_words.specs.Words.{overwrite, pasted};
-ghost use Rattle.rdp_compare.specs.Steps.{WrittenIs};
-ghost use Rattle.rdp_compare.specs.Entries.{entryWith, entriesOf};
+ghost use Rattle.rdp_words.specs.Words.{overwrite, pasted, WrittenIs};
+ghost use Rattle.rdp_compare.specs.Entries.{entryWith, pairEntries};
 ghost use Rattle.rdp_compare.specs.Part.{inFirst, inSecond};
-ghost use Rattle.rdp_compare.specs.Steps.{Sound, wordsFrom, OneCommand, DifferenceIs, PairedIs};
+ghost use Rattle.rdp_compare.specs.Steps.{Decodable, wordsFrom, OneCommand, DifferenceIs, PairedIs};
 use crate::fieldwise;
 use crate::grounds::words_at;
 use crate::*;
@@ -78,7 +77,7 @@ fn entry_len(d: Difference) -> usize
 
 // How many numbers the entries of two lists have, and the places after the paired commands.
 pub fn count_pairs(first: &[u8], n: usize, second: &[u8], m: usize) -> Paired
-    requires { ⌜ Sound (now first) n × Sound (now second) m ⌝ }
+    requires { ⌜ Decodable (now first) n × Decodable (now second) m ⌝ }
     ensures { λ r. ⌜ PairedIs (now (first .entry)) n (now (second .entry)) m r ⌝ }
 {
     let mut a: usize = 0;
@@ -122,8 +121,8 @@ fn put_entry(entries: &mut [u32], to: usize, a: usize, b: usize, d: Difference) 
 
 // Writes the entries of two lists.
 pub fn write_entries(first: &[u8], n: usize, second: &[u8], m: usize, entries: &mut [u32])
-    requires { ⌜ Sound (now first) n × (Sound (now second) m × (length (entriesOf (now first) (now second)) ≤ length (now entries))) ⌝ }
-    ensures { λ _. ⌜ now (entries .exit) ≡ overwrite (entriesOf (now (first .entry)) (now (second .entry))) (now (entries .entry)) ⌝ }
+    requires { ⌜ Decodable (now first) n × (Decodable (now second) m × (length (pairEntries (now first) (now second)) ≤ length (now entries))) ⌝ }
+    ensures { λ _. ⌜ now (entries .exit) ≡ overwrite (pairEntries (now (first .entry)) (now (second .entry))) (now (entries .entry)) ⌝ }
 {
     let mut a: usize = 0;
     let mut b: usize = 0;

@@ -9,14 +9,14 @@ use lib.ListN.{length}
 use Rattle.rdp_words.specs.Kinds.{wordsOf}
 use Rattle.rdp_words.specs.Lengths.{firstNumber}
 use Rattle.rdp_words.proofs.Tests.{by-test}
-use Rattle.rdp_command.specs.Decode.{decodeOf}
+use Rattle.rdp_command.specs.Decode.{decodeOf, answer}
 use Rattle.rdp_command.specs.declared.Answer.{Answer}
 use Rattle.rdp_command.specs.declared.Command.{Command}
 use Rattle.rdp_command.specs.declared.Decoded.{Decoded}
 use Rattle.rdp_command.specs.declared.Decoded.the-variants.{Whole, Refused}
 use Rattle.rdp_command.proofs.SyncWordLaws.{sync-words}
 use Rattle.rdp_hazards.specs.Syncs.{Sync, loadSync, tileSync, pipeSync, syncNumber}
-use Rattle.rdp_check.specs.Order.{Ground, firstOf, answer, placed}
+use Rattle.rdp_check.specs.Order.{Ground, firstOf, placed}
 use Rattle.rdp_check.specs.Commands.{commandsOf}
 use Rattle.rdp_check.specs.Registers.{noRegisters, afterDecoded}
 use Rattle.rdp_check.specs.Check.{outcomeOf}

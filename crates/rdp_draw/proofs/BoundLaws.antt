@@ -22,7 +22,7 @@ use Rattle.rdp_check.proofs.JoinLaws.{words-inside}
 use Rattle.rdp_check.proofs.BoundLaws.{checkNumbers, check-holds, place-most}
 use Rattle.rdp_draw.specs.Draw.{Act, nothing, otherDraw, otherLoad, filling, copying, loading, blocking, actOfDecoded, Placed, withAct, actsFrom, actsOf, actRefusals, actGrounds, textureGround, drawAnswer}
 use Rattle.rdp_draw.specs.Seen.{firstRefusal}
-use Rattle.rdp_draw.specs.Refusals.{Holds, atCheck, atTexture, atAct}
+use Rattle.rdp_draw.specs.Refusals.{DrawHolds, atCheck, atTexture, atAct}
 use Rattle.rdp_draw.proofs.DrawLaws.{first-next}
 use Rattle.rdp_draw.proofs.DrawnLaws.{draw-first}
 
@@ -38,7 +38,7 @@ act-known : (start len : ℕ) (a : Act) → T (allGive (λ n. among n drawNumber
 unfolding actRefusals
 act-known start len a = tt
 
-known : (list : List ℕ) (start len size n p : ℕ) → Holds list start len size n p → T (among n drawNumbers)
+known : (list : List ℕ) (start len size n p : ℕ) → DrawHolds list start len size n p → T (among n drawNumbers)
 known list start len size n p (atCheck m q h) = among-front m checkNumbers (10 ∷ 11 ∷ 12 ∷ 16 ∷ 17 ∷ 18 ∷ []) (check-holds list m q h)
 known list start len size n p (atTexture h) = tt
 known list start len size n p (atAct before d after m e r) = among-gives (λ k. among k drawNumbers) m (actRefusals start len (d .act))

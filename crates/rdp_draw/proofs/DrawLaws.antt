@@ -12,10 +12,11 @@ use Rattle.rdp_command.specs.declared.Answer.{Answer}
 use Rattle.rdp_command.specs.declared.FillFields.{FillFields}
 use Rattle.rdp_command.specs.declared.CopyFields.{CopyFields}
 use Rattle.rdp_command.specs.declared.LoadFields.{LoadFields}
+use Rattle.rdp_command.specs.Decode.{answer}
 use Rattle.rdp_words.proofs.Tests.{by-test, false-of}
 use Rattle.rdp_check.specs.Commands.{restOf}
 use Rattle.rdp_check.specs.Check.{checkOf}
-use Rattle.rdp_check.specs.Order.{Ground, firstOf, answer, Among}
+use Rattle.rdp_check.specs.Order.{Ground, firstOf, Among}
 use Rattle.rdp_check.specs.Refusals.{pastEnd, tooLong, ofCommands}
 use Rattle.rdp_check.proofs.OrderLaws.{first-none, among-gives, refusedAt, refused-some, refused-none, placed-first, then-refused, then-accepted}
 use Rattle.rdp_check.proofs.FirstLaws.{no-bytes, check-first}

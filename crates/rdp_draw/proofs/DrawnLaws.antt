@@ -9,15 +9,16 @@ use borrow.Author.Tests.{ne-eqb, eqb-false}
 use lib.Dec.{T, eqb}
 use lib.ListN.{length}
 use Rattle.rdp_command.specs.declared.Answer.{Answer}
+use Rattle.rdp_command.specs.Decode.{answer}
 use Rattle.rdp_words.proofs.Tests.{false-of}
-use Rattle.rdp_check.specs.Order.{Ground, answer, placed, Among}
+use Rattle.rdp_check.specs.Order.{Ground, placed, Among}
 use Rattle.rdp_check.specs.Check.{checkRefusals}
 use Rattle.rdp_check.specs.Refusals as check
 use Rattle.rdp_check.proofs.OrderLaws.{found, among-left, among-right, among-parts, among-placed, placed-among, answered}
 use Rattle.rdp_check.proofs.FirstLaws.{check-numbered, to-order, from-order, no-zero}
 use Rattle.rdp_texels.proofs.ActLaws.{never}
 use Rattle.rdp_draw.specs.Draw.{Placed, actsOf, actRefusals, actGrounds, textureGround, drawGrounds, drawAnswer}
-use Rattle.rdp_draw.specs.Refusals.{Holds, atCheck, atTexture, atAct, FirstRefusal}
+use Rattle.rdp_draw.specs.Refusals.{DrawHolds, atCheck, atTexture, atAct, FirstDrawRefusal}
 use Rattle.rdp_draw.proofs.DrawLaws.{act-numbered}
 
 -- ---- the order has exactly the refusals that may hold
@@ -71,35 +72,35 @@ module _ (list : List ℕ) (start len size : ℕ) where
   abbrev ofOthers : List (Ground Answer)
   ofOthers = textureGround size ∷ ofActs
 
-  to-all : (n p : ℕ) → Holds list start len size n p → Among (answer n p) (drawGrounds list start len size)
+  to-all : (n p : ℕ) → DrawHolds list start len size n p → Among (answer n p) (drawGrounds list start len size)
   to-all n p (atCheck m q h) = among-left (answer m q) ofCheck ofOthers (to-order checkRefusals list 4096 m q h)
   to-all n p (atTexture h) = among-right (answer 16 0) ofCheck ofOthers (inl (rw (ne-eqb _ _ h) tt, refl))
   to-all n p (atAct before d after m split r) =
       among-right (answer m (d .place)) ofCheck ofOthers
       (inr (subst (λ (x : List Placed). Among (answer m (d .place)) (actGrounds start len x)) (sym split) (to-acts start len before d after m r)))
 
-  from-check : (n p : ℕ) → Among (answer n p) ofCheck → Holds list start len size n p
+  from-check : (n p : ℕ) → Among (answer n p) ofCheck → DrawHolds list start len size n p
   from-check n p m = atCheck n p (from-order checkRefusals list 4096 n p m)
 
-  from-texture : (n p : ℕ) → T (not (eqb size 4096)) × (answer 16 0 ≡ answer n p) → Holds list start len size n p
-  from-texture n p h = subst (λ (a : Answer). Holds list start len size (a .number) (a .place)) (h .1) (atTexture (eqb-false _ _ (false-of _ (h .0))))
+  from-texture : (n p : ℕ) → T (not (eqb size 4096)) × (answer 16 0 ≡ answer n p) → DrawHolds list start len size n p
+  from-texture n p h = subst (λ (a : Answer). DrawHolds list start len size (a .number) (a .place)) (h .1) (atTexture (eqb-false _ _ (false-of _ (h .0))))
 
-  from-others : (n p : ℕ) → Among (answer n p) ofActs → Holds list start len size n p
+  from-others : (n p : ℕ) → Among (answer n p) ofActs → DrawHolds list start len size n p
   from-others n p b =
       let r = from-acts start len (actsOf list) n p b in
-      subst (Holds list start len size n) (r .place) (atAct (r .before) (r .d) (r .after) n (r .split) (r .refuses))
+      subst (DrawHolds list start len size n) (r .place) (atAct (r .before) (r .d) (r .after) n (r .split) (r .refuses))
 
-  from-all : (n p : ℕ) → Among (answer n p) (drawGrounds list start len size) → Holds list start len size n p
+  from-all : (n p : ℕ) → Among (answer n p) (drawGrounds list start len size) → DrawHolds list start len size n p
   from-all n p m = ⊎-elim (from-check n p) (λ b. ⊎-elim (from-texture n p) (from-others n p) b) (among-parts (answer n p) ofCheck ofOthers m)
 
-  not-zero : (n p : ℕ) → Holds list start len size n p → n ≡ 0 → ⊥
+  not-zero : (n p : ℕ) → DrawHolds list start len size n p → n ≡ 0 → ⊥
   not-zero n p (atCheck m q h) z = no-zero checkRefusals list 4096 check-numbered m q h z
   not-zero n p (atTexture h) z = never 16 (omega arith) z
   not-zero n p (atAct before d after m split r) z = act-numbered start len (d .act) (subst (λ (k : ℕ). Among k (actRefusals start len (d .act))) z r)
 
   -- drawing's answer accepts exactly where none of 1 to 12 and 16 to 18 holds, and is else the first in their order, at its place
-  pub draw-first : FirstRefusal list start len size (drawAnswer list start len size)
+  pub draw-first : FirstDrawRefusal list start len size (drawAnswer list start len size)
   unfolding drawAnswer
   draw-first =
-      answered (Holds list start len size) (drawGrounds list start len size) (length list / 8) to-all from-all (λ p h. not-zero 0 p h refl) _
+      answered (DrawHolds list start len size) (drawGrounds list start len size) (length list / 8) to-all from-all (λ p h. not-zero 0 p h refl) _
       (found (drawGrounds list start len size) _)

@@ -30,13 +30,14 @@ use Rattle.rdp_words.proofs.WordLaws.{word-front}
 use Rattle.rdp_command.proofs.ReadLaws.{decoded, decodes, decoded-number, reads-triangle, reads-texture-rectangle, reads-texture-rectangle-flip, reads-rectangle, reads-load-tile, reads-load-tlut, reads-load-block}
 use Rattle.rdp_check.specs.Commands.{commandsOf, restOf}
 use Rattle.rdp_check.specs.Registers.{afterDecoded, tileOf}
-use Rattle.rdp_state.specs.RegisterWords.{slotOf, tileIn, setters, storedAt, wordsAfter, registersIn, word, isSet, tileBy}
+use Rattle.rdp_state.specs.RegisterWords.{slotOf, tileIn, storedAt, wordsAfter, registersIn, word, isSet, tileBy}
 use Rattle.rdp_hazards.specs.Marks.{draws, loads}
 use Rattle.rdp_check.specs.declared.Registers.{Registers}
 use Rattle.rdp_state.proofs.RegisterLaws.{none-set, length-stored, words-kept, registers-stored, tile-small, word-other, FillReads, fill-reads, TextureReads, texture-reads, tile-reads}
+use Rattle.rdp_state.specs.Replay.{setters}
 use Rattle.rdp_check.proofs.ListLaws.{commandAt, commands-at, rest-at, commands-past, rest-past, split-at, command-word, command-number, command-whole, command-there}
 use Rattle.rdp_draw.specs.Draw.{Act, nothing, otherDraw, otherLoad, filling, copying, loading, blocking, fillOf, copyOf, loadOf, fillAct, copyAct, actOf, actOfDecoded, Placed, withAct, actsFrom, actsOf}
-use Rattle.rdp_draw.specs.Seen.{fillWords, copyWords, loadWords, actBy, actWith, Due, Next, Reaches}
+use Rattle.rdp_draw.specs.Seen.{fillWords, copyWords, loadWords, actBy, actWith, ActsDue, Next, Reaches}
 
 -- ---- the kinds of steps
 
@@ -301,16 +302,16 @@ with-act file n w v at acts =
 -- ---- from act to act
 
 -- a file of zeros is that before the first command
-pub start-due : (list : List ℕ) → restOf list ≡ [] → Due list 0 (replicate 32 0) (actsOf list)
+pub start-due : (list : List ℕ) → restOf list ≡ [] → ActsDue list 0 (replicate 32 0) (actsOf list)
 start-due list w = record { long = refl; are = ap (λ (q : Registers). actsFrom q 0 (commandsOf list)) none-set; whole = w }
 
 -- nothing is left
-pub due-none : {list : List ℕ} {at : ℕ} {file : List ℕ} {acts : List Placed} → Due list at file acts → length list / 8 ≤ at → acts ≡ []
+pub due-none : {list : List ℕ} {at : ℕ} {file : List ℕ} {acts : List Placed} → ActsDue list at file acts → length list / 8 ≤ at → acts ≡ []
 unfolding actsFrom
 due-none {list} {at} d h =
     sym (d .are) ∙ rw (commands-past list at _ refl (omega (arith, h, some-words list at _ refl)))
 
-module _ {list : List ℕ} {at : ℕ} {file : List ℕ} {acts : List Placed} (d : Due list at file acts) (more : at < length list / 8) (n : ℕ)
+module _ {list : List ℕ} {at : ℕ} {file : List ℕ} {acts : List Placed} (d : ActsDue list at file acts) (more : at < length list / 8) (n : ℕ)
     (is : n ≡ numberIn (wordAt list at)) where
   whole-at : at + wordsOf n ≤ length list / 8
   whole-at =
@@ -365,7 +366,7 @@ module _ {list : List ℕ} {at : ℕ} {file : List ℕ} {acts : List Placed} (d 
       (actsFrom q (at + wordsOf n) (commandsOf (drop (8 * (at + wordsOf n)) list))))
       (sym stored))
 
-  onward : Due list (at + wordsOf n) file′ rest
+  onward : ActsDue list (at + wordsOf n) file′ rest
   onward =
       record {
         long = length-stored (slotOf n (tileIn (wordAt list at))) file (wordAt list at) ∙ d .long;
@@ -374,14 +375,14 @@ module _ {list : List ℕ} {at : ℕ} {file : List ℕ} {acts : List Placed} (d 
       }
 
   -- past a command that is no act
-  pub step : draws n ≡ false → loads n ≡ false → Due list (at + 1) file′ acts
+  pub step : draws n ≡ false → loads n ≡ false → ActsDue list (at + 1) file′ acts
   step e h =
       let none = acts-none file c there (rw (command-number list at n is whole-at) e) (rw (command-number list at n is whole-at) h) in
       let same : rest ≡ acts = sym (unrolled ∙ ap (λ (a : Act). withAct at a rest) none) in
-      subst (λ (k : ℕ). Due list (at + k) file′ acts) (one-word n small e) (subst (λ (x : List Placed). Due list (at + wordsOf n) file′ x) same onward)
+      subst (λ (k : ℕ). ActsDue list (at + k) file′ acts) (one-word n small e) (subst (λ (x : List Placed). ActsDue list (at + wordsOf n) file′ x) same onward)
 
-  pub skip : draws n ≡ false → among n setters ≡ false → Due list (at + 1) file acts
-  skip e k = subst (λ (f : List ℕ). Due list (at + 1) f acts) (words-kept file n (wordAt list at) small k) (step e (load-sets n small k))
+  pub skip : draws n ≡ false → among n setters ≡ false → ActsDue list (at + 1) file acts
+  skip e k = subst (λ (f : List ℕ). ActsDue list (at + 1) f acts) (words-kept file n (wordAt list at) small k) (step e (load-sets n small k))
 
   -- an act, with the file that it is reached with
   found : (f : List ℕ) → f ≡ file′ → actOfDecoded (registersIn file) (decodeOf c) ≡ actBy f (firstNumber c) (wordAt c 0) (wordAt list (at + 1)) →
@@ -397,7 +398,7 @@ module _ {list : List ℕ} {at : ℕ} {file : List ℕ} {acts : List Placed} (d 
             unrolled ∙
             ap (λ (a : Act). withAct at a rest) (act ∙ same) ∙
             with-act f n (wordAt list at) (wordAt list (at + 1)) at rest;
-        due = subst (λ (x : List ℕ). Due list (at + wordsOf n) x rest) (sym is-f) onward;
+        due = subst (λ (x : List ℕ). ActsDue list (at + wordsOf n) x rest) (sym is-f) onward;
       }
 
   pub reached : draws n ≡ true → Next list (record { place = at; number = n }) file acts
@@ -421,7 +422,7 @@ module _ {list : List ℕ} {at : ℕ} {file : List ℕ} {acts : List Placed} (d 
 pub record Walks (list : List ℕ) (from : ℕ) (before : List ℕ) (words : ℕ) (file : List ℕ) (at : ℕ) : Type 0 where
   pub count : words ≡ length list / 8
   pub onward : from ≤ at
-  pub due : (acts : List Placed) → Due list from before acts → Due list at file acts
+  pub due : (acts : List Placed) → ActsDue list from before acts → ActsDue list at file acts
 
 pub walk-first : (list : List ℕ) (from : ℕ) (file : List ℕ) (words : ℕ) → words ≡ length list / 8 → Walks list from file words file from
 walk-first list from file words e = record { count = e; onward = le-refl from; due = λ acts d. d }
@@ -476,6 +477,6 @@ module _ {list : List ℕ} {from : ℕ} {before : List ℕ} {words : ℕ} {file 
               count = w .count;
               onward = omega (arith, w .onward);
               due =
-                  λ acts d. subst (λ (x : List ℕ). Due list (at + 1) x acts) same
+                  λ acts d. subst (λ (x : List ℕ). ActsDue list (at + 1) x acts) same
                   (step (w .due acts d) inside n is (sym is-b ∙ f) (sym (is-load ∙ loads-by n low) ∙ e));
             }

@@ -6,7 +6,7 @@ use lib.Dec.{eqb}
 use lib.ListN.{length}
 use Rattle.rdp_words.specs.Kinds.{wordsOf}
 use Rattle.rdp_words.specs.Lengths.{firstNumber}
-use Rattle.rdp_command.specs.Decode.{decodeOf}
+use Rattle.rdp_command.specs.Decode.{decodeOf, answer}
 use Rattle.rdp_command.specs.declared.Answer.{Answer}
 use Rattle.rdp_command.specs.declared.Decoded.{Decoded}
 use Rattle.rdp_command.specs.declared.Decoded.the-variants.{Whole, Refused}
@@ -20,7 +20,7 @@ use Rattle.rdp_command.specs.declared.Block.{Block}
 use Rattle.rdp_command.specs.declared.FillFields.{FillFields}
 use Rattle.rdp_command.specs.declared.CopyFields.{CopyFields}
 use Rattle.rdp_command.specs.declared.LoadFields.{LoadFields}
-use Rattle.rdp_check.specs.Order.{Ground, ground, firstOf, answer, placed}
+use Rattle.rdp_check.specs.Order.{Ground, ground, firstOf, placed}
 use Rattle.rdp_check.specs.Commands.{commandsOf}
 use Rattle.rdp_check.specs.Registers.{noRegisters, afterDecoded, tileOf}
 use Rattle.rdp_check.specs.Check.{checkRefusals}
@@ -51,7 +51,7 @@ pub data Act : Type 0 where
   -- Load Block
   blocking : LoadFields → Act
 
--- a fill rectangle, a texture rectangle and a Load Tile, each with the registers that it is done under
+-- a fill rectangle, a texture rectangle, and a Load Tile or a Load Block, each with the registers that it is done under
 abbrev pub fillOf : Registers → Rectangle → FillFields
 fillOf r g =
     record {

@@ -1,4 +1,4 @@
 pub mod Draw
-pub mod Seen
 pub mod Refusals
 pub mod Written
+pub mod Seen

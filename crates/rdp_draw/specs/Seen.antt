@@ -15,7 +15,8 @@ use Rattle.rdp_command.specs.declared.FillFields.{FillFields}
 use Rattle.rdp_command.specs.declared.CopyFields.{CopyFields}
 use Rattle.rdp_command.specs.declared.LoadFields.{LoadFields}
 use Rattle.rdp_command.specs.declared.Answer.{Answer}
-use Rattle.rdp_check.specs.Order.{firstOf, answer}
+use Rattle.rdp_command.specs.Decode.{answer}
+use Rattle.rdp_check.specs.Order.{firstOf}
 use Rattle.rdp_check.specs.Commands.{commandsOf, restOf}
 use Rattle.rdp_state.specs.RegisterWords.{tileIn, word, registersIn}
 use Rattle.rdp_draw.specs.declared.walk.Reached.{Reached}
@@ -68,7 +69,7 @@ actRefusal start len a = firstOf (actRefusals start len a) 0
 -- ---- the acts still to come
 
 -- the acts from a place of a list on, where no command runs past the end
-pub record Due (list : List ℕ) (at : ℕ) (file : List ℕ) (acts : List Placed) : Type 0 where
+pub record ActsDue (list : List ℕ) (at : ℕ) (file : List ℕ) (acts : List Placed) : Type 0 where
   pub long : length file ≡ 32
   pub are : actsFrom (registersIn file) at (commandsOf (drop (8 * at) list)) ≡ acts
   pub whole : restOf (drop (8 * at) list) ≡ []
@@ -80,7 +81,7 @@ pub record Next (list : List ℕ) (r : Reached) (file : List ℕ) (acts : List P
   pub inside : r .place + wordsOf (r .number) ≤ length list / 8
   pub others : List Placed
   pub first : acts ≡ placedWith file list (r .place) (r .number) ∷ others
-  pub due : Due list (r .place + wordsOf (r .number)) file others
+  pub due : ActsDue list (r .place + wordsOf (r .number)) file others
 
 pub record ReachedIs (list : List ℕ) (r : Reached) (file : List ℕ) (acts : List Placed) : Type 0 where
   pub some : r .place < length list / 8 → Next list r file acts
@@ -88,7 +89,7 @@ pub record ReachedIs (list : List ℕ) (r : Reached) (file : List ℕ) (acts : L
 
 -- what the search for the next act gives, whatever is due, with the file before it and after it
 abbrev pub Reaches : List ℕ → ℕ → List ℕ → Reached → List ℕ → Type 0
-Reaches list from file r file′ = (from ≤ r .place) × ((acts : List Placed) → Due list from file acts → ReachedIs list r file′ acts)
+Reaches list from file r file′ = (from ≤ r .place) × ((acts : List Placed) → ActsDue list from file acts → ReachedIs list r file′ acts)
 
 -- the first refusal of acts, at its place; 0 at the number of words where there is none
 unfoldable pub firstRefusal : ℕ → ℕ → ℕ → List Placed → Answer

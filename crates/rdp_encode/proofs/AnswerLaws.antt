@@ -14,7 +14,8 @@ use Rattle.rdp_encode.specs.Numbers.{valuesFrom, numbersFit, flagsAgree,
 use Rattle.rdp_command.specs.declared.Command.{Command}
 use Rattle.rdp_command.specs.declared.Decoded.the-variants.{Whole, Refused}
 use Rattle.rdp_words.proofs.Tests.{and-true}
-use Rattle.rdp_command.proofs.AnswerLaws.{answer, accepted-of}
+use Rattle.rdp_command.proofs.AnswerLaws.{accepted-of}
+use Rattle.rdp_command.specs.Decode.{answer}
 
 -- ---- encoding
 

@@ -11,7 +11,7 @@ use lib.ListN.{length, getD}
 use lib.Pow.{pow-pos, pow-add, pow-mono, high}
 use Rattle.rdp_command.specs.Layout.{Line, width}
 use Rattle.rdp_command.specs.Fields.{bitsAt}
-use Rattle.rdp_encode.specs.Placed.{placed, packed}
+use Rattle.rdp_encode.specs.Placed.{atLine, atLines}
 use Rattle.rdp_words.proofs.Tests.{both}
 use Rattle.rdp_command.proofs.NumberLaws.{bits-are}
 
@@ -26,16 +26,16 @@ joined q w k r top hq hr ht =
     let s : q * 2 ^ k + r < suc q * 2 ^ k = rw suc-mul (omega arith) in
     lt-of-lt-of-le s (le-trans (mul-le-mul-right (2 ^ k) hq) (le-trans (le-of-eq (sym (pow-add 2 w k))) (pow-mono ht)))
 
-pub packed-lt : (i top : ℕ) (ls : List Line) (ns : List ℕ) → T (falling i top ls) → packed i ls ns < 2 ^ top
+pub packed-lt : (i top : ℕ) (ls : List Line) (ns : List ℕ) → T (falling i top ls) → atLines i ls ns < 2 ^ top
 packed-lt i top [] ns t = pow-pos top
 packed-lt i top (l ∷ ls) [] t = pow-pos top
 packed-lt i top (l ∷ ls) (n ∷ ns) t = by (λ k u. packed-lt i k ls ns u) (eqb (l .word) i) t
   where
     by :
-        ((k : ℕ) → T (falling i k ls) → packed i ls ns < 2 ^ k) → (b : Bool) → T (cond b (leb (width l + l .low) top && falling i (l .low) ls) (falling i top ls)) → cond b (placed l n) 0 + packed i ls ns < 2 ^ top
+        ((k : ℕ) → T (falling i k ls) → atLines i ls ns < 2 ^ k) → (b : Bool) → T (cond b (leb (width l + l .low) top && falling i (l .low) ls) (falling i top ls)) → cond b (atLine l n) 0 + atLines i ls ns < 2 ^ top
     by rest true u =
         let f = both (leb (width l + l .low) top) (falling i (l .low) ls) u in
-        joined (n % 2 ^ width l) (width l) (l .low) (packed i ls ns) top (mod-lt n (pow-pos (width l))) (rest (l .low) (f .1)) (leb→le _ _ (f .0))
+        joined (n % 2 ^ width l) (width l) (l .low) (atLines i ls ns) top (mod-lt n (pow-pos (width l))) (rest (l .low) (f .1)) (leb→le _ _ (f .0))
     by rest false u = rw zero-add (rest top u)
 
 -- the bits above a place, and a number there
@@ -57,11 +57,11 @@ masked h d w q s =
     ap (λ (x : ℕ). (x + q) % 2 ^ w) (sym (mul-assoc h (2 ^ (d - w)) (2 ^ w))) ∙
     mul-add-mod-self-right (h * 2 ^ (d - w)) (2 ^ w) q
 
-own-bits : (h top : ℕ) (l : Line) (n r : ℕ) → width l + l .low ≤ top → r < 2 ^ l .low → bitsAt l (h * 2 ^ top + (placed l n + r)) ≡ n % 2 ^ width l
+own-bits : (h top : ℕ) (l : Line) (n r : ℕ) → width l + l .low ≤ top → r < 2 ^ l .low → bitsAt l (h * 2 ^ top + (atLine l n + r)) ≡ n % 2 ^ width l
 own-bits h top l n r s t =
     let low : l .low ≤ top = omega arith in
     let room : width l ≤ top - l .low = omega arith in
-    bits-are l (h * 2 ^ top + (placed l n + r)) ∙
+    bits-are l (h * 2 ^ top + (atLine l n + r)) ∙
     ap (λ (x : ℕ). x / 2 ^ l .low % 2 ^ width l) (raise h top (l .low) (n % 2 ^ width l) r low) ∙
     ap (λ (x : ℕ). x % 2 ^ width l) (high (h * 2 ^ (top - l .low) + n % 2 ^ width l) (l .low) t) ∙
     masked h (top - l .low) (width l) (n % 2 ^ width l) room ∙
@@ -69,25 +69,25 @@ own-bits h top l n r s t =
 
 pub read-at :
     (d : Line) (i top h : ℕ) (ls : List Line) (ns : List ℕ) → T (falling i top ls) → length ls ≡ length ns → (k : ℕ) → k < length ls → getD ls k d .word ≡ i →
-    bitsAt (getD ls k d) (h * 2 ^ top + packed i ls ns) ≡ getD ns k 0 % 2 ^ width (getD ls k d)
+    bitsAt (getD ls k d) (h * 2 ^ top + atLines i ls ns) ≡ getD ns k 0 % 2 ^ width (getD ls k d)
 read-at d i top h [] ns t e k s w = absurd (not-suc-le-zero s)
 read-at d i top h (l ∷ ls) [] t e k s w = absurd (omega arith)
 read-at d i top h (l ∷ ls) (n ∷ ns) t e zero s w =
     let u = rw (eq-eqb (l .word) i w) at t in
     let f = both (leb (width l + l .low) top) (falling i (l .low) ls) u in
-    rw (eq-eqb (l .word) i w) (own-bits h top l n (packed i ls ns) (leb→le _ _ (f .0)) (packed-lt i (l .low) ls ns (f .1)))
+    rw (eq-eqb (l .word) i w) (own-bits h top l n (atLines i ls ns) (leb→le _ _ (f .0)) (packed-lt i (l .low) ls ns (f .1)))
 read-at d i top h (l ∷ ls) (n ∷ ns) t e (suc k) s w =
     by (λ top' h' u. read-at d i top' h' ls ns u (suc-inj e) k (le-of-suc-le-suc s) w) (eqb (l .word) i) t
   where
     by :
-        ((top' h' : ℕ) → T (falling i top' ls) → bitsAt (getD ls k d) (h' * 2 ^ top' + packed i ls ns) ≡ getD ns k 0 % 2 ^ width (getD ls k d)) →
+        ((top' h' : ℕ) → T (falling i top' ls) → bitsAt (getD ls k d) (h' * 2 ^ top' + atLines i ls ns) ≡ getD ns k 0 % 2 ^ width (getD ls k d)) →
         (b : Bool) → T (cond b (leb (width l + l .low) top && falling i (l .low) ls) (falling i top ls)) →
-        bitsAt (getD ls k d) (h * 2 ^ top + (cond b (placed l n) 0 + packed i ls ns)) ≡ getD ns k 0 % 2 ^ width (getD ls k d)
+        bitsAt (getD ls k d) (h * 2 ^ top + (cond b (atLine l n) 0 + atLines i ls ns)) ≡ getD ns k 0 % 2 ^ width (getD ls k d)
     by rest true u =
         let f = both (leb (width l + l .low) top) (falling i (l .low) ls) u in
         let r : width l + l .low ≤ top = leb→le _ _ (f .0) in
-        ap (bitsAt (getD ls k d)) (raise h top (l .low) (n % 2 ^ width l) (packed i ls ns) (omega arith)) ∙
+        ap (bitsAt (getD ls k d)) (raise h top (l .low) (n % 2 ^ width l) (atLines i ls ns) (omega arith)) ∙
         rest (l .low) (h * 2 ^ (top - l .low) + n % 2 ^ width l) (f .1)
     by rest false u =
-        ap (λ (x : ℕ). bitsAt (getD ls k d) (h * 2 ^ top + x)) (zero-add (packed i ls ns)) ∙
+        ap (λ (x : ℕ). bitsAt (getD ls k d) (h * 2 ^ top + x)) (zero-add (atLines i ls ns)) ∙
         rest top h u

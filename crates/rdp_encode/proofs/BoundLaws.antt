@@ -13,7 +13,7 @@ use Rattle.rdp_command.specs.Fields.{fieldAt}
 use Rattle.rdp_encode.specs.Placed.{numberOfValue}
 use Rattle.rdp_command.specs.Commands.{numberOf, valuesOf}
 use Rattle.rdp_words.specs.Lengths.{firstNumber, wholeWords}
-use Rattle.rdp_command.specs.Decode.{ownWords, commandIn, decodeOf}
+use Rattle.rdp_command.specs.Decode.{ownWords, commandIn, decodeOf, answer}
 use Rattle.rdp_encode.specs.Encode.{numbersOf, numberInRow, encodable, hasRoom, answerWith, encodeAnswer}
 use Rattle.rdp_encode.specs.Numbers.{numbersFit, flagsAgree, fieldsAnswer, fromNumbers}
 use Rattle.rdp_command.specs.declared.Answer.{Answer}
@@ -21,7 +21,7 @@ use Rattle.rdp_command.specs.declared.Command.{Command}
 use Rattle.rdp_command.specs.declared.Decoded.the-variants.{Whole, Refused}
 use Rattle.rdp_words.proofs.Tests.{by-test}
 use Rattle.rdp_words.proofs.KindLaws.{words-most}
-use Rattle.rdp_command.proofs.AnswerLaws.{answer, refusal-of, decoded-is}
+use Rattle.rdp_command.proofs.AnswerLaws.{refusal-of, decoded-is}
 use Rattle.rdp_words.proofs.PlaceLaws.{number-small}
 use Rattle.rdp_encode.proofs.Spreading.{not-encodable}
 use Rattle.rdp_command.proofs.GroupLaws.{values-read}

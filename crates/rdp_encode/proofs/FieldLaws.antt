@@ -18,7 +18,7 @@ use Rattle.rdp_words.specs.Lengths.{suffixOf}
 use Rattle.rdp_command.specs.Layout.{Line, width, layout, triangleBaseLines}
 use Rattle.rdp_encode.specs.Table.{AllReadable}
 use Rattle.rdp_command.specs.Fields.{Value, unsigned, signed, fieldsOf}
-use Rattle.rdp_encode.specs.Placed.{numberOfValue, fitsLine, allFit, packed}
+use Rattle.rdp_encode.specs.Placed.{numberOfValue, fitsLine, allFit, atLines}
 use Rattle.rdp_command.specs.Groups.{triangleBaseOf}
 use Rattle.rdp_command.specs.Commands.{commandOf, numberOf, valuesOf}
 use Rattle.rdp_encode.specs.Encode.{packedWord, numbersOf, numberInRow, encodable, answerWith, encodeAnswer}
@@ -144,7 +144,7 @@ triangle-packed n (a ∷ b ∷ c ∷ ns) h e l f =
     let ec = eqb-true c (n % 2) (q .1) in
     let s = low-flags n in
     rw (eq-eqb (n / 8) 1 e, layout-at n e)
-    (flags-number a b c (packed 0 (drop 3 triangleBaseLines) ns) (rw ea (s .0)) (rw eb (s .1 .0)) (rw ec (s .1 .1)) (packed-lt 0 56 (drop 3 triangleBaseLines) ns tt) ∙
+    (flags-number a b c (atLines 0 (drop 3 triangleBaseLines) ns) (rw ea (s .0)) (rw eb (s .1 .0)) (rw ec (s .1 .1)) (packed-lt 0 56 (drop 3 triangleBaseLines) ns tt) ∙
     (λ i. 8 + ea i * 4 + eb i * 2 + ec i) ∙
     by-flags n h e)
 
@@ -152,7 +152,7 @@ packed-number : (n : ℕ) (ns : List ℕ) → n < 64 → length (layout n) ≡ l
 packed-number n ns h l f =
     by-test (eqb (n / 8) 1)
     (λ t. let e = eqb-true (n / 8) 1 t in triangle-packed n ns h e (ap length (sym (layout-at n e)) ∙ l) f)
-    (λ g. let r = rw g at (first-rest n h ns) in rw g (plain-number n (packed 0 (layout n) ns) h r))
+    (λ g. let r = rw g at (first-rest n h ns) in rw g (plain-number n (atLines 0 (layout n) ns) h r))
 
 -- the command made of a number and fields of 64 bits has that number and those fields
 module _ (n : ℕ) (ns : List ℕ) (below64 : (k : ℕ) → getD ns k 0 < 2 ^ 64) {c : Command} (d : fromNumbers n ns ≡ Whole c) where

@@ -8,12 +8,12 @@ use Rattle.rdp_words.specs.Words.{overwrite}
 use Rattle.rdp_words.specs.Kinds.{wordsOf}
 use Rattle.rdp_command.specs.Commands.{numberOf}
 use Rattle.rdp_words.specs.Lengths.{firstNumber, suffixOf}
-use Rattle.rdp_command.specs.Decode.{decodeOf}
+use Rattle.rdp_command.specs.Decode.{decodeOf, answer}
 use Rattle.rdp_encode.specs.Encode.{baseWords, encodeAnswer, encodeOut}
 use Rattle.rdp_encode.specs.Kept.{bytesKept}
 use Rattle.rdp_command.specs.declared.Command.{Command}
 use Rattle.rdp_command.specs.declared.Decoded.the-variants.{Whole}
-use Rattle.rdp_command.proofs.AnswerLaws.{answer, decoded-there, decoded-is}
+use Rattle.rdp_command.proofs.AnswerLaws.{decoded-there, decoded-is}
 use Rattle.rdp_encode.proofs.WholeLaws.{decodes, suffix-back, accepted, output, answer-whole, output-whole}
 use Rattle.rdp_command.proofs.Laws.{number-decoded}
 

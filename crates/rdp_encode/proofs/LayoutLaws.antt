@@ -10,7 +10,7 @@ use lib.ListN.{length, getD}
 use Rattle.rdp_command.specs.Layout.{Line, width, layout, bits}
 use Rattle.rdp_encode.specs.Table.{AllReadable}
 use Rattle.rdp_command.specs.Fields.{Value, bitsAt, valueOf, fieldsOf}
-use Rattle.rdp_encode.specs.Placed.{numberOfValue, fitsLine, allFit, packed}
+use Rattle.rdp_encode.specs.Placed.{numberOfValue, fitsLine, allFit, atLines}
 use Rattle.rdp_encode.specs.Encode.{fixedBits, packedWord, baseWords}
 use Rattle.rdp_words.specs.Kinds.{kindOf, wordsOf}
 use Rattle.rdp_encode.specs.Numbers.{valueFrom, valuesFrom}
@@ -58,17 +58,17 @@ module _ (n : ℕ) (h : n < 64) where
       (t .0, (t .1, (s .1, (r .1, (q .1, ltb→lt _ _ (p .1))))))
 
   -- the number's fixed bits stand above the lines of the first word
-  first-word : (ns : List ℕ) → packedWord n ns 0 ≡ cond (eqb (n / 8) 1) 1 n * 2 ^ firstTop n + packed 0 (layout n) ns
+  first-word : (ns : List ℕ) → packedWord n ns 0 ≡ cond (eqb (n / 8) 1) 1 n * 2 ^ firstTop n + atLines 0 (layout n) ns
   first-word ns = by (eqb (n / 8) 1)
     where
-      by : (b : Bool) → cond b 8 n * 2 ^ 56 + packed 0 (layout n) ns ≡ cond b 1 n * 2 ^ cond b 59 56 + packed 0 (layout n) ns
+      by : (b : Bool) → cond b 8 n * 2 ^ 56 + atLines 0 (layout n) ns ≡ cond b 1 n * 2 ^ cond b 59 56 + atLines 0 (layout n) ns
       by true = refl
       by false = refl
 
-  pub first-rest : (ns : List ℕ) → packed 0 (layout n) ns < 2 ^ firstTop n
+  pub first-rest : (ns : List ℕ) → atLines 0 (layout n) ns < 2 ^ firstTop n
   first-rest ns = packed-lt 0 (firstTop n) (layout n) ns (parts .0)
 
-  pub rest-lt : (ns : List ℕ) (i : ℕ) → i < 4 → packed i (layout n) ns < 2 ^ 64
+  pub rest-lt : (ns : List ℕ) (i : ℕ) → i < 4 → atLines i (layout n) ns < 2 ^ 64
   rest-lt ns zero s =
       by-test (eqb (n / 8) 1)
       (λ t. let r = rw t at (first-rest ns) in omega arith)

@@ -14,7 +14,7 @@ use Rattle.rdp_words.specs.Words.{numberIn}
 use Rattle.rdp_command.specs.Layout.{Line, width, layout, triangleBaseLines}
 use Rattle.rdp_encode.specs.Table.{AllReadable}
 use Rattle.rdp_command.specs.Fields.{shiftRight, bitsAt, fieldsOf}
-use Rattle.rdp_encode.specs.Placed.{numberOfValue, allFit, packed}
+use Rattle.rdp_encode.specs.Placed.{numberOfValue, allFit, atLines}
 use Rattle.rdp_command.specs.Commands.{commandOf, numberOf, valuesOf}
 use Rattle.rdp_command.specs.Groups.{triangleBaseOf}
 use Rattle.rdp_command.specs.Decode.{commandIn}
@@ -89,10 +89,10 @@ flags-number s t z r hs ht hz hr =
     rw (es, et, ez) (omega arith)
 
 triangle-number :
-    (g : TriangleBase) → numberIn (8 * 2 ^ 56 + packed 0 triangleBaseLines (numbersOf (FillTriangle g))) ≡ numberOf (FillTriangle g)
+    (g : TriangleBase) → numberIn (8 * 2 ^ 56 + atLines 0 triangleBaseLines (numbersOf (FillTriangle g))) ≡ numberOf (FillTriangle g)
 triangle-number g =
     flags-number (boolByte (g .shade)) (boolByte (g .texture)) (boolByte (g .zbuffer))
-    (packed 0 (drop 3 triangleBaseLines) (drop 3 (numbersOf (FillTriangle g))))
+    (atLines 0 (drop 3 triangleBaseLines) (drop 3 (numbersOf (FillTriangle g))))
     (bool-le (g .shade)) (bool-le (g .texture)) (bool-le (g .zbuffer))
     (packed-lt 0 56 (drop 3 triangleBaseLines) (drop 3 (numbersOf (FillTriangle g))) tt)
 
@@ -110,7 +110,7 @@ number-packed c e =
     subst (λ (x : Command). numberIn (packedWord (numberOf x) (numbersOf x) 0) ≡ numberOf x)
     (sym (triangle-command n (valuesOf c) (eqb-true (n / 8) 1 t)) ∙ command-back c e)
     (of-triangle (triangleBaseOf (valuesOf c))))
-    (λ f. let r = rw f at (first-rest n small (numbersOf c)) in rw f (plain-number n (packed 0 (layout n) (numbersOf c)) small r))
+    (λ f. let r = rw f at (first-rest n small (numbersOf c)) in rw f (plain-number n (atLines 0 (layout n) (numbersOf c)) small r))
 
 -- and to one that can be encoded
 pub number-in-row-read : (n : ℕ) → n < 64 → (ws : List ℕ) → numberInRow (commandIn n ws) ≡ true
@@ -209,7 +209,7 @@ fits-read (l ∷ ls) ws r =
 
 -- the words of its values are the words that were read, with the unused bits zero
 pub packed-read :
-    (i : ℕ) (ls : List Line) (ws : List ℕ) → AllReadable ls → packed i ls (map numberOfValue (fieldsOf ls ws)) ≡ bitsKept i ls (getD ws i 0)
+    (i : ℕ) (ls : List Line) (ws : List ℕ) → AllReadable ls → atLines i ls (map numberOfValue (fieldsOf ls ws)) ≡ bitsKept i ls (getD ws i 0)
 packed-read i [] ws r = refl
 packed-read i (l ∷ ls) ws r =
     let q : width l ≤ 64 = omega (arith, r .0 .narrow) in

@@ -15,7 +15,7 @@ use mir.Syntax.{w64}
 use mir.Val.{toZ}
 use Rattle.rdp_command.specs.Layout.{Line, width}
 use Rattle.rdp_encode.specs.Table.{Readable, lineOf}
-use Rattle.rdp_encode.specs.Placed.{fitsLine, allFit, placed, packed}
+use Rattle.rdp_encode.specs.Placed.{fitsLine, allFit, atLine, atLines}
 use Rattle.rdp_encode.specs.Numbers.{valueFrom, valuesFrom}
 use Rattle.rdp_encode.proofs.TwosLaws.{signed-fits}
 
@@ -44,7 +44,7 @@ module _ (l : Line) (r : Readable l) (n : ℕ) {w : ℕ} (e : w ≡ width l) whe
   pub divisor-pos : 0 < 1 * 2 ^ w % 2 ^ 64
   divisor-pos = rw (power w wide) (pow-pos w)
 
-  pub placed-at : {k : ℕ} → k ≡ l .low → n % (1 * 2 ^ w % 2 ^ 64) * 2 ^ k % 2 ^ 64 ≡ placed l n
+  pub placed-at : {k : ℕ} → k ≡ l .low → n % (1 * 2 ^ w % 2 ^ 64) * 2 ^ k % 2 ^ 64 ≡ atLine l n
   placed-at {k} f =
       let s : w + k ≤ 64 = omega (arith, r .ordered, r .inside) in
       ap (λ (x : ℕ). n % x * 2 ^ k % 2 ^ 64) (power w wide) ∙
@@ -57,7 +57,7 @@ abbrev pub fitFrom : List Line → List ℕ → ℕ → Bool
 fitFrom ls ns k = allFit (drop k ls) (valuesFrom (drop k ls) (drop k ns))
 
 abbrev pub packedFrom : List Line → List ℕ → ℕ → ℕ → ℕ
-packedFrom ls ns i k = packed i (drop k ls) (drop k ns)
+packedFrom ls ns i k = atLines i (drop k ls) (drop k ns)
 
 module _ (ls : List Line) (ns : List ℕ) (long : length ls ≡ length ns) where
   module _ (k : ℕ) (h : k < length ns) where
@@ -73,8 +73,8 @@ module _ (ls : List Line) (ns : List ℕ) (long : length ls ≡ length ns) where
     pub fit-step : fitFrom ls ns k ≡ fitsLine line (valueFrom (line .isSigned) (getD ns k 0)) && fitFrom ls ns (k + 1)
     fit-step = λ i. allFit (lines i) (valuesFrom (lines i) (numbers i))
 
-    pub packed-step : (i : ℕ) → packedFrom ls ns i k ≡ cond (eqb (line .word) i) (placed line (getD ns k 0)) 0 + packedFrom ls ns i (k + 1)
-    packed-step i = λ j. packed i (lines j) (numbers j)
+    pub packed-step : (i : ℕ) → packedFrom ls ns i k ≡ cond (eqb (line .word) i) (atLine line (getD ns k 0)) 0 + packedFrom ls ns i (k + 1)
+    packed-step i = λ j. atLines i (lines j) (numbers j)
 
   no-lines : drop (length ns) ls ≡ []
   no-lines = ap (λ (k : ℕ). drop k ls) (sym long) ∙ drop-length ls
@@ -83,4 +83,4 @@ module _ (ls : List Line) (ns : List ℕ) (long : length ls ≡ length ns) where
   fit-end = λ i. allFit (no-lines i) (valuesFrom (no-lines i) (drop-length ns i))
 
   pub packed-end : (i : ℕ) → packedFrom ls ns i (length ns) ≡ 0
-  packed-end i = λ j. packed i (no-lines j) (drop-length ns j)
+  packed-end i = λ j. atLines i (no-lines j) (drop-length ns j)

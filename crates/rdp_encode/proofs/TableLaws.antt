@@ -9,7 +9,7 @@ use lib.Dec.{T, eqb, ltb, leb, eqb→eq, leb→le, ltb→lt}
 use lib.ListN.{length, getD, take, drop, length-take, length-drop}
 use lib.Seq.{getD-take, getD-drop}
 use Rattle.rdp_command.specs.Layout.{Line, width, layout}
-use Rattle.rdp_encode.specs.Table.{lineOf, linesAt, Row, Agrees, Readable, AllReadable}
+use Rattle.rdp_encode.specs.Table.{lineOf, linesAt, Row, HoldsLayout, Readable, AllReadable}
 use Rattle.rdp_words.proofs.Tests.{each, below, both, same, same-bool}
 
 abbrev sameLine : Line → Line → Bool
@@ -55,7 +55,7 @@ row-right t n p =
     let g = both (sameLines (linesAt t first count) (layout n)) (eqb count (length (layout n))) (f .0) in
     record { lines = same-lines _ _ (g .0); counted = eqb→eq _ _ (g .1); room = leb→le _ _ (f .1) }
 
-pub agrees : (t : List ℕ) → length t ≡ 203 → T (each (rowRight t) 64) → Agrees t
+pub agrees : (t : List ℕ) → length t ≡ 203 → T (each (rowRight t) 64) → HoldsLayout t
 agrees t e p = record { long = e; rows = λ n h. row-right t n (below 64 (rowRight t) p n h) }
 
 -- every bit line of the layout is readable
@@ -108,7 +108,7 @@ module _ (t : List ℕ) (first count : ℕ) (h : first + count ≤ length t) whe
       subst Readable (line-at k s) (readable-at (linesAt t first count) r k (lineOf 0) (omega (arith, lines-long)))
 
 -- the row of a number, with as many numbers as it has lines
-module _ (t : List ℕ) (a : Agrees t) (n : ℕ) (h : n < 64) {first count : ℕ} (f : first ≡ getD t n 0 / 64) (c : count ≡ getD t n 0 % 64) where
+module _ (t : List ℕ) (a : HoldsLayout t) (n : ℕ) (h : n < 64) {first count : ℕ} (f : first ≡ getD t n 0 / 64) (c : count ≡ getD t n 0 % 64) where
   pub row : Row t first count (layout n)
   row =
       subst (λ (x : ℕ). Row t x count (layout n)) (sym f)

@@ -16,7 +16,7 @@ use Rattle.rdp_command.specs.Fields.{Value, fieldsOf}
 use Rattle.rdp_encode.specs.Placed.{numberOfValue, allFit}
 use Rattle.rdp_command.specs.Commands.{commandOf, numberOf, valuesOf}
 use Rattle.rdp_words.specs.Lengths.{firstNumber, wholeWords, suffixWords, suffixStart, suffixOf}
-use Rattle.rdp_command.specs.Decode.{ownWords, commandIn, decodeOf}
+use Rattle.rdp_command.specs.Decode.{ownWords, commandIn, decodeOf, answer}
 use Rattle.rdp_encode.specs.Encode.{packedWord, packedBytes, baseWords, numbersOf, numberInRow, encodable, bytesWith, encodedBytes, fixedBits, hasRoom, verdictOf, answerWith, outWith, encodeAnswer, encodeOut}
 use Rattle.rdp_encode.specs.Kept.{bytesKept, wordKept}
 use Rattle.rdp_command.specs.declared.Command.{Command}
@@ -24,7 +24,7 @@ use Rattle.rdp_command.specs.declared.Decoded.the-variants.{Whole}
 use Rattle.rdp_words.proofs.Tests.{by-test, and-true}
 use Rattle.rdp_words.proofs.KindLaws.{words-pos}
 use Rattle.rdp_encode.proofs.TableLaws.{layout-readable}
-use Rattle.rdp_command.proofs.AnswerLaws.{answer, whole}
+use Rattle.rdp_command.proofs.AnswerLaws.{whole}
 use Rattle.rdp_words.proofs.OverwriteLaws.{length-overwrite}
 use Rattle.rdp_encode.proofs.Bytes.{empty, packed-long}
 use Rattle.rdp_words.proofs.WordLaws.{word-back, word-whole}

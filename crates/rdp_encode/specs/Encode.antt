@@ -7,7 +7,7 @@ use lib.ListN.{length}
 use Rattle.rdp_words.specs.Words.{bytesOf, overwrite}
 use Rattle.rdp_words.specs.Kinds.{wordsOf, isNoOperation, isUnassigned}
 use Rattle.rdp_command.specs.Layout.{layout}
-use Rattle.rdp_encode.specs.Placed.{numberOfValue, allFit, packed}
+use Rattle.rdp_encode.specs.Placed.{numberOfValue, allFit, atLines}
 use Rattle.rdp_command.specs.Commands.{valuesOf, numberOf}
 use Rattle.rdp_words.specs.Lengths.{suffixWords}
 use Rattle.rdp_command.specs.declared.Answer.{Answer}
@@ -20,7 +20,7 @@ fixedBits n = cond (eqb (n / 8) 1) 8 n
 
 -- word i of the command with number n whose fields have the numbers ns
 abbrev pub packedWord : ℕ → List ℕ → ℕ → ℕ
-packedWord n ns i = cond (eqb i 0) (fixedBits n * 2 ^ 56) 0 + packed i (layout n) ns
+packedWord n ns i = cond (eqb i 0) (fixedBits n * 2 ^ 56) 0 + atLines i (layout n) ns
 
 -- the bytes of its first k words
 unfoldable pub packedBytes : ℕ → List ℕ → ℕ → List ℕ

@@ -1,6 +1,6 @@
-pub mod Table
 pub mod Placed
 pub mod Encode
 pub mod Numbers
-pub mod Steps
 pub mod Kept
+pub mod Table
+pub mod Steps

@@ -32,11 +32,11 @@ allFit (l ∷ ls) [] = false
 allFit (l ∷ ls) (v ∷ vs) = fitsLine l v && allFit ls vs
 
 -- the low bits of a number at the place of its line
-abbrev pub placed : Line → ℕ → ℕ
-placed l n = n % 2 ^ width l * 2 ^ l .low
+abbrev pub atLine : Line → ℕ → ℕ
+atLine l n = n % 2 ^ width l * 2 ^ l .low
 
 -- word i of a command: the numbers at their lines, all other bits zero
-abbrev pub packed : ℕ → List Line → List ℕ → ℕ
-packed i [] ns = 0
-packed i (l ∷ ls) [] = 0
-packed i (l ∷ ls) (n ∷ ns) = cond (eqb (l .word) i) (placed l n) 0 + packed i ls ns
+abbrev pub atLines : ℕ → List Line → List ℕ → ℕ
+atLines i [] ns = 0
+atLines i (l ∷ ls) [] = 0
+atLines i (l ∷ ls) (n ∷ ns) = cond (eqb (l .word) i) (atLine l n) 0 + atLines i ls ns

@@ -8,7 +8,7 @@ use lib.ListN.{length, replicate}
 use Rattle.rdp_words.specs.Words.{overwrite}
 use Rattle.rdp_words.specs.Kinds.{wordsOf}
 use Rattle.rdp_command.specs.Layout.{Line, layout}
-use Rattle.rdp_encode.specs.Table.{Agrees}
+use Rattle.rdp_encode.specs.Table.{HoldsLayout}
 use Rattle.rdp_command.specs.Fields.{Value}
 use Rattle.rdp_encode.specs.Placed.{numberOfValue}
 use Rattle.rdp_command.specs.Commands.{numberOf, valuesOf}
@@ -46,7 +46,7 @@ pub record Spread (c : Command) (r : Numbers) : Type 0 where
 
 -- what packing relies on: a table that holds the layout, a command number, and as many numbers as it has bit lines
 pub record Packable (table : List ℕ) (n : ℕ) (ns : List ℕ) : Type 0 where
-  pub agrees : Agrees table
+  pub agrees : HoldsLayout table
   pub small : n < 64
   pub long : length ns ≡ length (layout n)
 

@@ -1,4 +1,4 @@
--- The table that the code reads bit lines from, and that it holds the layout.
+-- The table that the code reads bit lines from, and that it holds the layout. No public contract cites this.
 use mathlib.Core.List.{List, [], _∷_, map}
 use mathlib.Core.Path.{_≡_}
 use Prim.Native.Nat.{ℕ, _+_, _/_, _%_, _<_, _≤_}
@@ -26,7 +26,7 @@ pub record Row (t : List ℕ) (first count : ℕ) (ls : List Line) : Type 0 wher
   pub room : first + count ≤ 203
 
 -- entry n says where the bit lines of number n stand, and how many they are
-pub record Agrees (t : List ℕ) : Type 0 where
+pub record HoldsLayout (t : List ℕ) : Type 0 where
   pub long : length t ≡ 203
   pub rows : (n : ℕ) → n < 64 → Row t (getD t n 0 / 64) (getD t n 0 % 64) (layout n)
 

@@ -5,7 +5,7 @@ ghost use lib.ListN.{length, getD};
 ghost use Rattle.rdp_words.specs.Words.{overwrite};
 ghost use Rattle.rdp_words.specs.Kinds.{wordsOf};
 ghost use Rattle.rdp_command.specs.Layout.{layout};
-ghost use Rattle.rdp_encode.specs.Table.{Agrees};
+ghost use Rattle.rdp_encode.specs.Table.{HoldsLayout};
 ghost use Rattle.rdp_words.specs.Lengths.{suffixWords};
 ghost use Rattle.rdp_encode.specs.Encode.{fixedBits, packedWord, packedBytes, bytesWith, verdictOf, encodeAnswer, encodeOut};
 ghost use Rattle.rdp_encode.specs.Numbers.{numbersFit, flagsAgree, fromNumbers};
@@ -44,7 +44,7 @@ fn lines_of(table: &[u32; 203], number: u8) -> Lines
 
 // Whether there are as many numbers as bit lines, and each fits its own.
 fn numbers_fit(table: &[u32; 203], number: u8, numbers: &[u64]) -> bool
-    requires { ⌜ Agrees (now table) × (number < 64) ⌝ }
+    requires { ⌜ HoldsLayout (now table) × (number < 64) ⌝ }
     ensures { λ r. ⌜ r ≡ numbersFit number (now (numbers .entry)) ⌝ }
 {
     let lines = lines_of(table, number);

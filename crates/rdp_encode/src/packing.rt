@@ -6,7 +6,7 @@ ghost use Prim.Native.Nat.{_<_, _^_};
 ghost use lib.Signed.{mag};
 ghost use mir.Syntax.{w64};
 ghost use mir.Val.{toZ};
-ghost use Rattle.rdp_encode.specs.Placed.{fitsLine, placed, packed};
+ghost use Rattle.rdp_encode.specs.Placed.{fitsLine, atLine, atLines};
 ghost use Rattle.rdp_encode.specs.Numbers.{valueFrom, eachFits};
 ghost use Rattle.rdp_encode.specs.Table.{lineOf, linesFor, Stand, Readable, LineIs};
 
@@ -77,7 +77,7 @@ pub fn all_fit(table: &[u32; 203], first: usize, numbers: &[u64]) -> bool
 // A number at the place of its bit line in a word; 0 in every other word.
 fn placed_in(word: usize, code: u32, n: u64) -> u64
     requires { ⌜ Readable (lineOf code) ⌝ }
-    ensures { λ r. ⌜ r ≡ cond (eqb (lineOf code .word) word) (placed (lineOf code) n) 0 ⌝ }
+    ensures { λ r. ⌜ r ≡ cond (eqb (lineOf code .word) word) (atLine (lineOf code) n) 0 ⌝ }
 {
     let line = line_of(code);
     let own = line.word;
@@ -92,8 +92,8 @@ fn placed_in(word: usize, code: u32, n: u64) -> u64
 
 // A word of a command: the numbers at their bit lines, all other bits zero.
 pub fn packed(table: &[u32; 203], first: usize, word: usize, numbers: &[u64]) -> u64
-    requires { ⌜ Stand (now table) first (now numbers) × (packed word (linesFor (now table) first (now numbers)) (now numbers) < 2 ^ 64) ⌝ }
-    ensures { λ r. ⌜ r ≡ packed word (linesFor (now (table .entry)) first (now (numbers .entry))) (now (numbers .entry)) ⌝ }
+    requires { ⌜ Stand (now table) first (now numbers) × (atLines word (linesFor (now table) first (now numbers)) (now numbers) < 2 ^ 64) ⌝ }
+    ensures { λ r. ⌜ r ≡ atLines word (linesFor (now (table .entry)) first (now (numbers .entry))) (now (numbers .entry)) ⌝ }
 {
     let mut sum = 0u64;
     let mut k = 0;

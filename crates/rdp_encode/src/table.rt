@@ -1,10 +1,10 @@
 // The layout of every command as numbers: the place and count of its bit lines, then the bit lines.
-ghost use Rattle.rdp_encode.specs.Table.{Agrees};
+ghost use Rattle.rdp_encode.specs.Table.{HoldsLayout};
 
 // Number n has table[n] % 64 bit lines, from index table[n] / 64 on. A bit line is, in decimal digits, 1 where it is signed, its word, its high bit
 // and its low bit.
 pub fn layout_table() -> [u32; 203]
-    ensures { λ r. ⌜ Agrees r ⌝ }
+    ensures { λ r. ⌜ HoldsLayout r ⌝ }
 {
     [
         0,

@@ -1,6 +1,6 @@
 -- Examples A to O and those of the requests hold of the definitions, which antt computes. Assumes nothing.
 use lib.Dec.{T}
-use Rattle.rdp_words.specs.Words.{halfOf, wordAt, overwrite}
+use Rattle.rdp_words.specs.Words.{halfOf, wordAt, sameBytes, overwrite}
 use Rattle.rdp_words.specs.Kinds.{kindOf, wordsOf}
 use Rattle.rdp_command.specs.Layout.{layout}
 use Rattle.rdp_command.specs.Commands.{commandOf}
@@ -25,5 +25,5 @@ use Rattle.rdp_draw.specs.Draw.{actOf, actsFrom, actRefusals, actGrounds, drawA
 use Rattle.rdp_examples.specs.Examples.{examples, allRight}
 
 pub examples-right : T (allRight examples)
-unfolding examples halfOf wordAt overwrite kindOf wordsOf layout commandOf wholeWords decodeOf nextOf requiredOf commandsFrom restFrom noRegisters registersAfter afterCommand ownRefusals syncRefusals judge outcomeWithin awaited latest causeOf syncAt waitOf clearedBy withOption totalWith choiceOf prefer chosen best plan applied planned repairedBytes commandGrounds groundsOf repairOf outAfter workAfter overlay colorByte bytesPerPixel pixelAddress lineKept kept oneOf someByte actOf actsFrom actRefusals actGrounds drawAnswer actedAll drawn loadNeeds others without
+unfolding examples halfOf wordAt sameBytes overwrite kindOf wordsOf layout commandOf wholeWords decodeOf nextOf requiredOf commandsFrom restFrom noRegisters registersAfter afterCommand ownRefusals syncRefusals judge outcomeWithin awaited latest causeOf syncAt waitOf clearedBy withOption totalWith choiceOf prefer chosen best plan applied planned repairedBytes commandGrounds groundsOf repairOf outAfter workAfter overlay colorByte bytesPerPixel pixelAddress lineKept kept oneOf someByte actOf actsFrom actRefusals actGrounds drawAnswer actedAll drawn loadNeeds others without
 examples-right = tt

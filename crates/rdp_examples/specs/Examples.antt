@@ -1,10 +1,10 @@
--- Document 01, "Examples": A to O as one list of cases, each with all that must come out; and those of #104, #107 and #109.
+-- Document 01, "Examples": A to O as one list of cases, each with all that must come out; and those of #104, #106, #107 and #109.
 use Prim.Native.Nat.{ℕ, _+_, _*_}
-use mathlib.Core.Bool.{Bool, true, false, _&&_}
+use mathlib.Core.Bool.{Bool, true, _&&_}
 use mathlib.Core.List.{List, [], _∷_, _++_}
 use lib.Dec.{eqb}
 use lib.ListN.{length, replicate}
-use Rattle.rdp_words.specs.Words.{bytesOf}
+use Rattle.rdp_words.specs.Words.{bytesOfWords, sameBytes}
 use Rattle.rdp_check.specs.Commands.{commandsOf}
 use Rattle.rdp_check.specs.Check.{checkOf}
 use Rattle.rdp_repair.specs.Repair.{repairOf, outAfter, workAfter}
@@ -58,25 +58,21 @@ textureRectangle = 0x2400000000000000
 abbrev pub longestTriangle : ℕ
 longestTriangle = 0x0F00000000000000
 
-abbrev pub syncLoad : ℕ
-syncLoad = 0x2600000000000000
+abbrev pub syncLoadWord : ℕ
+syncLoadWord = 0x2600000000000000
 
-abbrev pub syncPipe : ℕ
-syncPipe = 0x2700000000000000
+abbrev pub syncPipeWord : ℕ
+syncPipeWord = 0x2700000000000000
 
 -- with other bits
 abbrev pub syncPipeWithBits : ℕ
 syncPipeWithBits = 0xE700000000000001
 
-abbrev pub syncTile : ℕ
-syncTile = 0x2800000000000000
+abbrev pub syncTileWord : ℕ
+syncTileWord = 0x2800000000000000
 
-abbrev pub syncFull : ℕ
-syncFull = 0x2900000000000000
-
-abbrev pub bytesIn : List ℕ → List ℕ
-bytesIn [] = []
-bytesIn (w ∷ ws) = bytesOf w ++ bytesIn ws
+abbrev pub syncFullWord : ℕ
+syncFullWord = 0x2900000000000000
 
 -- ---- the cases
 
@@ -103,57 +99,51 @@ examples =
     -- A, B, C1
     checks [] 0 0 0 0
     ∷ checks (zeros 7) 2 0 0 0
-    ∷ checks (bytesIn (textureRectangle ∷ [])) 3 0 0 1
+    ∷ checks (bytesOfWords (textureRectangle ∷ [])) 3 0 0 1
     -- D, E: 0x0F with 21 words, and with 22
-    ∷ checks (bytesIn (longestTriangle ∷ []) ++ zeros 160) 3 0 0 21
-    ∷ checks (bytesIn (longestTriangle ∷ []) ++ zeros 168) 5 0 0 22
+    ∷ checks (bytesOfWords (longestTriangle ∷ []) ++ zeros 160) 3 0 0 21
+    ∷ checks (bytesOfWords (longestTriangle ∷ []) ++ zeros 168) 5 0 0 22
     -- F
-    ∷ checks (bytesIn (syncFull ∷ noOperation ∷ [])) 4 1 0 2
+    ∷ checks (bytesOfWords (syncFullWord ∷ noOperation ∷ [])) 4 1 0 2
     -- G: after a draw the hazards are pipe and draw, 1 + 4; it is the cause
-    ∷ checks (bytesIn (setup ++ rectangle ∷ fillColor ∷ [])) 9 4 5 3
+    ∷ checks (bytesOfWords (setup ++ rectangle ∷ fillColor ∷ [])) 9 4 5 3
     -- H: a Sync Tile leaves pipe, and the draw is the cause
-    ∷ checks (bytesIn (setup ++ rectangle ∷ syncTile ∷ fillColor ∷ [])) 9 5 1 3
-    ∷ checks (bytesIn (setup ++ rectangle ∷ syncPipe ∷ fillColor ∷ [])) 0 6 0 6
+    ∷ checks (bytesOfWords (setup ++ rectangle ∷ syncTileWord ∷ fillColor ∷ [])) 9 5 1 3
+    ∷ checks (bytesOfWords (setup ++ rectangle ∷ syncPipeWord ∷ fillColor ∷ [])) 0 6 0 6
     -- I
     ∷ draws (setup ++ fillColor ∷ rectangle ∷ []) (zeros 64) 0 5 (zeros 18 ++ halves ++ zeros 12 ++ halves ++ zeros 26)
     -- J: one Pipe before L, and not Load and Pipe. K: Load before L and before the second R. M: Pipe before C, not before N
-    ∷ repairs (setup ++ rectangle ∷ loadTile ∷ fillColor ∷ []) (setup ++ rectangle ∷ syncPipe ∷ loadTile ∷ fillColor ∷ []) 50
-    ∷ repairs (setup ++ rectangle ∷ loadTile ∷ rectangle ∷ []) (setup ++ rectangle ∷ syncLoad ∷ loadTile ∷ syncLoad ∷ rectangle ∷ []) 50
-    ∷ repairs (setup ++ rectangle ∷ noOperation ∷ fillColor ∷ []) (setup ++ rectangle ∷ noOperation ∷ syncPipe ∷ fillColor ∷ []) 50
+    ∷ repairs (setup ++ rectangle ∷ loadTile ∷ fillColor ∷ []) (setup ++ rectangle ∷ syncPipeWord ∷ loadTile ∷ fillColor ∷ []) 50
+    ∷ repairs (setup ++ rectangle ∷ loadTile ∷ rectangle ∷ []) (setup ++ rectangle ∷ syncLoadWord ∷ loadTile ∷ syncLoadWord ∷ rectangle ∷ []) 50
+    ∷ repairs (setup ++ rectangle ∷ noOperation ∷ fillColor ∷ []) (setup ++ rectangle ∷ noOperation ∷ syncPipeWord ∷ fillColor ∷ []) 50
     -- K repaired is not drawn (#106): no texture image is set for the load
-    ∷ draws (setup ++ rectangle ∷ syncLoad ∷ loadTile ∷ syncLoad ∷ rectangle ∷ []) (zeros 64) 17 5 (zeros 64)
+    ∷ draws (setup ++ rectangle ∷ syncLoadWord ∷ loadTile ∷ syncLoadWord ∷ rectangle ∷ []) (zeros 64) 17 5 (zeros 64)
     -- O: with width 7 pixel (0,1) is at address 14 and takes the lower half
     ∷ draws (setupOfWidth7 ++ fillColor ∷ onePixel ∷ []) (zeros 64) 0 5 (zeros 14 ++ 0x00 ∷ 0x3F ∷ zeros 48)
     -- #104: after a load the hazards are tile and load, 2 + 8, and it is the cause; a Sync Load leaves tile, a Sync Tile none
-    ∷ checks (bytesIn (loadBlock ∷ setTile ∷ [])) 8 1 10 0
-    ∷ checks (bytesIn (loadBlock ∷ syncLoad ∷ setTile ∷ [])) 8 2 2 0
-    ∷ checks (bytesIn (loadBlock ∷ syncTile ∷ setTile ∷ [])) 0 3 0 3
-    ∷ repairs (loadBlock ∷ setTile ∷ []) (loadBlock ∷ syncTile ∷ setTile ∷ []) 33
+    ∷ checks (bytesOfWords (loadBlock ∷ setTile ∷ [])) 8 1 10 0
+    ∷ checks (bytesOfWords (loadBlock ∷ syncLoadWord ∷ setTile ∷ [])) 8 2 2 0
+    ∷ checks (bytesOfWords (loadBlock ∷ syncTileWord ∷ setTile ∷ [])) 0 3 0 3
+    ∷ repairs (loadBlock ∷ setTile ∷ []) (loadBlock ∷ syncTileWord ∷ setTile ∷ []) 33
     -- #107: an unassigned number first, after Sync Full (4), before a command that is cut, in a list that is no whole words (2), before a draw that lacks its
     -- setup, and after one that does (5); 0x00 with any other bits is accepted
-    ∷ checks (bytesIn (unassigned ∷ [])) 19 0 0 1
-    ∷ checks (bytesIn (syncFull ∷ unassigned ∷ [])) 4 1 0 2
-    ∷ checks (bytesIn (unassigned ∷ textureRectangle ∷ [])) 19 0 0 2
-    ∷ checks (bytesIn (unassigned ∷ []) ++ zeros 4) 2 1 0 1
-    ∷ checks (bytesIn (unassigned ∷ rectangle ∷ [])) 19 0 0 2
-    ∷ checks (bytesIn (rectangle ∷ unassigned ∷ [])) 5 0 0 2
-    ∷ checks (bytesIn (0x40FFFFFFFFFFFFFF ∷ [])) 0 1 0 1
+    ∷ checks (bytesOfWords (unassigned ∷ [])) 19 0 0 1
+    ∷ checks (bytesOfWords (syncFullWord ∷ unassigned ∷ [])) 4 1 0 2
+    ∷ checks (bytesOfWords (unassigned ∷ textureRectangle ∷ [])) 19 0 0 2
+    ∷ checks (bytesOfWords (unassigned ∷ []) ++ zeros 4) 2 1 0 1
+    ∷ checks (bytesOfWords (unassigned ∷ rectangle ∷ [])) 19 0 0 2
+    ∷ checks (bytesOfWords (rectangle ∷ unassigned ∷ [])) 5 0 0 2
+    ∷ checks (bytesOfWords (0x40FFFFFFFFFFFFFF ∷ [])) 0 1 0 1
     -- #109: of many Pipes one is left, as late as it serves, whatever their other bits; a shorter sync serves; a longer one is needed, and all waiting counts;
     -- nothing but syncs; Sync Full stays
-    ∷ renews (syncPipe ∷ setup ++ rectangle ∷ syncPipeWithBits ∷ fillColor ∷ syncPipe ∷ []) (setup ++ rectangle ∷ syncPipe ∷ fillColor ∷ []) 50
-    ∷ renews (setup ++ rectangle ∷ syncPipe ∷ loadTile ∷ []) (setup ++ rectangle ∷ syncLoad ∷ loadTile ∷ []) 25
-    ∷ renews (setup ++ rectangle ∷ syncLoad ∷ fillColor ∷ []) (setup ++ rectangle ∷ syncPipe ∷ fillColor ∷ []) 50
-    ∷ renews (syncLoad ∷ syncTile ∷ syncPipeWithBits ∷ []) [] 0
-    ∷ renews (syncPipe ∷ syncFull ∷ []) (syncFull ∷ []) 0
+    ∷ renews (syncPipeWord ∷ setup ++ rectangle ∷ syncPipeWithBits ∷ fillColor ∷ syncPipeWord ∷ []) (setup ++ rectangle ∷ syncPipeWord ∷ fillColor ∷ []) 50
+    ∷ renews (setup ++ rectangle ∷ syncPipeWord ∷ loadTile ∷ []) (setup ++ rectangle ∷ syncLoadWord ∷ loadTile ∷ []) 25
+    ∷ renews (setup ++ rectangle ∷ syncLoadWord ∷ fillColor ∷ []) (setup ++ rectangle ∷ syncPipeWord ∷ fillColor ∷ []) 50
+    ∷ renews (syncLoadWord ∷ syncTileWord ∷ syncPipeWithBits ∷ []) [] 0
+    ∷ renews (syncPipeWord ∷ syncFullWord ∷ []) (syncFullWord ∷ []) 0
     ∷ []
 
 -- ---- what is right
-
-abbrev pub sameList : List ℕ → List ℕ → Bool
-sameList [] [] = true
-sameList [] (y ∷ ys) = false
-sameList (x ∷ xs) [] = false
-sameList (x ∷ xs) (y ∷ ys) = eqb x y && sameList xs ys
 
 -- bytes of a buffer that are to stay
 abbrev pub left : List ℕ
@@ -168,22 +158,22 @@ checksRight list number place hazards cause =
 -- given, or of what remains of it. The work buffer and the output have a word more than is needed, which stays
 abbrev pub repairsRight : (List ℕ → List ℕ) → List ℕ → List ℕ → ℕ → Bool
 repairsRight remains given repaired cycles =
-    let list : List ℕ = bytesIn given in
-    let written : List ℕ = bytesIn repaired in
+    let list : List ℕ = bytesOfWords given in
+    let written : List ℕ = bytesOfWords repaired in
     let cleared : ℕ = 16 * length (commandsOf list) in
     let work : List ℕ = replicate (cleared + 8) 0xFF in
     let out : List ℕ = replicate (length written + 8) 0xFF in
     let least : List ℕ = repairedBytes (remains list) in
     let r = repairOf list (length least) (leastCycles (remains list)) (length work) (length out) in
     ((eqb (r .number) 0 && eqb (r .place) (length repaired)) && eqb (r .cycles) cycles) &&
-    (sameList (outAfter r least out) (written ++ left) && sameList (workAfter r list work) (zeros cleared ++ left))
+    (sameBytes (outAfter r least out) (written ++ left) && sameBytes (workAfter r list work) (zeros cleared ++ left))
 
 abbrev pub drawsRight : List ℕ → List ℕ → ℕ → ℕ → List ℕ → Bool
 drawsRight words memory number place after =
-    let list : List ℕ = bytesIn words in
+    let list : List ℕ = bytesOfWords words in
     let texture : List ℕ = zeros 4096 in
     let r = drawAnswer list 0 (length memory) (length texture) in
-    (eqb (r .number) number && eqb (r .place) place) && sameList (drawn list 0 (memories memory texture) .memory) after
+    (eqb (r .number) number && eqb (r .place) place) && sameBytes (drawn list 0 (memories memory texture) .memory) after
 
 abbrev pub right : Case → Bool
 right (checks list number place hazards cause) = checksRight list number place hazards cause

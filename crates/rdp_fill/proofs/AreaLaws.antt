@@ -16,7 +16,7 @@ use Rattle.rdp_fill.specs.declared.Area.{Area}
 use Rattle.rdp_command.specs.declared.FillFields.{FillFields}
 use Rattle.rdp_fill.specs.Fill.{bytesPerPixel, colorByte, covers, outside, painted, fillMemory, pixelAddress}
 use Rattle.rdp_pixels.specs.Kept.{rowKept}
-use Rattle.rdp_fill.specs.Meaning.{Covers, Kept}
+use Rattle.rdp_fill.specs.Meaning.{Covers, IsFilled}
 use Rattle.rdp_pixels.specs.Overlay.{overlay, within}
 use Rattle.rdp_fill.specs.Runs.{areaEmpty, areaInside, areaOf, endColumn, endRow, firstColumn, firstKeptRow, firstRow, inRuns, keptRows, rowStep, runBytes, strideOf}
 use Rattle.rdp_pixels.proofs.BoolLaws.{cond-true, cond-false, same-truth, other-truth}
@@ -155,7 +155,7 @@ module _ (f : FillFields) where
   -- ---- runs
 
   -- the bounds of the kept columns and rows
-  kept-pixel : (x y : ℕ) → firstColumn f ≤ x → x < endColumn f → firstRow f ≤ y → y < endRow f → rowKept (f .scissor) y ≡ true → Kept f x y
+  kept-pixel : (x y : ℕ) → firstColumn f ≤ x → x < endColumn f → firstRow f ≤ y → y < endRow f → rowKept (f .scissor) y ≡ true → IsFilled f x y
   kept-pixel x y l r t b e =
       record {
         columns = omega arith;
@@ -165,10 +165,10 @@ module _ (f : FillFields) where
         parity = row-kept-is (f .scissor) y e;
       }
 
-  kept-columns : (x y : ℕ) → Kept f x y → (firstColumn f ≤ x) × (x < endColumn f)
+  kept-columns : (x y : ℕ) → IsFilled f x y → (firstColumn f ≤ x) × (x < endColumn f)
   kept-columns x y k = omega arith
 
-  kept-rows : (x y : ℕ) → Kept f x y → (firstRow f ≤ y) × (y < endRow f)
+  kept-rows : (x y : ℕ) → IsFilled f x y → (firstRow f ≤ y) × (y < endRow f)
   kept-rows x y k = omega arith
 
   -- where the run of row number k begins

@@ -14,7 +14,7 @@ use Rattle.rdp_words.proofs.Tests.{by-test}
 use Rattle.rdp_command.specs.declared.FillFields.{FillFields}
 use Rattle.rdp_fill.specs.Fill.{bytesPerPixel, covers, outside, pixelAddress, someByte}
 use Rattle.rdp_pixels.specs.Kept.{kept}
-use Rattle.rdp_fill.specs.Meaning.{Covers, Kept}
+use Rattle.rdp_fill.specs.Meaning.{Covers, IsFilled}
 use Rattle.rdp_pixels.specs.Overlay.{within}
 use Rattle.rdp_pixels.specs.Range.{oneOf, oneThrough}
 use Rattle.rdp_pixels.proofs.BoolLaws.{and-is, and-true-of}
@@ -47,7 +47,7 @@ module _ (f : FillFields) (test : ℕ → Bool) where
         end = end;
       }
 
-  kept-of : (x y : ℕ) → Kept f x y → kept (f .scissor) x y ≡ true
+  kept-of : (x y : ℕ) → IsFilled f x y → kept (f .scissor) x y ≡ true
   kept-of x y k =
       kept-true (f .scissor) x y (record { across = k .across; down = k .down; row = row-kept-true (f .scissor) y (k .parity) })
 

@@ -1,5 +1,5 @@
 pub mod Fill
 pub mod Meaning
+pub mod Width
 pub mod Runs
 pub mod Pattern
-pub mod Width

@@ -6,7 +6,7 @@ use Rattle.rdp_command.specs.declared.FillFields.{FillFields}
 use Rattle.rdp_fill.specs.Fill.{bytesPerPixel, pixelAddress}
 
 -- pixel (x, y) is one of the rectangle's, and the scissor keeps it
-pub record Kept (f : FillFields) (x y : ℕ) : Type 0 where
+pub record IsFilled (f : FillFields) (x y : ℕ) : Type 0 where
   pub columns : (f .rectangle .«upper_left» .x / 4 ≤ x) × (x ≤ f .rectangle .«lower_right» .x / 4)
   pub rows : (f .rectangle .«upper_left» .y / 4 ≤ y) × (y ≤ f .rectangle .«lower_right» .y / 4)
   pub across : (f .scissor .«upper_left» .x ≤ 4 * x) × (4 * x < f .scissor .«lower_right» .x)
@@ -17,6 +17,6 @@ pub record Kept (f : FillFields) (x y : ℕ) : Type 0 where
 pub record Covers (f : FillFields) (a : ℕ) : Type 0 where
   pub x : ℕ
   pub y : ℕ
-  pub kept : Kept f x y
+  pub kept : IsFilled f x y
   pub start : pixelAddress (f .image) x y ≤ a
   pub end : a < pixelAddress (f .image) x y + bytesPerPixel (f .image .size)

@@ -54,7 +54,7 @@ areaOf f =
     }
 
 -- far below what a sum or a product of two could wrap at
-pub record Small (area : Area) : Type 0 where
+pub record SmallArea (area : Area) : Type 0 where
   pub first : area .first ≤ 17179869184
   pub size : area .size ≤ 65536
   pub stride : area .stride ≤ 1048576

@@ -4,7 +4,7 @@ use rdp_command::FillFields;
 ghost use mathlib.Core.Path.{_≡_};
 ghost use Prim.Native.Nat.{_+_, _*_, _-_, _≤_};
 ghost use Rattle.rdp_fill.specs.Fill.{bytesPerPixel};
-ghost use Rattle.rdp_fill.specs.Runs.{Small, areaEmpty, areaInside, areaOf, keptRows, runBytes, strideOf};
+ghost use Rattle.rdp_fill.specs.Runs.{SmallArea, areaEmpty, areaInside, areaOf, keptRows, runBytes, strideOf};
 
 // The bytes of some pixels. The bounds below are those of fields of 16 bits; they keep every sum and product far from wrapping.
 fn bytes_of(pixels: u64, size: u8) -> u64
@@ -70,7 +70,7 @@ fn pixel_address(address: u32, width: u16, size: u8, x: u64, y: u64) -> u64
 
 // The kept pixels of a fill as runs of bytes, a run for each kept row.
 pub fn area_of(fill: FillFields) -> Area
-    ensures { λ r. ⌜ (r ≡ areaOf fill) × Small r ⌝ }
+    ensures { λ r. ⌜ (r ≡ areaOf fill) × SmallArea r ⌝ }
 {
     let x = rdp_pixels::first_kept(fill.rectangle.upper_left.x, fill.scissor.upper_left.x);
     let clip = fill.scissor.upper_left.y;
@@ -101,7 +101,7 @@ fn extent(later: u64, stride: u64, size: u64) -> u64
 
 // Whether every run lies in `len` bytes of memory that starts at address `start`. Nothing is added to `start`, which could wrap.
 pub fn area_inside(area: Area, start: u64, len: usize) -> bool
-    requires { ⌜ Small area ⌝ }
+    requires { ⌜ SmallArea area ⌝ }
     ensures { λ r. ⌜ r ≡ areaInside area start len ⌝ }
 {
     if is_empty(area) {

@@ -86,6 +86,7 @@ Agrees table = (m n : ℕ) → m < 16 → n < 64 → getD table (n * 16 + m) 0 �
 unfoldable pub entryAt : List ℕ → ℕ → ℕ → ℕ
 entryAt table m n = getD table (n % 64 * 16 + m % 16) 0
 
--- the hazards after a command by any table: of those before it the ones that its entry at all hazards keeps, with those that its entry at none is
+-- the hazards after a command by any table: of those before it the ones that its entry at all hazards keeps, with those that its entry at none is. By a
+-- table that agrees these are the hazards after the command where the hazards are below sixteen (`next-read`); of others higher bits may stay
 unfoldable pub nextBy : List ℕ → ℕ → ℕ → ℕ
 nextBy table m n = bitOr (bitAnd m (getD table (n % 64 * 16 + 15) 0)) (getD table (n % 64 * 16) 0)

@@ -1,4 +1,4 @@
--- Document 01, "Four marks", in its own words: what has come since the last sync of some kind. `proofs/MarkLaws` shows that the hazards are this.
+-- Document 01, "Four marks", in its own words: what has come since the last sync of some kind. `proofs/MarkLaws` of rdp_check shows that the hazards are this.
 use Prim.Native.Nat.{ℕ}
 use mathlib.Core.Bool.{Bool, not, _&&_, _||_}
 use mathlib.Core.List.{List, [], _∷_, _++_}
@@ -25,17 +25,17 @@ abbrev pub readsTile : ℕ → Bool
 readsTile n = textured n || loads n
 
 -- the syncs that clear a mark: those that its definition names, and Sync Full
-abbrev pub syncFull : ℕ
-syncFull = 0x29
+abbrev pub syncFullNumber : ℕ
+syncFullNumber = 0x29
 
 abbrev pub pipeOrFull : ℕ → Bool
-pipeOrFull n = among n (syncNumber pipeSync ∷ syncFull ∷ [])
+pipeOrFull n = among n (syncNumber pipeSync ∷ syncFullNumber ∷ [])
 
 abbrev pub tilePipeOrFull : ℕ → Bool
-tilePipeOrFull n = among n (syncNumber tileSync ∷ syncNumber pipeSync ∷ syncFull ∷ [])
+tilePipeOrFull n = among n (syncNumber tileSync ∷ syncNumber pipeSync ∷ syncFullNumber ∷ [])
 
 abbrev pub anySync : ℕ → Bool
-anySync n = among n (syncNumber loadSync ∷ syncNumber tileSync ∷ syncNumber pipeSync ∷ syncFull ∷ [])
+anySync n = among n (syncNumber loadSync ∷ syncNumber tileSync ∷ syncNumber pipeSync ∷ syncFullNumber ∷ [])
 
 -- a mark: its bit in the hazards as a number, the numbers of the commands that set it, and of those that clear it
 pub record Mark : Type 0 where

@@ -1,4 +1,4 @@
--- Document 01, "Four marks" and "Repair": the syncs that a repair inserts. Their command numbers and their waits stand here alone.
+-- Document 01, "Four marks" and "Repair": the syncs that a repair inserts. Their waits stand here alone.
 use Prim.Native.Nat.{ℕ, _+_}
 use mathlib.Core.Bool.{cond}
 use mathlib.Core.List.{List, [], _∷_}

@@ -10,8 +10,9 @@ pub fn entry(table: &[u8; 1024], hazards: u8, number: u8) -> u8
     table[at]
 }
 
-// The hazards after a command: of the hazards before it those that the entry at all hazards keeps, and those that the entry at none is. Where one command
-// follows another these two are at hand before the hazards are, and the entry at the hazards is not.
+// The hazards after a command, where the hazards are below sixteen; of others higher bits may stay: of the hazards before it those that the entry at all
+// hazards keeps, and those that the entry at none is. Where one command follows another these two are at hand before the hazards are, and the entry at the
+// hazards is not.
 pub fn next(table: &[u8; 1024], hazards: u8, number: u8) -> u8
     ensures { λ r. ⌜ r ≡ nextBy (now (table .entry)) hazards number ⌝ }
 {

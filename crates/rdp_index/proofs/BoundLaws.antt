@@ -12,9 +12,10 @@ use Rattle.rdp_words.specs.Kinds.{among, wordsOf}
 use Rattle.rdp_words.specs.Lengths.{firstNumber, wholeWords}
 use Rattle.rdp_words.proofs.Tests.{both, both-of, true-of, by-test}
 use Rattle.rdp_command.specs.declared.Answer.{Answer}
+use Rattle.rdp_command.specs.Decode.{answer}
 use Rattle.rdp_hazards.specs.Hazards.{nextOf}
 use Rattle.rdp_hazards.proofs.HazardLaws.{next-small}
-use Rattle.rdp_check.specs.Order.{ground, answer, firstOf}
+use Rattle.rdp_check.specs.Order.{ground, firstOf}
 use Rattle.rdp_check.specs.Commands.{commandsOf, restOf}
 use Rattle.rdp_check.specs.Check.{noRefusals}
 use Rattle.rdp_check.specs.Refusals.{isSome}

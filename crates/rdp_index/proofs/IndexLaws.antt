@@ -7,7 +7,7 @@ use lib.ListN.{length}
 use Rattle.rdp_words.specs.Kinds.{wordsOf}
 use Rattle.rdp_words.specs.Lengths.{firstNumber, wholeWords}
 use Rattle.rdp_command.specs.declared.Answer.{Answer}
-use Rattle.rdp_check.specs.Order.{answer}
+use Rattle.rdp_command.specs.Decode.{answer}
 use Rattle.rdp_check.specs.Commands.{commandsOf, wordsIn}
 use Rattle.rdp_check.specs.Check.{start}
 use Rattle.rdp_check.specs.Refusals.{stateAfter}

@@ -13,10 +13,10 @@ use Rattle.rdp_words.specs.Words.{wordAt, numberIn, overwrite, pasted}
 use Rattle.rdp_words.specs.Kinds.{wordsOf}
 use Rattle.rdp_words.specs.Lengths.{firstNumber}
 use Rattle.rdp_command.specs.declared.Answer.{Answer}
+use Rattle.rdp_command.specs.Decode.{answer}
 use Rattle.rdp_words.proofs.Tests.{by-test}
 use Rattle.rdp_words.proofs.PlaceLaws.{some-words}
 use Rattle.rdp_hazards.specs.Hazards.{nextOf}
-use Rattle.rdp_check.specs.Order.{answer}
 use Rattle.rdp_check.specs.Commands.{commandsOf, restOf, wordsIn}
 use Rattle.rdp_check.specs.Check.{State, start, afterCommand, noRefusals, judge, outcomeWithin}
 use Rattle.rdp_hazards.proofs.HazardLaws.{next-small}

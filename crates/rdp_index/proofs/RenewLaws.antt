@@ -9,11 +9,11 @@ use native.Mathlib.Omega.{arith}
 use borrow.Author.Tests.{le-leb, lt-leb}
 use lib.ListN.{length, getD, take, drop, length-append}
 use lib.Seq.{take-at, drop-at, getD-append-add}
+use Rattle.rdp_command.specs.Decode.{answer}
 use Rattle.rdp_words.specs.Words.{overwrite, pasted}
 use Rattle.rdp_words.specs.Kinds.{wordsOf}
 use Rattle.rdp_words.specs.Lengths.{firstNumber}
 use Rattle.rdp_hazards.specs.Hazards.{nextOf}
-use Rattle.rdp_check.specs.Order.{answer}
 use Rattle.rdp_check.specs.Commands.{commandsOf, wordsIn}
 use Rattle.rdp_check.proofs.ListLaws.{head}
 use Rattle.rdp_check.proofs.JoinLaws.{command-some}

@@ -13,9 +13,9 @@ use Rattle.rdp_words.specs.Words.{wordAt, numberIn, overwrite, pasted}
 use Rattle.rdp_words.specs.Kinds.{wordsOf}
 use Rattle.rdp_words.specs.Lengths.{firstNumber, wholeWords}
 use Rattle.rdp_command.specs.declared.Answer.{Answer}
+use Rattle.rdp_command.specs.Decode.{answer}
 use Rattle.rdp_words.proofs.Tests.{by-test}
 use Rattle.rdp_words.proofs.PlaceLaws.{is-whole, word-drop}
-use Rattle.rdp_check.specs.Order.{answer}
 use Rattle.rdp_check.specs.Commands.{commandsOf, restOf, wordsIn, joined}
 use Rattle.rdp_check.proofs.ListLaws.{head, commands-head, commands-cut}
 use Rattle.rdp_check.proofs.JoinLaws.{Alone, AllAlone, head-long, head-alone, parsed, joined-whole, joined-append, commands-joined, rest-joined, length-joined, alone-append, words-append}

@@ -9,10 +9,11 @@ use Rattle.rdp_words.specs.Words.{wordAt, numberIn, overwrite, pasted}
 use Rattle.rdp_words.specs.Kinds.{wordsOf}
 use Rattle.rdp_words.specs.Lengths.{firstNumber, wholeWords}
 use Rattle.rdp_command.specs.declared.Answer.{Answer}
+use Rattle.rdp_command.specs.Decode.{answer}
 use Rattle.rdp_hazards.specs.Hazards.{nextOf}
-use Rattle.rdp_check.specs.Order.{ground, answer, firstOf}
+use Rattle.rdp_check.specs.Order.{ground, firstOf}
 use Rattle.rdp_check.specs.Commands.{commandsOf, restOf}
-use Rattle.rdp_check.specs.Check.{noRefusals, Outcome, outcomeWithin}
+use Rattle.rdp_check.specs.Check.{noRefusals, Judgement, outcomeWithin}
 use Rattle.rdp_check.specs.Refusals.{isSome}
 use Rattle.rdp_index.specs.declared.Asked.{Asked}
 
@@ -33,7 +34,7 @@ entryCount list = length (entriesOf list) / 2
 -- ---- building
 
 -- "Building refuses by 1 to 3": with the check's places, no refusal of a command counting
-abbrev pub wholeness : List ℕ → Outcome
+abbrev pub wholeness : List ℕ → Judgement
 wholeness list = outcomeWithin 4096 noRefusals list
 
 -- these, or "building answers 0 and its entries"

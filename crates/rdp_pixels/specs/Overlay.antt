@@ -9,6 +9,6 @@ unfoldable pub overlay : (ℕ → Bool) → (ℕ → ℕ) → ℕ → List ℕ �
 overlay test value a [] = []
 overlay test value a (b ∷ memory) = cond (test a) (value a) b ∷ overlay test value (suc a) memory
 
--- the addresses from `first` up to, not including, `end`
+-- the numbers from `first` up to, not including, `end`
 abbrev pub within : ℕ → ℕ → ℕ → Bool
 within first end a = leb first a && ltb a end

@@ -19,10 +19,10 @@ use Rattle.rdp_check.specs.Registers.{afterDecoded}
 use Rattle.rdp_check.specs.declared.Registers.{Registers}
 use Rattle.rdp_check.specs.Check.{State, start, afterCommand, checkRefusals, repairRefusals, outcomeOf}
 use Rattle.rdp_repair.specs.Inserted.{Inserted, end, keep, insert}
-use Rattle.rdp_repair.specs.Plan.{applied, cyclesOf, FirstOf}
-use Rattle.rdp_repair.specs.Best.{best, plan, numbersOf, planned, repairedBytes, leastCycles}
+use Rattle.rdp_repair.specs.Plan.{applied, cyclesOf, TiesFirst}
+use Rattle.rdp_repair.specs.Best.{best, plan, commandNumbers, planned, repairedBytes, leastCycles}
 use Rattle.rdp_repair.specs.Repair.{LeastRepair}
-use Rattle.rdp_repair.specs.Afresh.{isSync, others, without, plain, Serves, HasPlan, LeastAfresh}
+use Rattle.rdp_repair.specs.Afresh.{isForgotten, others, without, bareSync, Serves, HasPlan, LeastAfresh}
 use Rattle.rdp_check.proofs.JoinLaws.{AllAlone, commands-joined, rest-joined, length-joined, parsed, words-inside}
 use Rattle.rdp_check.proofs.FirstLaws.{check-numbered, judge-free}
 use Rattle.rdp_repair.proofs.SyncLaws.{sync-word, sync-number}
@@ -34,7 +34,7 @@ use Rattle.rdp_repair.proofs.RepairedLaws.{Sound, least-repair, least-u
 
 pub data SyncCase (n : ℕ) : Type 0 where
   sync : (y : Sync) → n ≡ syncNumber y → SyncCase n
-  other : isSync n ≡ false → SyncCase n
+  other : isForgotten n ≡ false → SyncCase n
 
 pub sync-case : (n : ℕ) → SyncCase n
 sync-case n =
@@ -43,15 +43,15 @@ sync-case n =
     by-test (eqb n (syncNumber tileSync)) (λ t. sync tileSync (eqb-true _ _ t))
     (λ b. by-test (eqb n (syncNumber pipeSync)) (λ t. sync pipeSync (eqb-true _ _ t)) (λ c. other (rw (a, b, c)))))
 
-number-sync : (y : Sync) → isSync (syncNumber y) ≡ true
+number-sync : (y : Sync) → isForgotten (syncNumber y) ≡ true
 number-sync loadSync = refl
 number-sync tileSync = refl
 number-sync pipeSync = refl
 
-pub is-sync : (n : ℕ) (y : Sync) → n ≡ syncNumber y → isSync n ≡ true
-is-sync n y e = ap isSync e ∙ number-sync y
+pub is-sync : (n : ℕ) (y : Sync) → n ≡ syncNumber y → isForgotten n ≡ true
+is-sync n y e = ap isForgotten e ∙ number-sync y
 
-word-sync : (y : Sync) → isSync (firstNumber (syncWord y)) ≡ true
+word-sync : (y : Sync) → isForgotten (firstNumber (syncWord y)) ≡ true
 word-sync y = is-sync _ y (sync-number y)
 
 -- ---- the commands that remain
@@ -61,11 +61,11 @@ unfolding others
 others-none = refl
 
 module _ (c : List ℕ) (cs : List (List ℕ)) where
-  pub others-drop : isSync (firstNumber c) ≡ true → others (c ∷ cs) ≡ others cs
+  pub others-drop : isForgotten (firstNumber c) ≡ true → others (c ∷ cs) ≡ others cs
   unfolding others
   others-drop e = rw e
 
-  pub others-keep : isSync (firstNumber c) ≡ false → others (c ∷ cs) ≡ c ∷ others cs
+  pub others-keep : isForgotten (firstNumber c) ≡ false → others (c ∷ cs) ≡ c ∷ others cs
   unfolding others
   others-keep e = rw e
 
@@ -74,19 +74,19 @@ others-alone : (cs : List (List ℕ)) → AllAlone cs → AllAlone (others cs)
 unfolding others
 others-alone [] h = tt
 others-alone (c ∷ cs) h =
-    by-test (isSync (firstNumber c)) (λ t. rw t (others-alone cs (h .1))) (λ f. rw f (h .0, others-alone cs (h .1)))
+    by-test (isForgotten (firstNumber c)) (λ t. rw t (others-alone cs (h .1))) (λ f. rw f (h .0, others-alone cs (h .1)))
 
 others-words : (cs : List (List ℕ)) → wordsIn (others cs) ≤ wordsIn cs
 unfolding others
 others-words [] = omega arith
 others-words (c ∷ cs) =
-    by-test (isSync (firstNumber c)) (λ t. rw t (omega (arith, others-words cs))) (λ f. rw f (omega (arith, others-words cs)))
+    by-test (isForgotten (firstNumber c)) (λ t. rw t (omega (arith, others-words cs))) (λ f. rw f (omega (arith, others-words cs)))
 
 others-twice : (cs : List (List ℕ)) → others (others cs) ≡ others cs
 unfolding others
 others-twice [] = refl
 others-twice (c ∷ cs) =
-    by-test (isSync (firstNumber c)) (λ t. rw t (others-twice cs)) (λ f. rw (f, f, others-twice cs))
+    by-test (isForgotten (firstNumber c)) (λ t. rw t (others-twice cs)) (λ f. rw (f, f, others-twice cs))
 
 -- ---- their waiting
 
@@ -96,7 +96,7 @@ sync-waits loadSync = refl
 sync-waits tileSync = refl
 sync-waits pipeSync = refl
 
-other-waits : (n : ℕ) → isSync n ≡ false → commandWait n ≡ 0
+other-waits : (n : ℕ) → isForgotten n ≡ false → commandWait n ≡ 0
 unfolding commandWait
 other-waits n e =
     by-test (eqb n 0x26) (λ t. absurd (true≢false (sym (is-sync n loadSync (eqb-true _ _ t)) ∙ e)))
@@ -108,7 +108,7 @@ others-wait : (cs : List (List ℕ)) → waiting (others cs) ≡ 0
 unfolding others waiting
 others-wait [] = refl
 others-wait (c ∷ cs) =
-    by-test (isSync (firstNumber c)) (λ t. rw t (others-wait cs)) (λ f. rw f (omega (arith, other-waits (firstNumber c) f, others-wait cs)))
+    by-test (isForgotten (firstNumber c)) (λ t. rw t (others-wait cs)) (λ f. rw f (omega (arith, other-waits (firstNumber c) f, others-wait cs)))
 
 -- ---- what is inserted
 
@@ -126,39 +126,39 @@ inserted-waits (insert y s) = omega (arith, inserted-waits s, ap commandWait (sy
 
 -- ---- other bits of a sync don't count
 
-plain-sync : (c : List ℕ) (y : Sync) → firstNumber c ≡ syncNumber y → plain c ≡ syncWord y
-unfolding plain
+plain-sync : (c : List ℕ) (y : Sync) → firstNumber c ≡ syncNumber y → bareSync c ≡ syncWord y
+unfolding bareSync
 plain-sync c y e = rw (is-sync _ y e) (ap bareWord e)
 
-plain-other : (c : List ℕ) → isSync (firstNumber c) ≡ false → plain c ≡ c
-unfolding plain
+plain-other : (c : List ℕ) → isForgotten (firstNumber c) ≡ false → bareSync c ≡ c
+unfolding bareSync
 plain-other c e = rw e
 
-plain-number : (c : List ℕ) → firstNumber (plain c) ≡ firstNumber c
+plain-number : (c : List ℕ) → firstNumber (bareSync c) ≡ firstNumber c
 plain-number c = by-case (sync-case (firstNumber c))
   where
-    by-case : SyncCase (firstNumber c) → firstNumber (plain c) ≡ firstNumber c
+    by-case : SyncCase (firstNumber c) → firstNumber (bareSync c) ≡ firstNumber c
     by-case (sync y e) = ap firstNumber (plain-sync c y e) ∙ sync-number y ∙ sym e
     by-case (other e) = ap firstNumber (plain-other c e)
 
-plain-passes : (m : ℕ) (cs : List (List ℕ)) → Passes m cs → Passes m (map plain cs)
+plain-passes : (m : ℕ) (cs : List (List ℕ)) → Passes m cs → Passes m (map bareSync cs)
 plain-passes m [] h = tt
 plain-passes m (c ∷ cs) h = (
   ap (requiredOf m) (plain-number c) ∙ h .0,
-  passes-at (map plain cs) (ap (nextOf m) (sym (plain-number c))) (plain-passes (nextOf m (firstNumber c)) cs (h .1)),
+  passes-at (map bareSync cs) (ap (nextOf m) (sym (plain-number c))) (plain-passes (nextOf m (firstNumber c)) cs (h .1)),
 )
 
 -- a list is made from the commands that remain by inserting its syncs
 plain-with :
-    (c : List ℕ) (cs : List (List ℕ)) → SyncCase (firstNumber c) → Inserted (others cs) (map plain cs) (waiting cs) →
-    Inserted (others (c ∷ cs)) (plain c ∷ map plain cs) (commandWait (firstNumber c) + waiting cs)
+    (c : List ℕ) (cs : List (List ℕ)) → SyncCase (firstNumber c) → Inserted (others cs) (map bareSync cs) (waiting cs) →
+    Inserted (others (c ∷ cs)) (bareSync c ∷ map bareSync cs) (commandWait (firstNumber c) + waiting cs)
 plain-with c cs (sync y e) h =
     rw (others-drop c cs (is-sync _ y e), plain-sync c y e, ap commandWait e ∙ sync-waits y) (insert y h)
 plain-with c cs (other e) h =
     let k : waiting cs ≡ commandWait (firstNumber c) + waiting cs = omega (arith, other-waits (firstNumber c) e) in
     rw (others-keep c cs e, plain-other c e, ← k) (keep h)
 
-plain-inserted : (cs : List (List ℕ)) → Inserted (others cs) (map plain cs) (waiting cs)
+plain-inserted : (cs : List (List ℕ)) → Inserted (others cs) (map bareSync cs) (waiting cs)
 unfolding others waiting
 plain-inserted [] = end
 plain-inserted (c ∷ cs) = plain-with c cs (sync-case (firstNumber c)) (plain-inserted cs)
@@ -221,9 +221,9 @@ module _ (s : List ℕ) where
 
 abbrev AllPlain : List (List ℕ) → Type 0
 AllPlain [] = Unit {0}
-AllPlain (c ∷ cs) = (plain c ≡ c) × AllPlain cs
+AllPlain (c ∷ cs) = (bareSync c ≡ c) × AllPlain cs
 
-map-plain : (cs : List (List ℕ)) → AllPlain cs → map plain cs ≡ cs
+map-plain : (cs : List (List ℕ)) → AllPlain cs → map bareSync cs ≡ cs
 map-plain [] h = refl
 map-plain (c ∷ cs) h = ap₂ (λ (x : List ℕ) (xs : List (List ℕ)). x ∷ xs) (h .0) (map-plain cs (h .1))
 
@@ -231,7 +231,7 @@ others-plain : (cs : List (List ℕ)) → AllPlain (others cs)
 unfolding others
 others-plain [] = tt
 others-plain (c ∷ cs) =
-    by-test (isSync (firstNumber c)) (λ t. rw t (others-plain cs)) (λ f. rw f (plain-other c f, others-plain cs))
+    by-test (isForgotten (firstNumber c)) (λ t. rw t (others-plain cs)) (λ f. rw f (plain-other c f, others-plain cs))
 
 inserted-plain : {cs ds : List (List ℕ)} {k : ℕ} → Inserted cs ds k → AllPlain cs → AllPlain ds
 inserted-plain end h = tt
@@ -240,15 +240,15 @@ inserted-plain (insert y s) h = (plain-sync (syncWord y) y (sync-number y), inse
 
 -- commands that pass wait at least as long as the plan of those that remain, and where they wait as long, they have a plan, of which that is the first
 module _ (us : List (List ℕ)) (passes : Passes 0 us) where
-  least-waiting : best (numbersOf (others us)) 0 ≤ waiting us
+  least-waiting : best (commandNumbers (others us)) 0 ≤ waiting us
   least-waiting = planned-least (plain-inserted us) (plain-passes 0 us passes)
 
   abbrev Planned : List (List ℕ) → Type 0
-  Planned cs = (q : List ℕ) × (length q ≡ length cs) × (map plain us ≡ applied q cs) × (cyclesOf q ≡ waiting us) × FirstOf (plan (numbersOf cs) 0) q
+  Planned cs = (q : List ℕ) × (length q ≡ length cs) × (map bareSync us ≡ applied q cs) × (cyclesOf q ≡ waiting us) × TiesFirst (plan (commandNumbers cs) 0) q
 
-  first-waiting : waiting us ≡ best (numbersOf (others us)) 0 → Planned (others us)
+  first-waiting : waiting us ≡ best (commandNumbers (others us)) 0 → Planned (others us)
   first-waiting e =
-      let r : Single (others us) (map plain us) (waiting us) = least-single (plain-inserted us) (plain-passes 0 us passes) e in (
+      let r : Single (others us) (map bareSync us) (waiting us) = least-single (plain-inserted us) (plain-passes 0 us passes) e in (
         r .options,
         r .one-each,
         sym (r .makes),
@@ -268,7 +268,7 @@ module _ (s : List ℕ) (clean : Sound repairRefusals s) where
   abbrev t : List ℕ
   t = repairedBytes (without s)
 
-  planned-remain : Inserted remain (planned remain) (best (numbersOf remain) 0)
+  planned-remain : Inserted remain (planned remain) (best (commandNumbers remain) 0)
   planned-remain = planned-inserted remain
 
   made-alone : AllAlone (planned remain)
@@ -281,26 +281,26 @@ module _ (s : List ℕ) (clean : Sound repairRefusals s) where
   commands-are : commandsOf t ≡ planned remain
   commands-are = ap commandsOf bytes-are ∙ commands-joined (planned remain) made-alone
 
-  cycles-are : leastCycles (without s) ≡ best (numbersOf remain) 0
-  cycles-are = ap (λ (cs : List (List ℕ)). best (numbersOf cs) 0) (commands-without s)
+  cycles-are : leastCycles (without s) ≡ best (commandNumbers remain) 0
+  cycles-are = ap (λ (cs : List (List ℕ)). best (commandNumbers cs) 0) (commands-without s)
 
-  all-waiting : best (numbersOf remain) 0 ≡ waiting (commandsOf t)
+  all-waiting : best (commandNumbers remain) 0 ≡ waiting (commandsOf t)
   all-waiting = omega (arith, inserted-waits planned-remain, others-wait (commandsOf s), ap waiting commands-are)
 
-  has-plan : HasPlan s t (plan (numbersOf remain) 0)
+  has-plan : HasPlan s t (plan (commandNumbers remain) 0)
   unfolding planned
   has-plan =
       record {
         one-each = plan-long remain 0;
-        makes = ap (map plain) commands-are ∙ map-plain (planned remain) (inserted-plain planned-remain (others-plain (commandsOf s)));
-        waits = cycles-plan (numbersOf remain) 0 ∙ all-waiting;
+        makes = ap (map bareSync) commands-are ∙ map-plain (planned remain) (inserted-plain planned-remain (others-plain (commandsOf s)));
+        waits = cycles-plan (commandNumbers remain) 0 ∙ all-waiting;
       }
 
   first-of :
       (u : List ℕ) → Serves s u → waiting (commandsOf u) ≡ leastCycles (without s) →
-      (q : List ℕ) × HasPlan s u q × FirstOf (plan (numbersOf remain) 0) q
+      (q : List ℕ) × HasPlan s u q × TiesFirst (plan (commandNumbers remain) 0) q
   first-of u h e =
-      let same : best (numbersOf remain) 0 ≡ best (numbersOf (others (commandsOf u))) 0 = ap (λ (cs : List (List ℕ)). best (numbersOf cs) 0) (sym (h .kept)) in
+      let same : best (commandNumbers remain) 0 ≡ best (commandNumbers (others (commandsOf u))) 0 = ap (λ (cs : List (List ℕ)). best (commandNumbers cs) 0) (sym (h .kept)) in
       let r : Planned (commandsOf u) (serves-passes s u h) remain =
       subst (Planned (commandsOf u) (serves-passes s u h)) (h .kept) (first-waiting (commandsOf u) (serves-passes s u h) (e ∙ cycles-are ∙ same)) in
       (r .0, record { one-each = r .1; makes = r .2; waits = r .3 }, r .4)
@@ -315,7 +315,7 @@ module _ (s : List ℕ) (clean : Sound repairRefusals s) where
         waits = cycles-are ∙ all-waiting;
         least = λ u h.
             rw (cycles-are, ← h .kept) (least-waiting (commandsOf u) (serves-passes s u h));
-        first = (plan (numbersOf remain) 0, has-plan, first-of);
+        first = (plan (commandNumbers remain) 0, has-plan, first-of);
         repair = repair;
       }
 

@@ -10,7 +10,7 @@ use Rattle.rdp_words.proofs.OverwriteLaws.{overwrite-is, pasted-is}
 use Rattle.rdp_hazards.specs.Hazards.{nextOf}
 use Rattle.rdp_repair.specs.Plan.{syncAt, waitOf}
 use Rattle.rdp_repair.specs.Best.{Choice, clearedBy, totalWith, choiceOf, prefer, chosen, best}
-use Rattle.rdp_repair.specs.Work.{tabulate, packed, totalsOf, choicesOf, Bounded, Below, notedIn, workOf}
+use Rattle.rdp_repair.specs.Work.{tabulate, packedChoice, totalsOf, choicesOf, Bounded, Below, notedIn, workOf}
 use Rattle.rdp_hazards.proofs.HazardLaws.{next-small}
 use Rattle.rdp_repair.proofs.SyncLaws.{pipe-serves}
 use Rattle.rdp_repair.proofs.ChoiceLaws.{right-chosen}
@@ -45,8 +45,8 @@ module _ (n : ℕ) (f : ℕ → ℕ) where
   pub choices-tabulated : choicesOf n (λ k. getD (tabulate 16 f) k 0) ≡ choicesOf n f
   unfolding choicesOf
   choices-tabulated =
-      tabulate-same 16 (λ m. packed (chosen n (λ k. getD (tabulate 16 f) k 0) m)) (λ m. packed (chosen n f m))
-      (λ m _. ap packed (chosen-same n (λ k. getD (tabulate 16 f) k 0) f (getD-tabulate 16 f) m))
+      tabulate-same 16 (λ m. packedChoice (chosen n (λ k. getD (tabulate 16 f) k 0) m)) (λ m. packedChoice (chosen n f m))
+      (λ m _. ap packedChoice (chosen-same n (λ k. getD (tabulate 16 f) k 0) f (getD-tabulate 16 f) m))
 
 -- ---- totals fit
 
@@ -63,7 +63,7 @@ best-bounded ns h = tabulate-most 16 (best ns) 102400 (λ m. omega (arith, best-
 
 pub length-choices : (n : ℕ) (f : ℕ → ℕ) → length (choicesOf n f) ≡ 16
 unfolding choicesOf
-length-choices n f = length-tabulate 16 (λ m. packed (chosen n f m))
+length-choices n f = length-tabulate 16 (λ m. packedChoice (chosen n f m))
 
 pub length-work : (ns : List ℕ) → length (workOf ns) ≡ 16 * length ns
 unfolding workOf

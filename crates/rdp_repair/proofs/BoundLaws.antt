@@ -15,7 +15,7 @@ use Rattle.rdp_check.specs.Check.{State, ownRefusals, repairRefusals}
 use Rattle.rdp_check.proofs.OrderLaws.{allGive}
 use Rattle.rdp_check.proofs.FirstLaws.{own-numbered, outcome-gives}
 use Rattle.rdp_check.proofs.BoundLaws.{place-most}
-use Rattle.rdp_repair.specs.Best.{numbersOf, repairedBytes, leastCycles}
+use Rattle.rdp_repair.specs.Best.{commandNumbers, repairedBytes, leastCycles}
 use Rattle.rdp_repair.specs.Repair.{RepairIs}
 use Rattle.rdp_repair.specs.Afresh.{AfreshIs}
 use Rattle.rdp_repair.specs.Work.{basisOf, answeredBy}
@@ -49,7 +49,7 @@ room-bounds afresh list work out e =
     let few : length (commandsOf list) ≤ 2048 = commands-few list e in
     let long : length (repairedBytes basis) / 8 ≤ 4096 = omega (arith, repaired-most basis (s .none), s .short) in
     let least : leastCycles basis ≤ 102400 =
-    omega (arith, best-most (numbersOf (commandsOf basis)) 0, length-map (commandsOf basis) firstNumber, count-most basis (s .none), s .short) in
+    omega (arith, best-most (commandNumbers (commandsOf basis)) 0, length-map (commandsOf basis) firstNumber, count-most basis (s .none), s .short) in
     by-test (ltb work (16 * length (commandsOf list))) (λ t. rw t (record { number = tt; place = omega arith; cycles = omega arith }))
     (λ f.
     by-test (ltb out (length (repairedBytes basis)))

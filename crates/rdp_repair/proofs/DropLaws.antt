@@ -13,9 +13,9 @@ use Rattle.rdp_hazards.specs.Hazards.{nextOf, requiredOf}
 use Rattle.rdp_check.specs.Commands.{commandsOf, restOf, wordsIn, joined}
 use Rattle.rdp_check.specs.Check.{repairRefusals}
 use Rattle.rdp_repair.specs.Plan.{waitOf, withOption, applied}
-use Rattle.rdp_repair.specs.Best.{Choice, clearedBy, totalWith, chosen, best, plan, numbersOf, planned, repairedBytes, leastCycles}
-use Rattle.rdp_repair.specs.Afresh.{isSync, others}
-use Rattle.rdp_repair.specs.Work.{drops, basisOf, notedNumber, notedOf, keptWords, keptIn, keptOf, keptAll, insertsOf, optionBytes}
+use Rattle.rdp_repair.specs.Best.{Choice, clearedBy, totalWith, chosen, best, plan, commandNumbers, planned, repairedBytes, leastCycles}
+use Rattle.rdp_repair.specs.Afresh.{isForgotten, others}
+use Rattle.rdp_repair.specs.Work.{drops, basisOf, notedNumber, notedOf, keptWords, keptWordsIn, keptOf, keptAll, insertsOf, optionBytes}
 use Rattle.rdp_hazards.proofs.HazardLaws.{next-small}
 use Rattle.rdp_repair.proofs.ChoiceLaws.{next-hazards-small}
 use Rattle.rdp_repair.proofs.LeastLaws.{right, chosen-next, chosen-total, save}
@@ -76,7 +76,7 @@ remaining-all (c ∷ cs) = ap (λ (x : List (List ℕ)). c ∷ x) (remaining-all
 remaining-others : (cs : List (List ℕ)) → remaining true cs ≡ others cs
 unfolding remaining others
 remaining-others [] = refl
-remaining-others (c ∷ cs) = ap (λ (x : List (List ℕ)). cond (isSync (firstNumber c)) x (c ∷ x)) (remaining-others cs)
+remaining-others (c ∷ cs) = ap (λ (x : List (List ℕ)). cond (isForgotten (firstNumber c)) x (c ∷ x)) (remaining-others cs)
 
 commands-basis : (afresh : Bool) (list : List ℕ) → commandsOf (basisOf afresh list) ≡ remaining afresh (commandsOf list)
 commands-basis false list = sym (remaining-all (commandsOf list))
@@ -96,16 +96,16 @@ none-inserted : (k : ℕ) → min 0 1 + k ≡ k
 none-inserted k = omega arith
 
 module _ (afresh : Bool) where
-  noted-best : (cs : List (List ℕ)) (m : ℕ) → m < 16 → best (notedOf afresh cs) m ≡ best (numbersOf (remaining afresh cs)) m
+  noted-best : (cs : List (List ℕ)) (m : ℕ) → m < 16 → best (notedOf afresh cs) m ≡ best (commandNumbers (remaining afresh cs)) m
   unfolding best notedNumber remaining
   noted-best [] m h = refl
   noted-best (c ∷ cs) m h =
       by-test (drops afresh (firstNumber c))
       (λ t. rw t (idle (notedOf afresh cs) m h .total ∙ noted-best cs m h))
-      (λ f. rw f (ap (λ (ch : Choice). ch .total) (chosen-same (firstNumber c) (best (notedOf afresh cs)) (best (numbersOf (remaining afresh cs))) (noted-best cs) m)))
+      (λ f. rw f (ap (λ (ch : Choice). ch .total) (chosen-same (firstNumber c) (best (notedOf afresh cs)) (best (commandNumbers (remaining afresh cs))) (noted-best cs) m)))
 
   noted-bytes : (cs : List (List ℕ)) (m : ℕ) → m < 16
-      → joined (applied (plan (notedOf afresh cs) m) (keptAll afresh cs)) ≡ joined (applied (plan (numbersOf (remaining afresh cs)) m) (remaining afresh cs))
+      → joined (applied (plan (notedOf afresh cs) m) (keptAll afresh cs)) ≡ joined (applied (plan (commandNumbers (remaining afresh cs)) m) (remaining afresh cs))
   unfolding plan applied notedNumber keptOf remaining
   noted-bytes [] m h = refl
   noted-bytes (c ∷ cs) m h =
@@ -122,14 +122,14 @@ module _ (afresh : Bool) where
       none-before (joined (applied (plan ns m) ks)) ∙
       noted-bytes cs m h))
       (λ f.
-      let ch : Choice = chosen n (best (numbersOf rs)) m in
+      let ch : Choice = chosen n (best (commandNumbers rs)) m in
       rw f
-      (ap (λ (x : Choice). joined (withOption (x .option) c (applied (plan ns (x .next)) ks))) (chosen-same n (best ns) (best (numbersOf rs)) (noted-best cs) m) ∙
+      (ap (λ (x : Choice). joined (withOption (x .option) c (applied (plan ns (x .next)) ks))) (chosen-same n (best ns) (best (commandNumbers rs)) (noted-best cs) m) ∙
       joined-with (ch .option) c (applied (plan ns (ch .next)) ks) ∙
-      ap (λ (x : List ℕ). optionBytes (ch .option) ++ (c ++ x)) (noted-bytes cs (ch .next) (next-hazards-small n (best (numbersOf rs)) m ch refl)) ∙
-      sym (joined-with (ch .option) c (applied (plan (numbersOf rs) (ch .next)) rs))))
+      ap (λ (x : List ℕ). optionBytes (ch .option) ++ (c ++ x)) (noted-bytes cs (ch .next) (next-hazards-small n (best (commandNumbers rs)) m ch refl)) ∙
+      sym (joined-with (ch .option) c (applied (plan (commandNumbers rs) (ch .next)) rs))))
 
-  noted-inserts : (cs : List (List ℕ)) (m : ℕ) → m < 16 → insertsOf (plan (notedOf afresh cs) m) ≡ insertsOf (plan (numbersOf (remaining afresh cs)) m)
+  noted-inserts : (cs : List (List ℕ)) (m : ℕ) → m < 16 → insertsOf (plan (notedOf afresh cs) m) ≡ insertsOf (plan (commandNumbers (remaining afresh cs)) m)
   unfolding plan insertsOf notedNumber remaining
   noted-inserts [] m h = refl
   noted-inserts (c ∷ cs) m h =
@@ -141,17 +141,17 @@ module _ (afresh : Bool) where
       let i = idle ns m h in
       rw t (ap₂ (λ (a k : ℕ). min a 1 + insertsOf (plan ns k)) (i .option) (i .next) ∙ none-inserted (insertsOf (plan ns m)) ∙ noted-inserts cs m h))
       (λ f.
-      let ch : Choice = chosen n (best (numbersOf rs)) m in
+      let ch : Choice = chosen n (best (commandNumbers rs)) m in
       rw f
-      (ap (λ (x : Choice). min (x .option) 1 + insertsOf (plan ns (x .next))) (chosen-same n (best ns) (best (numbersOf rs)) (noted-best cs) m) ∙
-      ap (λ (k : ℕ). min (ch .option) 1 + k) (noted-inserts cs (ch .next) (next-hazards-small n (best (numbersOf rs)) m ch refl))))
+      (ap (λ (x : Choice). min (x .option) 1 + insertsOf (plan ns (x .next))) (chosen-same n (best ns) (best (commandNumbers rs)) (noted-best cs) m) ∙
+      ap (λ (k : ℕ). min (ch .option) 1 + k) (noted-inserts cs (ch .next) (next-hazards-small n (best (commandNumbers rs)) m ch refl))))
 
-  kept-words : (cs : List (List ℕ)) → keptIn afresh cs ≡ wordsIn (remaining afresh cs)
+  kept-words : (cs : List (List ℕ)) → keptWordsIn afresh cs ≡ wordsIn (remaining afresh cs)
   unfolding keptWords remaining
   kept-words [] = refl
   kept-words (c ∷ cs) = by-test (drops afresh (firstNumber c)) (λ t. rw t (omega (arith, kept-words cs))) (λ f. rw f (omega (arith, kept-words cs)))
 
-  pub kept-most : (cs : List (List ℕ)) → keptIn afresh cs ≤ wordsIn cs
+  pub kept-most : (cs : List (List ℕ)) → keptWordsIn afresh cs ≤ wordsIn cs
   unfolding keptWords
   kept-most [] = omega arith
   kept-most (c ∷ cs) = by-test (drops afresh (firstNumber c)) (λ t. rw t (omega (arith, kept-most cs))) (λ f. rw f (omega (arith, kept-most cs)))
@@ -168,21 +168,21 @@ module _ (afresh : Bool) where
 
     pub best-basis : best (notedOf afresh (commandsOf list)) 0 ≡ leastCycles basis
     best-basis =
-        noted-best (commandsOf list) 0 (omega arith) ∙ ap (λ (cs : List (List ℕ)). best (numbersOf cs) 0) (sym (commands-basis afresh list))
+        noted-best (commandsOf list) 0 (omega arith) ∙ ap (λ (cs : List (List ℕ)). best (commandNumbers cs) 0) (sym (commands-basis afresh list))
 
     pub bytes-basis : joined (applied (plan (notedOf afresh (commandsOf list)) 0) (keptAll afresh (commandsOf list))) ≡ repairedBytes basis
     unfolding repairedBytes planned
     bytes-basis =
-        noted-bytes (commandsOf list) 0 (omega arith) ∙ ap (λ (cs : List (List ℕ)). joined (applied (plan (numbersOf cs) 0) cs)) (sym (commands-basis afresh list))
+        noted-bytes (commandsOf list) 0 (omega arith) ∙ ap (λ (cs : List (List ℕ)). joined (applied (plan (commandNumbers cs) 0) cs)) (sym (commands-basis afresh list))
 
-    pub inserts-basis : insertsOf (plan (notedOf afresh (commandsOf list)) 0) ≡ insertsOf (plan (numbersOf (commandsOf basis)) 0)
+    pub inserts-basis : insertsOf (plan (notedOf afresh (commandsOf list)) 0) ≡ insertsOf (plan (commandNumbers (commandsOf basis)) 0)
     inserts-basis =
-        noted-inserts (commandsOf list) 0 (omega arith) ∙ ap (λ (cs : List (List ℕ)). insertsOf (plan (numbersOf cs) 0)) (sym (commands-basis afresh list))
+        noted-inserts (commandsOf list) 0 (omega arith) ∙ ap (λ (cs : List (List ℕ)). insertsOf (plan (commandNumbers cs) 0)) (sym (commands-basis afresh list))
 
-    pub words-basis : keptIn afresh (commandsOf list) ≡ wordsIn (commandsOf basis)
+    pub words-basis : keptWordsIn afresh (commandsOf list) ≡ wordsIn (commandsOf basis)
     words-basis = kept-words (commandsOf list) ∙ ap wordsIn (sym (commands-basis afresh list))
 
     -- a list of whole commands is as long as its words
-    pub long-basis : restOf basis ≡ [] → length basis ≡ 8 * keptIn afresh (commandsOf list)
+    pub long-basis : restOf basis ≡ [] → length basis ≡ 8 * keptWordsIn afresh (commandsOf list)
     long-basis none =
         ap length (sym (joined-whole basis none)) ∙ length-joined (commandsOf basis) (parsed basis .alone) ∙ ap (λ (k : ℕ). 8 * k) (sym words-basis)

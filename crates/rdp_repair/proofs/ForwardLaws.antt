@@ -8,21 +8,21 @@ use native.Mathlib.Omega.{arith}
 use lib.ListN.{length, getD, drop, List·getD-append}
 use lib.Seq.{drop-drop, drop-at, getD-drop}
 use Rattle.rdp_repair.specs.Best.{Choice, chosen, best, plan}
-use Rattle.rdp_repair.specs.Work.{packed, choicesOf, workOf, optionsIn, insertsOf, Below}
+use Rattle.rdp_repair.specs.Work.{packedChoice, choicesOf, workOf, optionsIn, insertsOf, Below}
 use Rattle.rdp_repair.proofs.ChoiceLaws.{option-small, next-hazards-small}
 use Rattle.rdp_repair.proofs.TabulateLaws.{getD-tabulate}
 use Rattle.rdp_repair.proofs.BackLaws.{length-choices}
 
 -- the choice at hazards m in the first sixteen bytes
-choice-first : (n : ℕ) (ns rest : List ℕ) (m : ℕ) → m < 16 → getD (workOf (n ∷ ns) ++ rest) m 0 ≡ packed (chosen n (best ns) m)
+choice-first : (n : ℕ) (ns rest : List ℕ) (m : ℕ) → m < 16 → getD (workOf (n ∷ ns) ++ rest) m 0 ≡ packedChoice (chosen n (best ns) m)
 unfolding workOf choicesOf
 choice-first n ns rest m h =
     ap (λ (l : List ℕ). getD l m 0) (append-assoc (choicesOf n (best ns)) (workOf ns) rest) ∙
     List·getD-append (choicesOf n (best ns)) (workOf ns ++ rest) 0 m (omega (arith, length-choices n (best ns))) ∙
-    getD-tabulate 16 (λ k. packed (chosen n (best ns) k)) m h
+    getD-tabulate 16 (λ k. packedChoice (chosen n (best ns) k)) m h
 
-unpack : (ch : Choice) (byte : ℕ) → byte ≡ packed ch → byte ≡ 16 * ch .option + ch .next
-unfolding packed
+unpack : (ch : Choice) (byte : ℕ) → byte ≡ packedChoice ch → byte ≡ 16 * ch .option + ch .next
+unfolding packedChoice
 unpack ch byte e = e
 
 past : (n : ℕ) (ns rest : List ℕ) → drop 16 (workOf (n ∷ ns) ++ rest) ≡ workOf ns ++ rest

@@ -14,7 +14,7 @@ use Rattle.rdp_command.specs.Decode.{decodeOf}
 use Rattle.rdp_hazards.specs.Hazards.{nextOf, requiredOf}
 use Rattle.rdp_check.specs.Registers.{registersAfter, afterDecoded}
 use Rattle.rdp_check.specs.declared.Registers.{Registers}
-use Rattle.rdp_check.specs.Check.{State, afterCommand, Refusals, ownRefusals, syncRefusals, checkRefusals, repairRefusals, refusalAt, Outcome, settle, judge}
+use Rattle.rdp_check.specs.Check.{State, afterCommand, Refusals, ownRefusals, syncRefusals, checkRefusals, repairRefusals, refusalAt, Judgement, settle, judge}
 use Rattle.rdp_check.specs.Order.{None}
 use Rattle.rdp_hazards.specs.Syncs.{Sync, loadSync, tileSync, pipeSync, syncNumber, syncWord}
 use Rattle.rdp_repair.specs.Plan.{syncAt, withOption, applied}
@@ -30,7 +30,7 @@ abbrev pub Accepted : Refusals → State → List (List ℕ) → Type 0
 Accepted refusals s [] = Unit {0}
 Accepted refusals s (c ∷ cs) = None (refusals s c) × Accepted refusals (afterCommand s c) cs
 
-settled-zero : (g at : ℕ) (s : State) (next : Outcome) → settle g at s next .number ≡ 0 → (g ≡ 0) × (next .number ≡ 0)
+settled-zero : (g at : ℕ) (s : State) (next : Judgement) → settle g at s next .number ≡ 0 → (g ≡ 0) × (next .number ≡ 0)
 settled-zero zero at s next e = (refl, e)
 settled-zero (suc g) at s next e = absurd (omega arith)
 

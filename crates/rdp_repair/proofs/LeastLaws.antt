@@ -11,7 +11,7 @@ use Rattle.rdp_words.specs.Lengths.{firstNumber}
 use Rattle.rdp_hazards.specs.Hazards.{nextOf, requiredOf}
 use Rattle.rdp_repair.specs.Inserted.{Inserted, end, keep, insert}
 use Rattle.rdp_hazards.specs.Syncs.{Sync, syncWait, syncWord}
-use Rattle.rdp_repair.specs.Plan.{syncAt, waitOf, withOption, applied, cyclesOf, FirstOf, same, next, less}
+use Rattle.rdp_repair.specs.Plan.{syncAt, waitOf, withOption, applied, cyclesOf, TiesFirst, same, next, less}
 use Rattle.rdp_repair.specs.Best.{Choice, clearedBy, totalWith, choiceOf, chosen, best, plan, planned}
 use Rattle.rdp_repair.proofs.SyncLaws.{sync-number, sync-requires, by-option, two-as-one, wait-some}
 use Rattle.rdp_repair.proofs.ChoiceLaws.{Right, right-chosen}
@@ -140,7 +140,7 @@ planned-least = least-from 0
 
 -- of the plans that pass and cost least, this is the first
 first-from : (cs : List (List ℕ)) (m : ℕ) (q : List ℕ) → length q ≡ length cs → Passes m (applied q cs) → cyclesOf q ≡ best (map firstNumber cs) m
-    → FirstOf (plan (map firstNumber cs) m) q
+    → TiesFirst (plan (map firstNumber cs) m) q
 unfolding plan applied cyclesOf best totalWith
 first-from [] m [] l h e = same
 first-from [] m (b ∷ q) l h e = absurd (omega arith)
@@ -155,17 +155,17 @@ first-from (c ∷ cs) m (b ∷ q) l h e =
     let low : best ns k ≤ cyclesOf q = least-from k (applied-inserted q cs l′) (g .1) in
     let up : ch .total ≤ best ns k + waitOf b = right n ns m .least b (omega arith) (g .0) in
     let first : ch .option ≤ b = right n ns m .first b (omega arith) (g .0) (omega arith) in
-    let rest : FirstOf (plan ns k) q = first-from cs k q l′ (g .1) (omega arith) in
+    let rest : TiesFirst (plan ns k) q = first-from cs k q l′ (g .1) (omega arith) in
     elim (decLe (suc (ch .option)) b) [
       | yes lt ↦ less lt
       | no ge ↦
           let e : b ≡ ch .option = omega (arith, lt-of-not-le ge) in
-          subst (λ (j : ℕ). FirstOf (ch .option ∷ plan ns j) (b ∷ q)) (sym (chosen-next n ns m))
-          (subst (λ (d : ℕ). FirstOf (d ∷ plan ns (nextOf (clearedBy d m) n)) (b ∷ q)) e (next rest))
+          subst (λ (j : ℕ). TiesFirst (ch .option ∷ plan ns j) (b ∷ q)) (sym (chosen-next n ns m))
+          (subst (λ (d : ℕ). TiesFirst (d ∷ plan ns (nextOf (clearedBy d m) n)) (b ∷ q)) e (next rest))
     ]
 
 pub plan-first : (cs : List (List ℕ)) (q : List ℕ) → length q ≡ length cs → Passes 0 (applied q cs) → cyclesOf q ≡ best (map firstNumber cs) 0
-    → FirstOf (plan (map firstNumber cs) 0) q
+    → TiesFirst (plan (map firstNumber cs) 0) q
 plan-first cs = first-from cs 0
 
 -- ---- a list that costs least has at most one sync before each command, and none at the end
@@ -231,7 +231,7 @@ pub least-single : {cs ds : List (List ℕ)} {k : ℕ} → Inserted cs ds k → 
 least-single = single-from 0
 
 -- only one plan is first: two that each stand before the other or are equal are equal
-pub first-unique : {p q : List ℕ} → FirstOf p q → FirstOf q p → p ≡ q
+pub first-unique : {p q : List ℕ} → TiesFirst p q → TiesFirst q p → p ≡ q
 first-unique same same = refl
 first-unique (next {a = a} f) (next g) = ap (λ (l : List ℕ). a ∷ l) (first-unique f g)
 first-unique (next f) (less h) = absurd (omega arith)

@@ -6,13 +6,13 @@ use Prim.Native.Nat.{ℕ, _+_, _*_, _/_, _%_, _<_, _≤_}
 use native.Mathlib.Omega.{arith}
 use lib.ListN.{length, getD, take, drop, set, length-append, length-take, length-drop, length-set}
 use lib.Seq.{append-snoc, drop-set-lt}
-use Rattle.rdp_words.specs.Words.{wordAt, numberIn, overwrite, pasted}
+use Rattle.rdp_words.specs.Words.{wordAt, numberIn, overwrite, pasted, WrittenIs}
 use Rattle.rdp_words.specs.Kinds.{wordsOf}
 use Rattle.rdp_words.proofs.OverwriteLaws.{overwrite-none, length-overwrite, pasted-after}
 use Rattle.rdp_words.proofs.Tests.{by-test}
 use Rattle.rdp_check.specs.Commands.{commandsOf, joined}
 use Rattle.rdp_repair.specs.Plan.{applied}
-use Rattle.rdp_repair.specs.Work.{tabulate, drops, notedNumber, notedOf, keptWords, keptIn, keptOf, keptAll, notedIn, optionsIn, Below, optionBytes, dueBytes, WholeList, NotedIs, WrittenIs}
+use Rattle.rdp_repair.specs.Work.{tabulate, drops, notedNumber, notedOf, keptWords, keptWordsIn, keptOf, keptAll, notedIn, optionsIn, Below, optionBytes, dueBytes, WholeList, NotedIs}
 use Rattle.rdp_check.proofs.ListLaws.{commandAt, command-number}
 use Rattle.rdp_check.proofs.LeftLaws.{Left, none-left, inside, fits, commands-next, left-next}
 use Rattle.rdp_check.proofs.JoinLaws.{words-inside}
@@ -57,10 +57,10 @@ module _ {list : List ℕ} {words at i : ℕ} (r : Reached list words at i) wher
         ap (notedOf afresh) (commands-next (r .left) more n is count long) ∙
         ap (λ (k : ℕ). notedNumber afresh k ∷ notedOf afresh (commandsOf (drop (8 * (at + count)) list))) (command-number list at n is (fits (r .left) more n is count long))
 
-    pub kept-next : (afresh : Bool) → keptIn afresh (commandsOf (drop (8 * at) list)) ≡ keptWords afresh n + keptIn afresh (commandsOf (drop (8 * (at + count)) list))
+    pub kept-next : (afresh : Bool) → keptWordsIn afresh (commandsOf (drop (8 * at) list)) ≡ keptWords afresh n + keptWordsIn afresh (commandsOf (drop (8 * (at + count)) list))
     kept-next afresh =
-        ap (keptIn afresh) (commands-next (r .left) more n is count long) ∙
-        ap (λ (k : ℕ). keptWords afresh k + keptIn afresh (commandsOf (drop (8 * (at + count)) list))) (command-number list at n is (fits (r .left) more n is count long))
+        ap (keptWordsIn afresh) (commands-next (r .left) more n is count long) ∙
+        ap (λ (k : ℕ). keptWords afresh k + keptWordsIn afresh (commandsOf (drop (8 * (at + count)) list))) (command-number list at n is (fits (r .left) more n is count long))
 
     -- what is kept of the command
     pub command-kept : (afresh : Bool) → keptOf afresh (commandAt list at n) ≡ take (8 * keptWords afresh n) (drop (8 * at) list)
@@ -79,7 +79,7 @@ pub record Noting (afresh : Bool) (list : List ℕ) (words : ℕ) (work₀ work 
   pub reached : Reached list words at i
   pub room : 16 * length (commandsOf list) ≤ length work₀
   pub numbers : notedIn work i ++ notedOf afresh (commandsOf (drop (8 * at) list)) ≡ notedOf afresh (commandsOf list)
-  pub counted : kept + keptIn afresh (commandsOf (drop (8 * at) list)) ≡ keptIn afresh (commandsOf list)
+  pub counted : kept + keptWordsIn afresh (commandsOf (drop (8 * at) list)) ≡ keptWordsIn afresh (commandsOf list)
   pub long : length work ≡ length work₀
   pub beyond : drop (16 * length (commandsOf list)) work ≡ drop (16 * length (commandsOf list)) work₀
 
@@ -95,7 +95,7 @@ module _ {afresh : Bool} {list : List ℕ} {words : ℕ} {work₀ work : List �
   noted-all h =
       record {
         counted = all-passed (t .reached) h;
-        words = omega (arith, t .counted, ap (keptIn afresh) (none-left (t .reached .left) h));
+        words = omega (arith, t .counted, ap (keptWordsIn afresh) (none-left (t .reached .left) h));
         numbers =
             ap (notedIn work) (sym (all-passed (t .reached) h)) ∙
             sym (append-nil (notedIn work i)) ∙

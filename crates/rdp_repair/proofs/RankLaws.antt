@@ -11,7 +11,7 @@ use Rattle.rdp_words.proofs.Tests.{by-test}
 use Rattle.rdp_hazards.specs.Hazards.{nextOf, requiredOf, entryOf}
 use Rattle.rdp_repair.specs.Plan.{waitOf}
 use Rattle.rdp_repair.specs.Best.{Choice, clearedBy, totalWith, choiceOf, prefer, chosen}
-use Rattle.rdp_repair.specs.Work.{tabulate, packed, bareRank, optionRank, syncedRank}
+use Rattle.rdp_repair.specs.Work.{tabulate, packedChoice, bareRank, optionRank, syncedRank}
 use Rattle.rdp_hazards.proofs.HazardLaws.{next-small, entry-parts}
 use Rattle.rdp_repair.proofs.SyncLaws.{required-idle, cleared-load, cleared-tile, cleared-pipe, wait-most}
 use Rattle.rdp_repair.proofs.TabulateLaws.{getD-tabulate}
@@ -35,7 +35,7 @@ module _ (m n e : ℕ) (small : n < 64) (is-e : e ≡ entryOf m n) (f : ℕ → 
 -- ---- ranks compare as choices do
 
 unfoldable pub rankOf : Choice → ℕ
-rankOf ch = 64 * ch .total + packed ch
+rankOf ch = 64 * ch .total + packedChoice ch
 
 module _ (n : ℕ) (f : ℕ → ℕ) (most : (k : ℕ) → f k ≤ 102400) (m : ℕ) where
   -- an option from k on, with its total and next hazards
@@ -72,7 +72,7 @@ module _ (n : ℕ) (f : ℕ → ℕ) (most : (k : ℕ) → f k ≤ 102400) (m : 
 
     rank-prefer :
         (x y : ℕ) → x ≡ bareRank n f (clearedBy a m) + optionRank a → y ≡ rankOf other → min x y ≡ rankOf (prefer n f m a other)
-    unfolding prefer bareRank rankOf packed choiceOf totalWith
+    unfolding prefer bareRank rankOf packedChoice choiceOf totalWith
     rank-prefer x y is-x is-y =
         by-test (eqb (requiredOf (clearedBy a m) n) 0)
         (λ t.
@@ -86,7 +86,7 @@ module _ (n : ℕ) (f : ℕ → ℕ) (most : (k : ℕ) → f k ≤ 102400) (m : 
         (λ g. rw g (omega (arith, rw g at is-x, r .within, r .next, r .total)))
 
   rank-pipe : bareRank n f 0 + optionRank 3 ≡ rankOf (choiceOf n f m 3)
-  unfolding bareRank rankOf packed choiceOf totalWith
+  unfolding bareRank rankOf packedChoice choiceOf totalWith
   rank-pipe = rw (cleared-pipe 0 m, eq-eqb _ _ (required-idle n)) (omega arith)
 
   least-is : min (bareRank n f m) (syncedRank (bareRank n f) (m % 4)) ≡ rankOf (chosen n f m)
@@ -107,11 +107,11 @@ module _ (n : ℕ) (f : ℕ → ℕ) (most : (k : ℕ) → f k ≤ 102400) (m : 
 
   -- the total and the choice, out of the rank
   pub total-of : rankOf (chosen n f m) / 64 ≡ chosen n f m .total
-  unfolding rankOf packed
+  unfolding rankOf packedChoice
   total-of = omega (arith, chosen-ranked .within, chosen-ranked .next)
 
-  pub choice-of : rankOf (chosen n f m) % 64 ≡ packed (chosen n f m)
-  unfolding rankOf packed
+  pub choice-of : rankOf (chosen n f m) % 64 ≡ packedChoice (chosen n f m)
+  unfolding rankOf packedChoice
   choice-of = omega (arith, chosen-ranked .within, chosen-ranked .next)
 
   pub bare-most : (k : ℕ) → bareRank n f k ≤ 0x2000000

@@ -14,7 +14,7 @@ use Rattle.rdp_check.specs.Commands.{commandsOf, restOf, joined}
 use Rattle.rdp_check.specs.Check.{State, ownRefusals, repairRefusals, checked}
 use Rattle.rdp_repair.specs.Plan.{applied}
 use Rattle.rdp_repair.specs.Best.{best, plan, repairedBytes, leastCycles}
-use Rattle.rdp_repair.specs.Work.{basisOf, notedNumber, notedOf, keptIn, keptOf, keptAll, notedIn, workOf, optionsIn, insertsOf, Below, dueBytes, WholeList, NotedIs, BackwardIs, answeredBy, Repairs}
+use Rattle.rdp_repair.specs.Work.{basisOf, notedNumber, notedOf, keptWordsIn, keptOf, keptAll, notedIn, workOf, optionsIn, insertsOf, Below, dueBytes, WholeList, NotedIs, BackwardIs, answeredBy, Repairs}
 use Rattle.rdp_repair.specs.Repair.{LeastRepair, Repairable, repairAnswer, repairOf, outAfter, workAfter, RepairsBy, RepairIs}
 use Rattle.rdp_repair.specs.Afresh.{without, LeastAfresh, AfreshIs}
 use Rattle.rdp_check.specs.declared.Checked.{Checked}
@@ -105,7 +105,7 @@ module _ (afresh : Bool) (list work work′ : List ℕ) (held : work′ ≡ over
       ap (overwrite (replicate k 0)) held ∙
       overwrite-twice (replicate k 0) (workOf ns) work (length-replicate k 0 ∙ sym (work-long afresh (commandsOf list)))
 
--- ---- a list that none of refusals 1 to 6 holds for
+-- ---- a list that none of refusals 1 to 6 and 19 holds for
 
 pub whole-list : (list : List ℕ) (words : ℕ) → judged list .number ≡ 0 → words ≡ length list / 8 → WholeList list words
 whole-list list words e w =
@@ -118,7 +118,7 @@ commands-few list e = let s = sound repairRefusals own-numbered list e in omega 
 -- at most a sync a command, and the words of the list
 pub words-few :
     (afresh : Bool) (list : List ℕ) (words : ℕ) → WholeList list words →
-    keptIn afresh (commandsOf list) + insertsOf (plan (notedOf afresh (commandsOf list)) 0) ≤ 4096
+    keptWordsIn afresh (commandsOf list) + insertsOf (plan (notedOf afresh (commandsOf list)) 0) ≤ 4096
 words-few afresh list words w =
     let p : List ℕ = plan (notedOf afresh (commandsOf list)) 0 in
     omega (
@@ -136,7 +136,7 @@ words-few afresh list words w =
 -- by the words that are kept and those that the plan inserts
 pub words-needed :
     (afresh : Bool) (list : List ℕ) → judged list .number ≡ 0 → (words : ℕ) →
-    words ≡ keptIn afresh (commandsOf list) + insertsOf (plan (notedOf afresh (commandsOf list)) 0) →
+    words ≡ keptWordsIn afresh (commandsOf list) + insertsOf (plan (notedOf afresh (commandsOf list)) 0) →
     (length (repairedBytes (basisOf afresh list)) ≡ 8 * words) × (words ≤ 4096)
 words-needed afresh list e words w =
     let basis : List ℕ = basisOf afresh list in
@@ -222,7 +222,7 @@ module _ (basis list work out : List ℕ) where
 
 -- ---- the two repairs, by what it is to be the least list
 
--- where none of 1 to 6 holds, the repair of `basis` is the least list for the given one, and the only one
+-- where none of 1 to 6 and 19 holds, the repair of `basis` is the least list for the given one, and the only one
 pub record LeastBy (Least : List ℕ → List ℕ → ℕ → Type 0) (basis list : List ℕ) : Type 0 where
   pub is : judged list .number ≡ 0 → Least list (repairedBytes basis) (leastCycles basis)
   pub only : {t : List ℕ} {k : ℕ} → judged list .number ≡ 0 → Least list t k → (t ≡ repairedBytes basis) × (k ≡ leastCycles basis)

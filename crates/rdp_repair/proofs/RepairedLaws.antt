@@ -15,7 +15,7 @@ use Rattle.rdp_check.specs.Refusals.{ofCommands, Free}
 use Rattle.rdp_repair.specs.Inserted.{Inserted, end, keep, insert, MadeByInserting}
 use Rattle.rdp_hazards.specs.Syncs.{Sync, syncWord}
 use Rattle.rdp_repair.specs.Plan.{syncAt, withOption, applied, waitOf, cyclesOf}
-use Rattle.rdp_repair.specs.Best.{best, plan, numbersOf, planned, repairedBytes, leastCycles}
+use Rattle.rdp_repair.specs.Best.{best, plan, commandNumbers, planned, repairedBytes, leastCycles}
 use Rattle.rdp_repair.specs.Work.{insertsOf}
 use Rattle.rdp_repair.specs.Repair.{Makes, LeastRepair}
 use Rattle.rdp_repair.proofs.SyncLaws.{sync-word, sync-number, wait-some}
@@ -74,8 +74,8 @@ unfolding insertsOf
 inserts-most [] = omega arith
 inserts-most (a ∷ p) = omega (arith, inserts-most p)
 
-pub plan-long : (cs : List (List ℕ)) (m : ℕ) → length (plan (numbersOf cs) m) ≡ length cs
-plan-long cs m = length-plan (numbersOf cs) m ∙ length-map cs firstNumber
+pub plan-long : (cs : List (List ℕ)) (m : ℕ) → length (plan (commandNumbers cs) m) ≡ length cs
+plan-long cs m = length-plan (commandNumbers cs) m ∙ length-map cs firstNumber
 
 module _ (s : List ℕ) (none : restOf s ≡ []) where
   -- at most a command a word
@@ -84,10 +84,10 @@ module _ (s : List ℕ) (none : restOf s ≡ []) where
       let a = parsed s .alone in
       omega (arith, count-joined (commandsOf s) a, length-joined (commandsOf s) a, ap length (joined-whole s none))
 
-  pub length-repaired : length (repairedBytes s) ≡ 8 * insertsOf (plan (numbersOf (commandsOf s)) 0) + length s
+  pub length-repaired : length (repairedBytes s) ≡ 8 * insertsOf (plan (commandNumbers (commandsOf s)) 0) + length s
   unfolding repairedBytes planned
   length-repaired =
-      let p = plan (numbersOf (commandsOf s)) 0 in
+      let p = plan (commandNumbers (commandsOf s)) 0 in
       length-applied p (commandsOf s) (plan-long (commandsOf s) 0) ∙
       ap (λ (l : List ℕ). 8 * insertsOf p + length l) (joined-whole s none)
 
@@ -95,13 +95,13 @@ module _ (s : List ℕ) (none : restOf s ≡ []) where
   pub repaired-most : length (repairedBytes s) ≤ 2 * length s
   repaired-most =
       omega
-      (arith, length-repaired, inserts-most (plan (numbersOf (commandsOf s)) 0), plan-long (commandsOf s) 0, count-most)
+      (arith, length-repaired, inserts-most (plan (commandNumbers (commandsOf s)) 0), plan-long (commandsOf s) 0, count-most)
 
   -- a list made by inserting has the commands that it was made of
   commands-made : {ds : List (List ℕ)} {k : ℕ} → Inserted (commandsOf s) ds k → commandsOf (joined ds) ≡ ds
   commands-made {ds} i = commands-joined ds (alone-inserted i (parsed s .alone))
 
-  -- where it has none of refusals 3 to 9, no sync is missing
+  -- where it has none of refusals 3 to 9 and 19, no sync is missing
   made-passes :
       {ds : List (List ℕ)} {k : ℕ} (u : List ℕ) → Inserted (commandsOf s) ds k → joined ds ≡ u → Free checkRefusals u → Passes 0 ds
   made-passes {ds} u i e h =
@@ -122,7 +122,7 @@ module _ (s : List ℕ) (given : Sound repairRefusals s) where
 
   planned-accepted : Accepted checkRefusals start (planned cs)
   unfolding planned
-  planned-accepted = accepted-strict start (planned cs) (applied-accepted (plan (numbersOf cs) 0) start cs (given .accepted)) (planned-passes cs)
+  planned-accepted = accepted-strict start (planned cs) (applied-accepted (plan (commandNumbers cs) 0) start cs (given .accepted)) (planned-passes cs)
 
   repaired-judged : judgeList checkRefusals (repairedBytes s) .number ≡ 0
   unfolding repairedBytes
@@ -145,12 +145,12 @@ module _ (s : List ℕ) (given : Sound repairRefusals s) where
         least = λ u k i h. planned-least (i .1) (made-passes s none u (i .1) (i .2) h);
         planned =
             λ u i h.
-            let r : Single cs (i .0) (best (numbersOf cs) 0) = least-single (i .1) (made-passes s none u (i .1) (i .2) h) refl in
+            let r : Single cs (i .0) (best (commandNumbers cs) 0) = least-single (i .1) (made-passes s none u (i .1) (i .2) h) refl in
             (r .options, (r .one-each, ap joined (r .makes) ∙ i .2), r .waits);
         first = (
-          plan (numbersOf cs) 0,
+          plan (commandNumbers cs) 0,
           (plan-long cs 0, refl),
-          cycles-plan (numbersOf cs) 0,
+          cycles-plan (commandNumbers cs) 0,
           (λ q u m h e. plan-first cs q (m .0) (made-passes s none u (applied-inserted q cs (m .0)) (m .1) h) e),
         );
       }
@@ -191,8 +191,8 @@ unfolding repairedBytes planned
 passes-kept s e =
     let cs = commandsOf s in
     let t = sound checkRefusals check-numbered s e in
-    let zero-best : best (numbersOf cs) 0 ≡ 0 = omega (arith, planned-least (kept cs) (accepted-passes start cs (t .accepted))) in
+    let zero-best : best (commandNumbers cs) 0 ≡ 0 = omega (arith, planned-least (kept cs) (accepted-passes start cs (t .accepted))) in
     let itself : repairedBytes s ≡ s =
-    ap joined (none-applied (plan (numbersOf cs) 0) cs (cycles-plan (numbersOf cs) 0 ∙ zero-best)) ∙ joined-whole s (t .none) in
+    ap joined (none-applied (plan (commandNumbers cs) 0) cs (cycles-plan (commandNumbers cs) 0 ∙ zero-best)) ∙ joined-whole s (t .none) in
     let loose : Sound repairRefusals s = record { short = t .short; words = t .words; none = t .none; accepted = accepted-loose start cs (t .accepted) } in
     subst (λ (k : ℕ). LeastRepair s s k) zero-best (subst (λ (u : List ℕ). LeastRepair s u (leastCycles s)) itself (least-repair s loose))

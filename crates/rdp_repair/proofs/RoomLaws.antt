@@ -9,19 +9,20 @@ use borrow.Author.Tests.{ne-eqb, eqb-true, eqb-false, lt-ltb, ltb-true}
 use lib.Dec.{eqb, ltb}
 use lib.ListN.{length}
 use Rattle.rdp_command.specs.declared.Answer.{Answer}
+use Rattle.rdp_command.specs.Decode.{answer}
 use Rattle.rdp_repair.specs.declared.Repaired.{Repaired}
 use Rattle.rdp_words.proofs.Tests.{by-test, true-of}
 use Rattle.rdp_check.specs.Commands.{commandsOf}
-use Rattle.rdp_check.specs.Order.{Ground, answer, Among}
-use Rattle.rdp_check.specs.Check.{repairRefusals, Outcome, outcomeWithin}
+use Rattle.rdp_check.specs.Order.{Ground, Among}
+use Rattle.rdp_check.specs.Check.{repairRefusals, Judgement, outcomeWithin}
 use Rattle.rdp_check.specs.Refusals.{groundsOf, FirstRefusal}
-use Rattle.rdp_repair.specs.Repair.{Repairable, repairAnswer, repairOf, RepairHolds, ofList, littleWork, littleOut, roomGrounds, repairGrounds, FirstRepairRefusal}
+use Rattle.rdp_repair.specs.Repair.{Repairable, repairAnswer, repairOf, RepairHolds, ofList, littleWork, littleOut, bufferGrounds, repairGrounds, FirstRepairRefusal}
 use Rattle.rdp_check.proofs.OrderLaws.{found, among-left, among-right, among-parts, answered, then-refused, then-accepted}
 use Rattle.rdp_check.proofs.FirstLaws.{own-numbered, to-order, from-order, no-zero, judge-first}
 
 -- ---- by the judgement of the list
 
-abbrev pub judged : List ℕ → Outcome
+abbrev pub judged : List ℕ → Judgement
 judged list = outcomeWithin 2048 repairRefusals list
 
 judged-first : (list : List ℕ) → FirstRefusal 2048 repairRefusals list (judged list .number) (judged list .place)
@@ -37,7 +38,7 @@ module _ (list : List ℕ) (bytes cycles work out : ℕ) where
   ofCommands = groundsOf 2048 repairRefusals list
 
   abbrev ofRoom : List (Ground Answer)
-  ofRoom = roomGrounds list bytes work out
+  ofRoom = bufferGrounds list bytes work out
 
   abbrev needed : Answer
   needed = answer 0 (bytes / 8)
@@ -63,7 +64,7 @@ module _ (list : List ℕ) (bytes cycles work out : ℕ) where
   not-zero n p (littleWork h) z = suc-ne-zero 12 z
   not-zero n p (littleOut h) z = suc-ne-zero 13 z
 
-  -- the repair's answer is 0 exactly where none of 1 to 6, 13 and 14 holds, and is else the first in their order, at its place
+  -- the repair's answer is 0 exactly where none of 1 to 6, 19, 13 and 14 holds, and is else the first in their order, at its place
   pub repair-first : FirstRepairRefusal list bytes work out (repairOf list bytes cycles work out)
   unfolding repairOf
   repair-first =
@@ -77,7 +78,7 @@ module _ (list : List ℕ) (bytes cycles work out : ℕ) where
   unfolding repairOf
   repair-refused ne = ap withCycles (then-refused (judged-first list) ofRoom needed ne) ∙ rw (ne-eqb _ _ ne)
 
-  -- a list that no refusal of 1 to 6 holds for
+  -- a list that no refusal of 1 to 6 and 19 holds for
   unfoldable pub roomed : Repaired
   roomed =
       cond (ltb work (16 * length (commandsOf list))) (repairAnswer 13 (length (commandsOf list)) 0)

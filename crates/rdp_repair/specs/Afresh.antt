@@ -11,20 +11,20 @@ use Rattle.rdp_hazards.specs.Syncs.{loadSync, tileSync, pipeSync, syncNumber, w
 use Rattle.rdp_check.specs.Commands.{commandsOf, restOf, joined}
 use Rattle.rdp_check.specs.Check.{checkRefusals, outcomeOf}
 use Rattle.rdp_check.specs.Refusals.{Free}
-use Rattle.rdp_repair.specs.Plan.{applied, cyclesOf, FirstOf}
+use Rattle.rdp_repair.specs.Plan.{applied, cyclesOf, TiesFirst}
 use Rattle.rdp_repair.specs.Repair.{LeastRepair, RepairsBy}
 use Rattle.rdp_repair.specs.declared.Repaired.{Repaired}
 
 -- ---- the commands that remain
 
 -- the number of a Sync Load, Tile or Pipe
-abbrev pub isSync : ℕ → Bool
-isSync n = (eqb n (syncNumber loadSync) || eqb n (syncNumber tileSync)) || eqb n (syncNumber pipeSync)
+abbrev pub isForgotten : ℕ → Bool
+isForgotten n = (eqb n (syncNumber loadSync) || eqb n (syncNumber tileSync)) || eqb n (syncNumber pipeSync)
 
 -- the commands that are none of these, whatever the other bits of those that are
 unfoldable pub others : List (List ℕ) → List (List ℕ)
 others [] = []
-others (c ∷ cs) = cond (isSync (firstNumber c)) (others cs) (c ∷ others cs)
+others (c ∷ cs) = cond (isForgotten (firstNumber c)) (others cs) (c ∷ others cs)
 
 -- a list without its Load, Tile and Pipe syncs
 unfoldable pub without : List ℕ → List ℕ
@@ -39,13 +39,13 @@ pub record Serves (s u : List ℕ) : Type 0 where
   pub free : Free checkRefusals u
 
 -- a command, where it is a sync with all other bits 0
-unfoldable pub plain : List ℕ → List ℕ
-plain c = cond (isSync (firstNumber c)) (bareWord (firstNumber c)) c
+unfoldable pub bareSync : List ℕ → List ℕ
+bareSync c = cond (isForgotten (firstNumber c)) (bareWord (firstNumber c)) c
 
 -- list u has a plan's syncs, and no others, before the commands of list s that remain; the other bits of its syncs don't count
 pub record HasPlan (s u p : List ℕ) : Type 0 where
   pub one-each : length p ≡ length (others (commandsOf s))
-  pub makes : map plain (commandsOf u) ≡ applied p (others (commandsOf s))
+  pub makes : map bareSync (commandsOf u) ≡ applied p (others (commandsOf s))
   pub waits : cyclesOf p ≡ waiting (commandsOf u)
 
 -- ---- what the second repair writes
@@ -63,7 +63,7 @@ pub record LeastAfresh (s t : List ℕ) (cycles : ℕ) : Type 0 where
   pub repair : LeastRepair (without s) t cycles
   pub first :
       (p : List ℕ) × HasPlan s t p ×
-      ((u : List ℕ) → Serves s u → waiting (commandsOf u) ≡ cycles → (q : List ℕ) × HasPlan s u q × FirstOf p q)
+      ((u : List ℕ) → Serves s u → waiting (commandsOf u) ≡ cycles → (q : List ℕ) × HasPlan s u q × TiesFirst p q)
 
 -- "The first repair's refusals apply in its order, judged on the list as given; the work buffer goes by its commands too": what the first repair ensures,
 -- with this list in place of the least repair

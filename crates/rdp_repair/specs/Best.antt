@@ -47,14 +47,14 @@ plan [] m = []
 plan (n ∷ ns) m = chosen n (best ns) m .option ∷ plan ns (chosen n (best ns) m .next)
 
 -- the numbers of commands; the commands with the least plan from the start, where no hazard stands; and the bytes and the cycles of a list with it
-abbrev pub numbersOf : List (List ℕ) → List ℕ
-numbersOf cs = map firstNumber cs
+abbrev pub commandNumbers : List (List ℕ) → List ℕ
+commandNumbers cs = map firstNumber cs
 
 unfoldable pub planned : List (List ℕ) → List (List ℕ)
-planned cs = applied (plan (numbersOf cs) 0) cs
+planned cs = applied (plan (commandNumbers cs) 0) cs
 
 unfoldable pub repairedBytes : List ℕ → List ℕ
 repairedBytes list = joined (planned (commandsOf list))
 
 abbrev pub leastCycles : List ℕ → ℕ
-leastCycles list = best (numbersOf (commandsOf list)) 0
+leastCycles list = best (commandNumbers (commandsOf list)) 0

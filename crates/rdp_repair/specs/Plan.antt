@@ -31,7 +31,7 @@ cyclesOf [] = 0
 cyclesOf (a ∷ p) = waitOf a + cyclesOf p
 
 -- ties: plan p is q, or has the smaller option at the first command where they differ
-pub data FirstOf : List ℕ → List ℕ → Type 0 where
-  same : FirstOf [] []
-  next : {a : ℕ} {p q : List ℕ} → FirstOf p q → FirstOf (a ∷ p) (a ∷ q)
-  less : {a b : ℕ} {p q : List ℕ} → a < b → FirstOf (a ∷ p) (b ∷ q)
+pub data TiesFirst : List ℕ → List ℕ → Type 0 where
+  same : TiesFirst [] []
+  next : {a : ℕ} {p q : List ℕ} → TiesFirst p q → TiesFirst (a ∷ p) (a ∷ q)
+  less : {a b : ℕ} {p q : List ℕ} → a < b → TiesFirst (a ∷ p) (b ∷ q)

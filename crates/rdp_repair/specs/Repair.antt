@@ -7,12 +7,13 @@ use lib.Dec.{eqb, ltb}
 use lib.ListN.{length, take, replicate}
 use Rattle.rdp_words.specs.Words.{overwrite}
 use Rattle.rdp_command.specs.declared.Answer.{Answer}
-use Rattle.rdp_check.specs.Order.{Ground, ground, firstOf, answer, IsFirst}
+use Rattle.rdp_command.specs.Decode.{answer}
+use Rattle.rdp_check.specs.Order.{Ground, ground, firstOf, IsFirst}
 use Rattle.rdp_check.specs.Commands.{commandsOf, joined}
 use Rattle.rdp_check.specs.Check.{checkRefusals, repairRefusals, outcomeOf}
 use Rattle.rdp_check.specs.Refusals.{Holds, Free, groundsOf}
 use Rattle.rdp_repair.specs.Inserted.{MadeByInserting}
-use Rattle.rdp_repair.specs.Plan.{applied, cyclesOf, FirstOf}
+use Rattle.rdp_repair.specs.Plan.{applied, cyclesOf, TiesFirst}
 use Rattle.rdp_repair.specs.declared.Repaired.{Repaired}
 
 -- ---- the least repair of a list
@@ -32,7 +33,7 @@ pub record LeastRepair (s t : List ℕ) (cycles : ℕ) : Type 0 where
   pub planned : (u : List ℕ) → MadeByInserting s u cycles → Free checkRefusals u → (q : List ℕ) × Makes s q u × (cyclesOf q ≡ cycles)
   pub first :
       (p : List ℕ) × Makes s p t × (cyclesOf p ≡ cycles) ×
-      ((q u : List ℕ) → Makes s q u → Free checkRefusals u → cyclesOf q ≡ cycles → FirstOf p q)
+      ((q u : List ℕ) → Makes s q u → Free checkRefusals u → cyclesOf q ≡ cycles → TiesFirst p q)
 
 -- a list that none of 1 to 6 and 19 holds for
 abbrev pub Repairable : List ℕ → Type 0
@@ -50,14 +51,14 @@ pub data RepairHolds (list : List ℕ) (bytes work out : ℕ) : ℕ → ℕ → 
   littleOut : out < bytes → RepairHolds list bytes work out 14 (bytes / 8)
 
 -- their order: those of the list, "then tests 13, 14"
-abbrev pub roomGrounds : List ℕ → ℕ → ℕ → ℕ → List (Ground Answer)
-roomGrounds list bytes work out =
+abbrev pub bufferGrounds : List ℕ → ℕ → ℕ → ℕ → List (Ground Answer)
+bufferGrounds list bytes work out =
     ground (answer 13 (length (commandsOf list))) (ltb work (16 * length (commandsOf list)))
     ∷ ground (answer 14 (bytes / 8)) (ltb out bytes)
     ∷ []
 
 abbrev pub repairGrounds : List ℕ → ℕ → ℕ → ℕ → List (Ground Answer)
-repairGrounds list bytes work out = groundsOf 2048 repairRefusals list ++ roomGrounds list bytes work out
+repairGrounds list bytes work out = groundsOf 2048 repairRefusals list ++ bufferGrounds list bytes work out
 
 abbrev pub repairAnswer : ℕ → ℕ → ℕ → Repaired
 repairAnswer number place cycles = record { number = number; place = place; cycles = cycles }

@@ -5,7 +5,7 @@ use mathlib.Core.List.{List, [], _∷_, _++_, map}
 use mathlib.Core.Path.{_≡_}
 use lib.Dec.{eqb}
 use lib.ListN.{length, getD, take, drop}
-use Rattle.rdp_words.specs.Words.{overwrite, pasted}
+use Rattle.rdp_words.specs.Words.{overwrite}
 use Rattle.rdp_words.specs.Kinds.{wordsOf}
 use Rattle.rdp_words.specs.Lengths.{firstNumber}
 use Rattle.rdp_hazards.specs.Hazards.{nextOf, requiredOf}
@@ -15,7 +15,7 @@ use Rattle.rdp_repair.specs.Plan.{syncAt, waitOf, applied}
 use Rattle.rdp_repair.specs.Best.{Choice, chosen, best, plan, repairedBytes, leastCycles}
 use Rattle.rdp_check.specs.Check.{repairRefusals, outcomeWithin}
 use Rattle.rdp_repair.specs.Repair.{repairOf, outAfter, workAfter}
-use Rattle.rdp_repair.specs.Afresh.{isSync, without}
+use Rattle.rdp_repair.specs.Afresh.{isForgotten, without}
 use Rattle.rdp_repair.specs.declared.Repaired.{Repaired}
 use Rattle.rdp_repair.specs.declared.repairing.Noted.{Noted}
 use Rattle.rdp_repair.specs.declared.repairing.Planned.{Planned}
@@ -28,8 +28,8 @@ tabulate (suc n) f = f 0 ∷ tabulate n (λ k. f (suc k))
 -- ---- choices as numbers
 
 -- a choice without its total, in a byte: 16 times the option, and the next hazards
-unfoldable pub packed : Choice → ℕ
-packed ch = 16 * ch .option + ch .next
+unfoldable pub packedChoice : Choice → ℕ
+packedChoice ch = 16 * ch .option + ch .next
 
 -- a choice's rank: 64 times its total, and that byte, so that the smaller is the better choice, by the total and then by the option.
 -- The rank of nothing before command number n at hazards m, where the rest costs f; more than any other where a sync is missing
@@ -49,7 +49,7 @@ unfoldable pub totalsOf : ℕ → (ℕ → ℕ) → List ℕ
 totalsOf n f = tabulate 16 (λ m. chosen n f m .total)
 
 unfoldable pub choicesOf : ℕ → (ℕ → ℕ) → List ℕ
-choicesOf n f = tabulate 16 (λ m. packed (chosen n f m))
+choicesOf n f = tabulate 16 (λ m. packedChoice (chosen n f m))
 
 -- each element is at most b
 abbrev pub Bounded : ℕ → List ℕ → Type 0
@@ -59,7 +59,7 @@ Bounded b xs = (k : ℕ) → getD xs k 0 ≤ b
 
 -- the first repair leaves out nothing, the second (`afresh`) the Load, Tile and Pipe syncs; so it repairs the list without them
 abbrev pub drops : Bool → ℕ → Bool
-drops afresh n = afresh && isSync n
+drops afresh n = afresh && isForgotten n
 
 abbrev pub basisOf : Bool → List ℕ → List ℕ
 basisOf afresh list = cond afresh (without list) list
@@ -75,9 +75,9 @@ notedOf afresh cs = map (λ c. notedNumber afresh (firstNumber c)) cs
 unfoldable pub keptWords : Bool → ℕ → ℕ
 keptWords afresh n = cond (drops afresh n) 0 (wordsOf n)
 
-abbrev pub keptIn : Bool → List (List ℕ) → ℕ
-keptIn afresh [] = 0
-keptIn afresh (c ∷ cs) = keptWords afresh (firstNumber c) + keptIn afresh cs
+abbrev pub keptWordsIn : Bool → List (List ℕ) → ℕ
+keptWordsIn afresh [] = 0
+keptWordsIn afresh (c ∷ cs) = keptWords afresh (firstNumber c) + keptWordsIn afresh cs
 
 unfoldable pub keptOf : Bool → List ℕ → List ℕ
 keptOf afresh c = cond (drops afresh (firstNumber c)) [] c
@@ -138,7 +138,7 @@ pub record RowIs (n : ℕ) (after totals choices : List ℕ) : Type 0 where
 -- as it was
 pub record NotedIs (afresh : Bool) (list work : List ℕ) (r : Noted) (work′ : List ℕ) : Type 0 where
   pub counted : r .commands ≡ length (commandsOf list)
-  pub words : r .words ≡ keptIn afresh (commandsOf list)
+  pub words : r .words ≡ keptWordsIn afresh (commandsOf list)
   pub numbers : notedIn work′ (length (commandsOf list)) ≡ notedOf afresh (commandsOf list)
   pub beyond : drop (16 * length (commandsOf list)) work′ ≡ drop (16 * length (commandsOf list)) work
 
@@ -151,13 +151,8 @@ pub record BackwardIs (n cycles : ℕ) (work work′ : List ℕ) : Type 0 where
 pub record PlannedIs (afresh : Bool) (list work : List ℕ) (r : Planned) (work′ : List ℕ) : Type 0 where
   pub commands : r .commands ≡ length (commandsOf list)
   pub cycles : r .cycles ≡ best (notedOf afresh (commandsOf list)) 0
-  pub words : r .words ≡ keptIn afresh (commandsOf list) + insertsOf (plan (notedOf afresh (commandsOf list)) 0)
+  pub words : r .words ≡ keptWordsIn afresh (commandsOf list) + insertsOf (plan (notedOf afresh (commandsOf list)) 0)
   pub choices : work′ ≡ overwrite (workOf (notedOf afresh (commandsOf list))) work
-
--- bytes written to an index, and the index after them
-pub record WrittenIs (bytes : List ℕ) (at next : ℕ) (out out′ : List ℕ) : Type 0 where
-  pub after : next ≡ at + length bytes
-  pub output : out′ ≡ pasted at bytes out
 
 -- ---- what either repair ensures, where it repairs list `basis` for the given one
 

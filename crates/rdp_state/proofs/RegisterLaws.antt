@@ -27,8 +27,8 @@ use Rattle.rdp_command.proofs.CommandLaws.{one-word}
 use Rattle.rdp_command.proofs.ReadLaws.{decodes, decoded-number}
 use Rattle.rdp_check.specs.Commands.{commandsFrom}
 use Rattle.rdp_check.specs.Registers.{noTile, tileOf, noRegisters, withTiles, registersAfter, afterDecoded, describedTiles, sizedTiles}
-use Rattle.rdp_state.specs.RegisterWords.{tileIn, slotOf, setters, storedAt, wordsAfter, tileBy, tilesBy, registersBy, isSet, word, registersIn}
-use Rattle.rdp_state.specs.Replay.{slotRow, slotEntry, slotIn, upTo, wordsUpTo, registersUpTo}
+use Rattle.rdp_state.specs.RegisterWords.{tileIn, slotOf, storedAt, wordsAfter, tileBy, tilesBy, registersBy, isSet, word, registersIn}
+use Rattle.rdp_state.specs.Replay.{slotRow, slotEntry, slotIn, upTo, wordsUpTo, registersUpTo, setters}
 use Rattle.rdp_check.specs.declared.Tile.{Tile}
 use Rattle.rdp_check.specs.declared.Registers.{Registers}
 use Rattle.rdp_check.proofs.ListLaws.{command-there}

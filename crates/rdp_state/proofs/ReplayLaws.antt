@@ -16,7 +16,7 @@ use Rattle.rdp_words.proofs.Tests.{by-test, false-of}
 use Rattle.rdp_words.proofs.KindLaws.{words-most}
 use Rattle.rdp_check.specs.Commands.{commandsOf, restOf}
 use Rattle.rdp_check.specs.Registers.{noRegisters}
-use Rattle.rdp_check.specs.Check.{State, start, afterCommand, Refusals, ownRefusals, syncRefusals, checkRefusals, refusalAt, Outcome, settle, judge, judgeList, outcomeWithin}
+use Rattle.rdp_check.specs.Check.{State, start, afterCommand, Refusals, ownRefusals, syncRefusals, checkRefusals, refusalAt, Judgement, settle, judge, judgeList, outcomeWithin}
 use Rattle.rdp_state.specs.RegisterWords.{tileIn, slotOf, registersIn}
 use Rattle.rdp_state.specs.Resume.{waitedAfter}
 use Rattle.rdp_state.specs.Replay.{upTo, storing, applying, adding, wordsUpTo, registersUpTo, waitedUpTo, endOf}
@@ -128,11 +128,11 @@ registers-final list end file e =
 -- ---- the outcome
 
 -- the commands before the place of an outcome leave the registers of its state
-abbrev Left : State → ℕ → List (List ℕ) → Outcome → Type 0
+abbrev Left : State → ℕ → List (List ℕ) → Judgement → Type 0
 Left s at cs o = registersUpTo (o .place) at (s .registers) cs ≡ o .state .registers
 
 left-next :
-    (s : State) (at : ℕ) (c : List ℕ) (cs : List (List ℕ)) (g : ℕ) (o : Outcome) → at < o .place →
+    (s : State) (at : ℕ) (c : List ℕ) (cs : List (List ℕ)) (g : ℕ) (o : Judgement) → at < o .place →
     Left (afterCommand s c) (at + wordsOf (firstNumber c)) cs o → Left s at (c ∷ cs) (settle g at s o)
 unfolding upTo afterCommand
 left-next s at c cs zero o more l = rw (lt-ltb _ _ more) l

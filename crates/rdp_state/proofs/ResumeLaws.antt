@@ -8,7 +8,7 @@ use lib.Dec.{ltb}
 use lib.ListN.{length}
 use Rattle.rdp_words.proofs.Tests.{by-test}
 use Rattle.rdp_check.specs.Commands.{commandsOf}
-use Rattle.rdp_check.specs.Check.{checkRefusals, Outcome, judge}
+use Rattle.rdp_check.specs.Check.{checkRefusals, Judgement, judge}
 use Rattle.rdp_check.specs.Checkpoint.{judgedOf, checkFrom, StandsAt}
 use Rattle.rdp_check.specs.declared.Checkpoint.{Checkpoint}
 use Rattle.rdp_check.specs.declared.Judged.{Judged}
@@ -64,7 +64,7 @@ module _ (b : Standing) (long : length (b .words) ≡ 32) (bs : List ℕ) where
   abbrev cs : List (List ℕ)
   cs = commandsOf bs
 
-  abbrev o : Outcome
+  abbrev o : Judgement
   o = judge checkRefusals (stateIn b) 0 cs []
 
   abbrev q : Resumed
@@ -77,14 +77,14 @@ module _ (b : Standing) (long : length (b .words) ≡ 32) (bs : List ℕ) where
   left =
       let l = left-in b 0 cs in
       ap (leftAt b bs)
-      (end-at (o .number) (o .place) (judge-gives apart checkRefusals check-apart tt tt (stateIn b) 0 cs []) ∙ ap (λ (x : Outcome). x .place) same) ∙
+      (end-at (o .number) (o .place) (judge-gives apart checkRefusals check-apart tt tt (stateIn b) 0 cs []) ∙ ap (λ (x : Judgement). x .place) same) ∙
       (λ i. record { words = l .words i; waited = l .waited i })
 
   within : length bs ≤ 32768 → put (checkFrom (checkpointOf b) bs) (replayed b bs (checkFrom (checkpointOf b) bs)) ≡ resumedOf b bs
   within few =
       ap (λ (j : Judged). put j (replayed b bs j)) (from-state (stands b) bs few) ∙
       ap (put (judgedOf o)) left ∙
-      ap (λ (x : Outcome). put (judgedOf x) (record { words = q .standing .words; waited = q .standing .waited })) same ∙
+      ap (λ (x : Judgement). put (judgedOf x) (record { words = q .standing .words; waited = q .standing .waited })) same ∙
       resumed-within b bs few
 
   over : 32768 < length bs → put (checkFrom (checkpointOf b) bs) (replayed b bs (checkFrom (checkpointOf b) bs)) ≡ resumedOf b bs

@@ -13,7 +13,7 @@ use Rattle.rdp_words.specs.Kinds.{wordsOf}
 use Rattle.rdp_words.specs.Lengths.{firstNumber}
 use Rattle.rdp_hazards.specs.Hazards.{nextOf}
 use Rattle.rdp_check.specs.Commands.{wordsIn}
-use Rattle.rdp_check.specs.Check.{State, start, afterCommand, checkRefusals, refusalAt, Outcome, outcome, settle, judge}
+use Rattle.rdp_check.specs.Check.{State, start, afterCommand, checkRefusals, refusalAt, Judgement, outcome, settle, judge}
 use Rattle.rdp_check.specs.declared.Registers.{Registers}
 use Rattle.rdp_check.proofs.JoinLaws.{Alone, AllAlone, command-some}
 use Rattle.rdp_check.proofs.StopLaws.{alone-there}
@@ -39,7 +39,7 @@ after-state b long c alone =
     ap (λ (r : Registers). record { hazards = nextOf (b .hazards) (firstNumber c); ended = eqb (firstNumber c) 0x29 || b .ended; registers = r })
     (registers-stored (b .words) long c (alone-there c alone))
 
-abbrev pub outcomeIn : Resumed → Outcome
+abbrev pub outcomeIn : Resumed → Judgement
 outcomeIn q = outcome (q .number) (q .place) (stateIn (q .standing))
 
 settle-state : (g at : ℕ) (b : Standing) (q : Resumed) → outcomeIn (settleIn g at b q) ≡ settle g at (stateIn b) (outcomeIn q)

@@ -1,4 +1,4 @@
--- Document 01, "Registers": the registers after a list, with the check's answer.
+-- Document 01, "Words and lengths": the registers after a list, with the check's answer.
 use Prim.Native.Nat.{ℕ}
 use mathlib.Core.List.{List}
 use Rattle.rdp_check.specs.Check.{outcomeOf}

@@ -6,10 +6,9 @@ use mathlib.Core.List.{List, [], _∷_}
 use lib.Dec.{eqb, ltb, leb}
 use lib.ListN.{getD, set}
 use Rattle.rdp_words.specs.Kinds.{among}
-use Rattle.rdp_command.specs.Layout.{keyGbLines, keyRLines, convertLines, scissorLines, primitiveDepthLines, otherModesLines, tileAreaLines, tileDescriptorLines, fillColorLines, colorLines, primitiveColorLines, combineModeLines, imageLines, depthImageLines, colorImageLines}
-use Rattle.rdp_command.specs.Groups.{natAt, keyGbOf, keyROf, convertOf, scissorOf, primitiveDepthOf, otherModesOf, tileAreaOf, tileDescriptorOf, colorOf, primitiveColorOf, imageOf}
-use Rattle.rdp_command.specs.Reads.{fieldsIn}
-use Rattle.rdp_command.specs.declared.RegisterWords.{RegisterWords}
+use Rattle.rdp_command.specs.Layout.{keyGbLines, keyRLines, convertLines, primitiveDepthLines, colorLines, primitiveColorLines, combineModeLines, depthImageLines}
+use Rattle.rdp_command.specs.Groups.{natAt, keyGbOf, keyROf, convertOf, primitiveDepthOf, colorOf, primitiveColorOf}
+use Rattle.rdp_command.specs.Reads.{fieldsIn, otherModesIn, scissorIn, fillColorIn, colorImageIn, textureImageIn, tileDescriptorIn, tileAreaIn}
 use Rattle.rdp_check.specs.Registers.{colorsOf, combinerOf, modesOf, imagesOf}
 use Rattle.rdp_check.specs.declared.ColorRegister.{ColorRegister}
 use Rattle.rdp_check.specs.declared.Tile.{Tile}
@@ -35,10 +34,6 @@ slotOf n t =
     (cond (leb 0x2A n && ltb n 0x30) (n - 0x2A)
     31)))
 
--- the commands that set a register
-abbrev pub setters : List ℕ
-setters = 0x2A ∷ 0x2B ∷ 0x2C ∷ 0x2D ∷ 0x2E ∷ 0x2F ∷ 0x30 ∷ 0x32 ∷ 0x33 ∷ 0x34 ∷ 0x35 ∷ 0x37 ∷ 0x38 ∷ 0x39 ∷ 0x3A ∷ 0x3B ∷ 0x3C ∷ 0x3D ∷ 0x3E ∷ 0x3F ∷ []
-
 -- the words after a command, by its number and its first word, which is stored where a register is set. Slot 31, which nothing reads, stays
 abbrev pub storedAt : ℕ → List ℕ → ℕ → List ℕ
 storedAt slot words w = cond (eqb slot 31) words (set words slot w)
@@ -54,7 +49,7 @@ colorBy s w = record { set = s; color = colorOf (fieldsIn colorLines w) }
 
 abbrev pub colorsBy : (ℕ → Bool) → (ℕ → ℕ) → Colors
 colorsBy s w =
-    colorsOf (record { set = s 6; color = natAt (fieldsIn fillColorLines (w 6)) 0 }) (colorBy (s 7) (w 7)) (colorBy (s 8) (w 8))
+    colorsOf (record { set = s 6; color = fillColorIn (w 6) }) (colorBy (s 7) (w 7)) (colorBy (s 8) (w 8))
     (record { set = s 9; color = primitiveColorOf (fieldsIn primitiveColorLines (w 9)) })
     (colorBy (s 10) (w 10))
 
@@ -66,14 +61,14 @@ combinerBy s w =
 
 abbrev pub modesBy : (ℕ → Bool) → (ℕ → ℕ) → Modes
 modesBy s w =
-    modesOf (record { set = s 5; modes = otherModesOf (fieldsIn otherModesLines (w 5)) })
+    modesOf (record { set = s 5; modes = otherModesIn (w 5) })
     (record { set = s 4; depth = primitiveDepthOf (fieldsIn primitiveDepthLines (w 4)) })
-    (record { set = s 3; scissor = scissorOf (fieldsIn scissorLines (w 3)) })
+    (record { set = s 3; scissor = scissorIn (w 3) })
 
 abbrev pub imagesBy : (ℕ → Bool) → (ℕ → ℕ) → Images
 imagesBy s w =
-    imagesOf (record { set = s 14; image = imageOf (fieldsIn colorImageLines (w 14)) })
-    (record { set = s 12; image = imageOf (fieldsIn imageLines (w 12)) })
+    imagesOf (record { set = s 14; image = colorImageIn (w 14) })
+    (record { set = s 12; image = textureImageIn (w 12) })
     (record { set = s 13; address = natAt (fieldsIn depthImageLines (w 13)) 0 })
 
 -- a tile by the words of its descriptor and of its size
@@ -81,10 +76,10 @@ abbrev pub tileWith : Bool → ℕ → Bool → ℕ → Tile
 tileWith set d sized a =
     record {
       set = set;
-      descriptor = tileDescriptorOf (fieldsIn tileDescriptorLines d);
+      descriptor = tileDescriptorIn d;
       sized = sized;
-      «upper_left» = tileAreaOf (fieldsIn tileAreaLines a) .«upper_left»;
-      «lower_right» = tileAreaOf (fieldsIn tileAreaLines a) .«lower_right»;
+      «upper_left» = tileAreaIn a .«upper_left»;
+      «lower_right» = tileAreaIn a .«lower_right»;
     }
 
 abbrev pub tileBy : (ℕ → Bool) → (ℕ → ℕ) → ℕ → Tile
@@ -105,24 +100,3 @@ word words k = getD words k 0
 
 abbrev pub registersIn : List ℕ → Registers
 registersIn words = registersBy (isSet words) (word words)
-
--- the words of the registers but the tiles, as layer 1 reads them
-abbrev pub registerWords : List ℕ → RegisterWords
-registerWords words =
-    record {
-      «key_gb» = word words 0;
-      «key_r» = word words 1;
-      convert = word words 2;
-      scissor = word words 3;
-      «primitive_depth» = word words 4;
-      «other_modes» = word words 5;
-      «fill_color» = word words 6;
-      «fog_color» = word words 7;
-      «blend_color» = word words 8;
-      «primitive_color» = word words 9;
-      «environment_color» = word words 10;
-      «combine_mode» = word words 11;
-      «texture_image» = word words 12;
-      «depth_image» = word words 13;
-      «color_image» = word words 14;
-    }

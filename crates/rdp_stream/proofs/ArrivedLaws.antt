@@ -12,9 +12,10 @@ use lib.ListN.{length, take, drop, length-take, length-drop, take-append-drop}
 use lib.Seq.{take-all}
 use Rattle.rdp_words.proofs.Tests.{true-of, false-of, by-test}
 use Rattle.rdp_command.specs.declared.Answer.{Answer}
-use Rattle.rdp_check.specs.Order.{Ground, firstOf, answer, Among, IsFirst}
+use Rattle.rdp_command.specs.Decode.{answer}
+use Rattle.rdp_check.specs.Order.{Ground, firstOf, Among, IsFirst}
 use Rattle.rdp_check.specs.Commands.{commandsOf, restOf, wordsIn}
-use Rattle.rdp_check.specs.Check.{start, checkRefusals, Outcome, judge, judgeList}
+use Rattle.rdp_check.specs.Check.{start, checkRefusals, Judgement, judge, judgeList}
 use Rattle.rdp_check.specs.Refusals.{CommandHolds, commandGrounds}
 use Rattle.rdp_check.proofs.JoinLaws.{parsed, commands-joined, rest-joined, length-split}
 use Rattle.rdp_check.proofs.OrderLaws.{Found, found, among-left, among-right, among-parts, answered, then-refused, then-accepted}
@@ -39,7 +40,7 @@ module _ (list : List ℕ) where
   abbrev whole : List ℕ
   whole = complete list
 
-  abbrev o : Outcome
+  abbrev o : Judgement
   o = judgeList checkRefusals whole
 
   -- the judgement of the complete commands is that of the first 32,768 bytes
@@ -116,7 +117,7 @@ module _ (list : List ℕ) where
 
   end-first : end ≡ firstOf (arrivedGrounds list) (answer 0 (length list / 8))
   end-first =
-      let number : o .number ≡ q .number = ap (λ (x : Outcome). x .number) judged-complete in
+      let number : o .number ≡ q .number = ap (λ (x : Judgement). x .number) judged-complete in
       let other = answer 0 (length list / 8) in
       by-test (eqb (q .number) 0)
       (λ t.

@@ -6,10 +6,10 @@ use native.Mathlib.Omega.{arith}
 use borrow.Author.Tests.{eqb-true, eqb-false, ltb-true}
 use lib.Dec.{T, eqb, ltb, lit≤}
 use lib.ListN.{length, length-append}
+use Rattle.rdp_command.specs.Decode.{answer}
 use Rattle.rdp_words.specs.Kinds.{among, wordsOf}
 use Rattle.rdp_words.specs.Lengths.{firstNumber, wholeWords}
 use Rattle.rdp_words.proofs.Tests.{by-test}
-use Rattle.rdp_check.specs.Order.{answer}
 use Rattle.rdp_check.specs.Check.{State, checkRefusals, refusalAt}
 use Rattle.rdp_check.proofs.OrderLaws.{first-gives}
 use Rattle.rdp_check.proofs.BoundLaws.{check-known}

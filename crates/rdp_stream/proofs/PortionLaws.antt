@@ -14,7 +14,7 @@ use Rattle.rdp_words.proofs.Tests.{by-test}
 use Rattle.rdp_words.proofs.WordLaws.{word-front}
 use Rattle.rdp_words.proofs.PlaceLaws.{is-whole, words-there, words-cut}
 use Rattle.rdp_check.specs.Commands.{commandsOf, restOf, wordsIn, joined}
-use Rattle.rdp_check.specs.Check.{State, start, checkRefusals, refusalAt, Outcome, judge, outcomeWithin, outcomeOf}
+use Rattle.rdp_check.specs.Check.{State, start, checkRefusals, refusalAt, Judgement, judge, outcomeWithin, outcomeOf}
 use Rattle.rdp_state.specs.Resume.{stateIn, idle, standingAfter, settleIn, judgeIn}
 use Rattle.rdp_state.specs.declared.Standing.{Standing}
 use Rattle.rdp_state.specs.declared.Resumed.{Resumed}
@@ -169,7 +169,7 @@ fed-all s at p h (b ∷ bs) cut room =
 -- ---- a list's end
 
 -- a feeding at its end answers as an outcome does, and has its state
-pub record EndsAs (f : Feeding) (o : Outcome) : Type 0 where
+pub record EndsAs (f : Feeding) (o : Judgement) : Type 0 where
   pub number : answerOf f .number ≡ o .number
   pub place : answerOf f .place ≡ o .place
   pub state : stateIn (f .standing) ≡ o .state
@@ -220,7 +220,7 @@ module _ (list : List ℕ) (words : length list % 8 ≡ 0) (few : length list �
   unfolding outcomeWithin
   list-outcome =
       rw (le-ltb 32768 (length list) few, eq-eqb _ _ words)
-      (judge-ending checkRefusals start 0 (commandsOf list) (restOf list) ∙ ap (λ (o : Outcome). ending o (restOf list)) (judged-list list))
+      (judge-ending checkRefusals start 0 (commandsOf list) (restOf list) ∙ ap (λ (o : Judgement). ending o (restOf list)) (judged-list list))
 
   pub list-ends : EndsAs (closed (fedBytes fresh list)) (outcomeOf list)
   list-ends = rw (fed-list list few, list-outcome) (ends (judgedFrom idle 0 list) (length list) (restOf list) words (list-long idle list))

@@ -15,8 +15,8 @@ use Rattle.rdp_state.specs.declared.Standing.{Standing}
 use Rattle.rdp_state.specs.declared.Resumed.{Resumed}
 use Rattle.rdp_stream.specs.declared.Stream.{Stream}
 use Rattle.rdp_command.specs.declared.Answer.{Answer}
+use Rattle.rdp_command.specs.Decode.{answer}
 use Rattle.rdp_stream.specs.declared.Fed.{Fed}
-use Rattle.rdp_check.specs.Order.{answer}
 use Rattle.rdp_stream.specs.Portions.{Feeding, accepted, remembering, afterByte, fedBytes, closingGrounds, closed, answerOf}
 use Rattle.rdp_stream.specs.Records.{isDamaged, standingIn, feedingOf, endedAs, keptIn, streamOf, answered, fedOf, closedOf}
 use Rattle.rdp_stream.specs.Steps.{openOf, Open, answerIn, closingIn, answeredAs, rememberedIn, closedWith}

@@ -10,7 +10,6 @@ use lib.Seq.{take-append-seam, drop-append-seam}
 use Rattle.rdp_words.proofs.Tests.{true-of, by-test}
 use Rattle.rdp_check.specs.Commands.{commandsOf, joined}
 use Rattle.rdp_hazards.specs.Syncs.{waiting}
-use Rattle.rdp_check.specs.Order.{answer}
 use Rattle.rdp_check.proofs.BoundLaws.{among-below}
 use Rattle.rdp_state.specs.After.{listStateOf}
 use Rattle.rdp_state.specs.RegisterWords.{registersIn}
@@ -18,6 +17,7 @@ use Rattle.rdp_state.specs.declared.ListState.{ListState}
 use Rattle.rdp_stream.specs.declared.Stream.{Stream}
 use Rattle.rdp_stream.specs.declared.Kept.{Kept}
 use Rattle.rdp_command.specs.declared.Answer.{Answer}
+use Rattle.rdp_command.specs.Decode.{answer}
 use Rattle.rdp_stream.specs.declared.Fed.{Fed}
 use Rattle.rdp_stream.specs.Portions.{Feeding, fresh, fedBytes, fedPortions, closed, answerOf}
 use Rattle.rdp_stream.specs.Records.{allZero, remembered, isDamaged, feedingOf, keptIn, streamOf, answered, fedOf, closedOf, freshStream, WaitsFor, Call, portion, closing, calledStream, arrivedBy, fedStream}

@@ -7,12 +7,12 @@ use borrow.Author.Tests.{eqb-true, eqb-false}
 use lib.Dec.{eqb, ltb}
 use lib.ListN.{length, take, length-append}
 use lib.Seq.{take-at}
+use Rattle.rdp_command.specs.Decode.{answer}
 use Rattle.rdp_words.specs.Kinds.{wordsOf}
 use Rattle.rdp_words.specs.Lengths.{firstNumber, wholeWords}
 use Rattle.rdp_words.proofs.Tests.{by-test}
 use Rattle.rdp_check.specs.Commands.{commandsOf, wordsIn, joined}
 use Rattle.rdp_check.specs.Check.{checkRefusals, refusalAt}
-use Rattle.rdp_check.specs.Order.{answer}
 use Rattle.rdp_hazards.specs.Syncs.{commandWait, waiting}
 use Rattle.rdp_check.proofs.JoinLaws.{Alone, AllAlone, command-some, commands-joined, length-joined, words-append, joined-append, alone-append}
 use Rattle.rdp_check.proofs.WaitLaws.{command-wait-most, waiting-append, waiting-most}

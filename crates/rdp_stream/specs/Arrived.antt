@@ -7,7 +7,8 @@ use mathlib.Core.Path.{_≡_}
 use lib.Dec.{eqb, ltb}
 use lib.ListN.{length, take}
 use Rattle.rdp_command.specs.declared.Answer.{Answer}
-use Rattle.rdp_check.specs.Order.{Ground, ground, answer, IsFirst}
+use Rattle.rdp_command.specs.Decode.{answer}
+use Rattle.rdp_check.specs.Order.{Ground, ground, IsFirst}
 use Rattle.rdp_check.specs.Commands.{commandsOf, restOf, wordsIn, joined}
 use Rattle.rdp_check.specs.Check.{start, checkRefusals}
 use Rattle.rdp_check.specs.Refusals.{CommandHolds, isSome, commandGrounds}

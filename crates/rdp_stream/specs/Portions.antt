@@ -6,7 +6,8 @@ use lib.Dec.{eqb, ltb}
 use lib.ListN.{length}
 use Rattle.rdp_words.specs.Lengths.{wholeWords}
 use Rattle.rdp_command.specs.declared.Answer.{Answer}
-use Rattle.rdp_check.specs.Order.{Ground, ground, firstOf, answer}
+use Rattle.rdp_command.specs.Decode.{answer}
+use Rattle.rdp_check.specs.Order.{Ground, ground, firstOf}
 use Rattle.rdp_check.specs.Check.{checkRefusals, refusalAt}
 use Rattle.rdp_state.specs.Resume.{stateIn, idle, standingAfter}
 use Rattle.rdp_state.specs.declared.Standing.{Standing}

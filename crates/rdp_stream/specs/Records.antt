@@ -5,9 +5,10 @@ use mathlib.Core.List.{List, [], _∷_, _++_}
 use mathlib.Core.Path.{_≡_}
 use lib.Dec.{eqb, ltb}
 use lib.ListN.{length, take, drop, replicate}
+use Rattle.rdp_command.specs.Decode.{answer}
 use Rattle.rdp_words.specs.Kinds.{among}
 use Rattle.rdp_words.specs.Lengths.{wholeWords}
-use Rattle.rdp_check.specs.Order.{Ground, ground, firstOf, answer}
+use Rattle.rdp_check.specs.Order.{Ground, ground, firstOf}
 use Rattle.rdp_check.specs.Commands.{commandsOf}
 use Rattle.rdp_hazards.specs.Syncs.{waiting}
 use Rattle.rdp_state.specs.declared.Standing.{Standing}

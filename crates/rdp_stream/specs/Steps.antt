@@ -9,7 +9,7 @@ use lib.Seq.{paste}
 use Rattle.rdp_words.specs.Kinds.{wordsOf}
 use Rattle.rdp_words.specs.Lengths.{firstNumber, wholeWords}
 use Rattle.rdp_command.specs.declared.Answer.{Answer}
-use Rattle.rdp_check.specs.Order.{answer}
+use Rattle.rdp_command.specs.Decode.{answer}
 use Rattle.rdp_state.specs.declared.Standing.{Standing}
 use Rattle.rdp_stream.specs.declared.Stream.{Stream}
 use Rattle.rdp_stream.specs.declared.Fed.{Fed}

@@ -12,8 +12,8 @@ use lib.Seq.{take-all}
 use Rattle.rdp_words.specs.Words.{overwrite}
 use Rattle.rdp_words.proofs.Tests.{by-test, neither}
 use Rattle.rdp_command.specs.declared.Answer.{Answer}
-use Rattle.rdp_check.specs.Order.{answer}
-use Rattle.rdp_view.specs.View.{pixelBytes, pixels, unfit, unviewable, outsideMemory, Framebuffer, pixelCount, viewGrounds, viewAnswer, viewOut}
+use Rattle.rdp_command.specs.Decode.{answer}
+use Rattle.rdp_view.specs.View.{pixelBytes, pixels, unfit, unviewable, imageOutside, Framebuffer, pixelCount, viewGrounds, viewAnswer, viewOut}
 use Rattle.rdp_view.specs.Steps.{Enough}
 use Rattle.rdp_view.proofs.PixelLaws.{enough}
 
@@ -35,16 +35,16 @@ area-most width height w h = mul-le-mul w h
 -- ---- 12
 
 module _ (start len address bytes : ℕ) where
-  pub before-start : address < start → true ≡ outsideMemory start len address bytes
+  pub before-start : address < start → true ≡ imageOutside start len address bytes
   before-start h = rw (lt-ltb _ _ h)
 
   module _ (after : start ≤ address) where
-    pub too-long : len < bytes → true ≡ outsideMemory start len address bytes
+    pub too-long : len < bytes → true ≡ imageOutside start len address bytes
     too-long h =
         let past : start + len < address + bytes = omega arith in
         rw (le-ltb _ _ after, lt-ltb _ _ past)
 
-    pub by-distance : bytes ≤ len → ltb (len - bytes) (address - start) ≡ outsideMemory start len address bytes
+    pub by-distance : bytes ≤ len → ltb (len - bytes) (address - start) ≡ imageOutside start len address bytes
     by-distance h =
         by-test (ltb (len - bytes) (address - start))
         (λ t.
@@ -55,7 +55,7 @@ module _ (start len address bytes : ℕ) where
         rw (f, le-ltb _ _ after, le-ltb _ _ inside))
 
   -- where it is inside, so is what the pixels are read from
-  module _ (f : outsideMemory start len address bytes ≡ false) where
+  module _ (f : imageOutside start len address bytes ≡ false) where
     pub inside-start : start ≤ address
     inside-start = ltb-false address start (neither (ltb address start) (ltb (start + len) (address + bytes)) f .0)
 
@@ -97,11 +97,11 @@ module _ (memory : List ℕ) (start : ℕ) (i : Framebuffer) (out : List ℕ) wh
   refused-27 t = refuses _ (rw t) (λ z. omega arith)
 
   module _ (fit : unviewable (i .width) (i .height) (i .size) ≡ false) where
-    pub refused-12 : outsideMemory start len (i .address) bytes ≡ true → Replies (answer 12 0) out
+    pub refused-12 : imageOutside start len (i .address) bytes ≡ true → Replies (answer 12 0) out
     unfolding viewGrounds
     refused-12 t = refuses _ (rw (fit, t)) (λ z. omega arith)
 
-    module _ (inside : outsideMemory start len (i .address) bytes ≡ false) where
+    module _ (inside : imageOutside start len (i .address) bytes ≡ false) where
       pub refused-14 : room < needed → Replies (answer 14 needed) out
       unfolding viewGrounds
       refused-14 h = refuses _ (rw (fit, inside, lt-ltb _ _ h)) (λ z. omega arith)
@@ -127,7 +127,7 @@ view-bounds start len i out =
     (λ f.
     let sides = sides-fit (i .width) (i .height) (i .size) f in
     let most : 4 * pixelCount i ≤ 0x400000 = omega (arith, area-most (i .width) (i .height) (sides .0) (sides .1)) in
-    by-test (outsideMemory start len (i .address) (pixelCount i * pixelBytes (i .size))) (λ t. rw (f, t) (record { number = lit≤ tt; place = lit≤ tt }))
+    by-test (imageOutside start len (i .address) (pixelCount i * pixelBytes (i .size))) (λ t. rw (f, t) (record { number = lit≤ tt; place = lit≤ tt }))
     (λ g.
     by-test (ltb out (4 * pixelCount i)) (λ t. rw (f, g, t) (record { number = lit≤ tt; place = most }))
     (λ h. rw (f, g, h) (record { number = lit≤ tt; place = most }))))

@@ -6,7 +6,8 @@ use lib.Dec.{eqb, ltb}
 use lib.ListN.{length, getD, drop}
 use Rattle.rdp_words.specs.Words.{overwrite}
 use Rattle.rdp_command.specs.declared.Answer.{Answer}
-use Rattle.rdp_check.specs.Order.{Ground, ground, firstOf, answer}
+use Rattle.rdp_command.specs.Decode.{answer}
+use Rattle.rdp_check.specs.Order.{Ground, ground, firstOf}
 
 -- ---- pixels
 
@@ -48,8 +49,8 @@ abbrev pub unviewable : ℕ → ℕ → ℕ → Bool
 unviewable width height size = (unfit width || unfit height) || (eqb size 0 || ltb 3 size)
 
 -- 12: "image outside memory": so many bytes from an address on are not all in the memory of `len` bytes that starts at address `start`
-abbrev pub outsideMemory : ℕ → ℕ → ℕ → ℕ → Bool
-outsideMemory start len address bytes = ltb address start || ltb (start + len) (address + bytes)
+abbrev pub imageOutside : ℕ → ℕ → ℕ → ℕ → Bool
+imageOutside start len address bytes = ltb address start || ltb (start + len) (address + bytes)
 
 -- a framebuffer: its address, its width and height in pixels, and its size number
 pub record Framebuffer : Type 0 where
@@ -68,7 +69,7 @@ pixelCount i = i .width * i .height
 unfoldable pub viewGrounds : ℕ → ℕ → Framebuffer → ℕ → List (Ground Answer)
 viewGrounds start len i out =
     ground (answer 27 0) (unviewable (i .width) (i .height) (i .size))
-    ∷ ground (answer 12 0) (outsideMemory start len (i .address) (pixelCount i * pixelBytes (i .size)))
+    ∷ ground (answer 12 0) (imageOutside start len (i .address) (pixelCount i * pixelBytes (i .size)))
     ∷ ground (answer 14 (4 * pixelCount i)) (ltb out (4 * pixelCount i))
     ∷ []
 

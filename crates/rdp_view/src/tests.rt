@@ -1,7 +1,7 @@
 // What refuses an image: its sides and size, and its place in memory.
 ghost use mathlib.Core.Path.{_≡_};
 ghost use Prim.Native.Nat.{_*_, _≤_};
-ghost use Rattle.rdp_view.specs.View.{pixelBytes, unfit, unviewable, outsideMemory};
+ghost use Rattle.rdp_view.specs.View.{pixelBytes, unfit, unviewable, imageOutside};
 
 // A width or height that is 0 or above 1,024.
 fn is_unfit(side: u32) -> bool
@@ -41,7 +41,7 @@ pub fn image_bytes(count: usize, size: u32) -> usize
 
 // 12: the bytes of the image are not all in memory. No sum of addresses is made, which could be too large.
 pub fn is_outside(start: u64, len: usize, address: u64, bytes: usize) -> bool
-    ensures { λ r. ⌜ r ≡ outsideMemory start len address bytes ⌝ }
+    ensures { λ r. ⌜ r ≡ imageOutside start len address bytes ⌝ }
 {
     if address < start {
         return true;

@@ -1,7 +1,7 @@
 -- `rdp_bench::blender_inputs` meets its contract: the numbers of its parts, joined.
 use mathlib.Core.Path.{_∙_}
 use borrow.Author.Needs.{needs}
-use Rattle.rdp_bench.specs.Mixed.{joined}
+use Rattle.rdp_bench.specs.Mixed.{mixedFive}
 use Rattle.rdp_bench.proofs.blender_inputs.Statement.{statement}
 use Rattle.rdp_bench.proofs.blender_inputs.Tie as tie
 
@@ -15,7 +15,7 @@ join-requires : tie.Need-join-requires
 join-requires c κs = search needs
 
 returns : tie.Need-returns
-returns c = c .join .ensures ∙ (λ i. joined (c .before .before .bytes .ensures i) (c .before .bytes2 .ensures i) 0 0 0)
+returns c = c .join .ensures ∙ (λ i. mixedFive (c .before .before .bytes .ensures i) (c .before .bytes2 .ensures i) 0 0 0)
 
 pub blender-inputs-spec : {M : Type 1} → statement M
 blender-inputs-spec = tie.close (tie.spec bytes-requires bytes-requires-2 join-requires returns)

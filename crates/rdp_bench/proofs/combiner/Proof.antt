@@ -1,7 +1,7 @@
 -- `rdp_bench::combiner` meets its contract: the numbers of its parts, joined.
 use mathlib.Core.Path.{_∙_}
 use borrow.Author.Needs.{needs}
-use Rattle.rdp_bench.specs.Mixed.{joined}
+use Rattle.rdp_bench.specs.Mixed.{mixedFive}
 use Rattle.rdp_bench.proofs.combiner.Statement.{statement}
 use Rattle.rdp_bench.proofs.combiner.Tie as tie
 
@@ -21,7 +21,7 @@ join-requires : tie.Need-join-requires
 join-requires c κs = search needs
 
 returns : tie.Need-returns
-returns c = c .join .ensures ∙ (λ i. joined (c .before .before .before .before .combine .ensures i) (c .before .before .before .key-gb .ensures i) (c .before .before .key-r .ensures i) (c .before .convert .ensures i) 0)
+returns c = c .join .ensures ∙ (λ i. mixedFive (c .before .before .before .before .combine .ensures i) (c .before .before .before .key-gb .ensures i) (c .before .before .key-r .ensures i) (c .before .convert .ensures i) 0)
 
 pub combiner-spec : {M : Type 1} → statement M
 combiner-spec = tie.close (tie.spec combine-requires key-gb-requires key-r-requires convert-requires join-requires returns)

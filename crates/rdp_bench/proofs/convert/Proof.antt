@@ -1,7 +1,7 @@
 -- `rdp_bench::convert` meets its contract: the numbers of its parts, joined.
 use mathlib.Core.Path.{_∙_}
 use borrow.Author.Needs.{needs}
-use Rattle.rdp_bench.specs.Mixed.{joined}
+use Rattle.rdp_bench.specs.Mixed.{mixedFive}
 use Rattle.rdp_bench.proofs.convert.Statement.{statement}
 use Rattle.rdp_bench.proofs.convert.Tie as tie
 
@@ -18,7 +18,7 @@ join-requires : tie.Need-join-requires
 join-requires c κs = search needs
 
 returns : tie.Need-returns
-returns c = c .join .ensures ∙ (λ i. joined (c .before .before .before .flag .ensures i) (c .before .before .halves .ensures i) (c .before .halves2 .ensures i) 0 0)
+returns c = c .join .ensures ∙ (λ i. mixedFive (c .before .before .before .flag .ensures i) (c .before .before .halves .ensures i) (c .before .halves2 .ensures i) 0 0)
 
 pub convert-spec : {M : Type 1} → statement M
 convert-spec = tie.close (tie.spec flag-requires halves-requires halves-requires-2 join-requires returns)

@@ -1,11 +1,11 @@
 -- `rdp_bench::join` meets its contract, by computation.
 use borrow.Author.Needs.{needs}
-use Rattle.rdp_bench.specs.Mixed.{joined}
+use Rattle.rdp_bench.specs.Mixed.{mixedFive}
 use Rattle.rdp_bench.proofs.join.Statement.{statement}
 use Rattle.rdp_bench.proofs.join.Tie as tie
 
 returns : tie.Need-returns
-unfolding joined
+unfolding mixedFive
 returns c = search needs
 
 pub join-spec : {M : Type 1} → statement M

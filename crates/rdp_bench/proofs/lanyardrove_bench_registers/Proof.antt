@@ -2,7 +2,7 @@
 use mathlib.Core.Path.{ap, _∙_}
 use lib.Bits.{bitXor}
 use borrow.Author.Needs.{needs}
-use Rattle.rdp_bench.specs.Mixed.{joined, mixedOf}
+use Rattle.rdp_bench.specs.Mixed.{mixedFive, mixedOf}
 use Rattle.rdp_bench.proofs.lanyardrove_bench_registers.Statement.{statement}
 use Rattle.rdp_bench.proofs.lanyardrove_bench_registers.Tie as tie
 
@@ -33,7 +33,7 @@ join-requires c κs = search needs
 returns : tie.Need-returns
 returns c =
     c .join .ensures ∙
-    (λ i. joined (bitXor (c .before .before .before .before .before .before .answer .ensures i) (c .before .before .before .before .before .tiles .ensures i)) (c .before .before .before .before .colors .ensures i) (c .before .before .before .combiner .ensures i) (c .before .before .modes .ensures i) (c .before .images .ensures i)) ∙
+    (λ i. mixedFive (bitXor (c .before .before .before .before .before .before .answer .ensures i) (c .before .before .before .before .before .tiles .ensures i)) (c .before .before .before .before .colors .ensures i) (c .before .before .before .combiner .ensures i) (c .before .before .modes .ensures i) (c .before .images .ensures i)) ∙
     ap mixedOf (c .before .before .before .before .before .before .before .before .registers-after .ensures)
 
 pub lanyardrove-bench-registers-spec : {M : Type 1} → statement M

@@ -1,7 +1,7 @@
 -- `rdp_bench::modes` meets its contract: the numbers of its parts, joined.
 use mathlib.Core.Path.{_∙_}
 use borrow.Author.Needs.{needs}
-use Rattle.rdp_bench.specs.Mixed.{joined}
+use Rattle.rdp_bench.specs.Mixed.{mixedFive}
 use Rattle.rdp_bench.proofs.modes.Statement.{statement}
 use Rattle.rdp_bench.proofs.modes.Tie as tie
 
@@ -18,7 +18,7 @@ join-requires : tie.Need-join-requires
 join-requires c κs = search needs
 
 returns : tie.Need-returns
-returns c = c .join .ensures ∙ (λ i. joined (c .before .before .before .other-modes .ensures i) (c .before .before .depth .ensures i) (c .before .scissor .ensures i) 0 0)
+returns c = c .join .ensures ∙ (λ i. mixedFive (c .before .before .before .other-modes .ensures i) (c .before .before .depth .ensures i) (c .before .scissor .ensures i) 0 0)
 
 pub modes-spec : {M : Type 1} → statement M
 modes-spec = tie.close (tie.spec other-modes-requires depth-requires scissor-requires join-requires returns)

@@ -1,7 +1,7 @@
 -- `rdp_bench::tile` meets its contract: the numbers of its parts, joined.
 use mathlib.Core.Path.{_∙_}
 use borrow.Author.Needs.{needs}
-use Rattle.rdp_bench.specs.Mixed.{joined}
+use Rattle.rdp_bench.specs.Mixed.{mixedFive}
 use Rattle.rdp_bench.proofs.tile.Statement.{statement}
 use Rattle.rdp_bench.proofs.tile.Tie as tie
 
@@ -18,7 +18,7 @@ join-requires : tie.Need-join-requires
 join-requires c κs = search needs
 
 returns : tie.Need-returns
-returns c = c .join .ensures ∙ (λ i. joined (c .before .before .before .bits .ensures i) (c .before .before .descriptor .ensures i) (c .before .halves .ensures i) (c .before .before .before .before .args .h) 0)
+returns c = c .join .ensures ∙ (λ i. mixedFive (c .before .before .before .bits .ensures i) (c .before .before .descriptor .ensures i) (c .before .halves .ensures i) (c .before .before .before .before .args .h) 0)
 
 pub tile-spec : {M : Type 1} → statement M
 tile-spec = tie.close (tie.spec bits-requires descriptor-requires halves-requires join-requires returns)

@@ -5,13 +5,13 @@ use native.Mathlib.Numerals.{add-one}
 use native.Mathlib.Omega.{arith}
 use lib.ListN.{length, drop}
 use borrow.Author.Needs.{needs}
-use Rattle.rdp_bench.specs.Mixed.{tilesOf}
+use Rattle.rdp_bench.specs.Mixed.{mixedTiles}
 use Rattle.rdp_bench.proofs.TileLaws.{one-more, none-left}
 use Rattle.rdp_bench.proofs.tiles.Statement.{statement}
 use Rattle.rdp_bench.proofs.tiles.Tie as tie
 
 abbrev Inv-loop : tie.InvT-loop
-Inv-loop all q₀ i₀ q i = (i ≤ 8) × (tilesOf q (drop i all) ≡ tilesOf 0 all)
+Inv-loop all q₀ i₀ q i = (i ≤ 8) × (mixedTiles q (drop i all) ≡ mixedTiles 0 all)
 
 abbrev μ-loop : tie.MeasureT-loop
 μ-loop all q₀ i₀ q i = 8 - i
@@ -40,7 +40,7 @@ in-tiles c = search (needs, c .before .before .loop-test .taken)
 loop-again : tie.Need-loop-again Inv-loop μ-loop
 loop-again c = (
   omega (arith, c .before .before .loop-test .taken),
-  (λ j. tilesOf (c .tile .ensures j) (drop (add-one (c .before .before .before .loop .i) j) (c .before .before .before .before .args .t1))) ∙
+  (λ j. mixedTiles (c .tile .ensures j) (drop (add-one (c .before .before .before .loop .i) j) (c .before .before .before .before .args .t1))) ∙
       one-more (c .before .before .before .before .args .t1) _ (c .before .before .before .loop .i) (c .before .before .before .loop .q) (in-tiles c) ∙
       c .before .before .before .loop .inv .1,
 )

@@ -2,8 +2,8 @@
 use mathlib.Core.Path.{_≡_, refl, sym, ap, _∙_}
 use native.Mathlib.Omega.{arith}
 use borrow.Author.Needs.{needs}
+use Rattle.rdp_command.specs.Decode.{answer}
 use Rattle.rdp_check.specs.Check.{checkOf}
-use Rattle.rdp_check.specs.Order.{answer}
 use Rattle.rdp_draw.specs.Draw.{memories}
 use Rattle.rdp_draw.proofs.DrawLaws.{accepted, answer-checked, answer-texture, answer-acts, drawn-kept, drawn-acted}
 use Rattle.rdp_draw.proofs.draw.Statement.{statement}

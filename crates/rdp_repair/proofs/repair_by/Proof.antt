@@ -15,7 +15,7 @@ check-for-repair-requires c κs = search needs
 returns : tie.Need-returns
 returns c = refused _ _ _ _ _ (c .before .check-for-repair .ensures) (c .if1 .taken)
 
--- none of refusals 1 to 6 holds
+-- none of refusals 1 to 6 and 19 holds
 clean : (c : tie.After-check-for-repair) → c .check-for-repair .result .number ≡ 0 → outcomeWithin 2048 repairRefusals (c .before .before .before .before .args .list .now) .number ≡ 0
 clean c e = sym (λ i. c .check-for-repair .ensures i .number) ∙ e
 

@@ -6,9 +6,9 @@ use Prim.Native.Nat.{ℕ, _+_, _*_, _-_, _≤_}
 use native.Mathlib.Omega.{arith}
 use borrow.Author.Needs.{needs}
 use lib.ListN.{length, take, drop}
+use Rattle.rdp_command.specs.Decode.{answer}
 use Rattle.rdp_words.specs.Words.{overwrite}
-use Rattle.rdp_check.specs.Order.{answer}
-use Rattle.rdp_view.specs.View.{pixelBytes, pixels, unviewable, outsideMemory, Framebuffer, pixelCount}
+use Rattle.rdp_view.specs.View.{pixelBytes, pixels, unviewable, imageOutside, Framebuffer, pixelCount}
 use Rattle.rdp_view.specs.Steps.{Enough}
 use Rattle.rdp_view.proofs.ViewLaws.{sides-fit, from-part, inside-start, inside-end, refused-27, refused-12, refused-14, viewed, pixels-there}
 use Rattle.rdp_view.proofs.view.Statement.{statement}
@@ -55,12 +55,12 @@ module _ (o : tie.After-is-outside) where
   count-is : o .before .before .pixel-count .result ≡ pixelCount image
   count-is = o .before .before .pixel-count .ensures .0
 
-  outside-is : o .is-outside .result ≡ outsideMemory (s .args .start) (length memory) (s .args .address) (pixelCount image * pixelBytes (s .args .size))
+  outside-is : o .is-outside .result ≡ imageOutside (s .args .start) (length memory) (s .args .address) (pixelCount image * pixelBytes (s .args .size))
   outside-is =
       o .is-outside .ensures ∙
-      ap (outsideMemory (s .args .start) (length memory) (s .args .address)) (o .before .image-bytes .ensures ∙ ap (λ (k : ℕ). k * pixelBytes (s .args .size)) count-is)
+      ap (imageOutside (s .args .start) (length memory) (s .args .address)) (o .before .image-bytes .ensures ∙ ap (λ (k : ℕ). k * pixelBytes (s .args .size)) count-is)
 
-  inside : o .is-outside .result ≡ false → outsideMemory (s .args .start) (length memory) (s .args .address) (pixelCount image * pixelBytes (s .args .size)) ≡ false
+  inside : o .is-outside .result ≡ false → imageOutside (s .args .start) (length memory) (s .args .address) (pixelCount image * pixelBytes (s .args .size)) ≡ false
   inside f = sym outside-is ∙ f
 
   abbrev bytes : ℕ

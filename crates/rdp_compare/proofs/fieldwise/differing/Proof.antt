@@ -2,7 +2,7 @@ use mathlib.Core.Path.{_≡_, ap, sym, _∙_}
 use native.Mathlib.Omega.{arith}
 use lib.ListN.{length, take}
 use denote.Ref.{now}
-use Rattle.rdp_compare.specs.Differing.{fieldsIn}
+use Rattle.rdp_compare.specs.Differing.{fieldNumbers}
 use Rattle.rdp_compare.proofs.DifferingLaws.{as-long, as-many, in-words, front, same-suffix, other-suffix}
 use borrow.Author.Needs.{needs}
 use Rattle.rdp_compare.proofs.fieldwise.differing.Statement.{statement}
@@ -26,12 +26,12 @@ array-share-prefix-one c = search needs
 -- the numbers of the fields of the first command, and of the second
 firsts :
     (c : tie.After-numbers-of) →
-    take (c .numbers-of .result) (c .numbers-of .last .1 .1 .0) ≡ fieldsIn (now (c .before .before .before .before .args .first))
+    take (c .numbers-of .result) (c .numbers-of .last .1 .1 .0) ≡ fieldNumbers (now (c .before .before .before .before .args .first))
 firsts c = front (now (c .before .before .before .before .args .first)) (c .numbers-of .ensures .0 .0) _ (c .numbers-of .ensures .1)
 
 seconds :
     (c : tie.After-numbers-of2) →
-    take (c .numbers-of2 .result) (c .numbers-of2 .last .1 .1 .0) ≡ fieldsIn (now (c .before .before .before .before .before .before .before .args .second))
+    take (c .numbers-of2 .result) (c .numbers-of2 .last .1 .1 .0) ≡ fieldNumbers (now (c .before .before .before .before .before .before .before .args .second))
 seconds c = front (now (c .before .before .before .before .before .before .before .args .second)) (c .numbers-of2 .ensures .0 .0) _ (c .numbers-of2 .ensures .1)
 
 slice-aggregate-field-bits : tie.Need-slice-aggregate-field-bits

@@ -8,7 +8,7 @@ use lib.ListN.{length}
 use denote.Ref.{now}
 use Rattle.rdp_command.specs.Layout.{Line, layout}
 use Rattle.rdp_encode.specs.Table.{linesAt, AllReadable}
-use Rattle.rdp_encode.specs.Placed.{packed}
+use Rattle.rdp_encode.specs.Placed.{atLines}
 use Rattle.rdp_encode.proofs.TableLaws.{row-lines, row-room, row-readable}
 use Rattle.rdp_encode.proofs.LayoutLaws.{rest-lt, word-lt}
 use borrow.Author.Needs.{needs}
@@ -44,8 +44,8 @@ module _ (c : tie.After-lines-of) where
   readable : AllReadable (linesAt table first (length numbers))
   readable = row-readable table (c .before .before .pre .0 .agrees) number small (c .lines-of .ensures .0) (c .lines-of .ensures .1) (length numbers) (c .before .before .pre .0 .long)
 
-  packed-as : {r : ℕ} → r ≡ packed (c .before .before .args .k) (linesAt table first (length numbers)) numbers → r ≡ packed (c .before .before .args .k) (layout number) numbers
-  packed-as e = e ∙ ap (λ (ls : List Line). packed (c .before .before .args .k) ls numbers) lines
+  packed-as : {r : ℕ} → r ≡ atLines (c .before .before .args .k) (linesAt table first (length numbers)) numbers → r ≡ atLines (c .before .before .args .k) (layout number) numbers
+  packed-as e = e ∙ ap (λ (ls : List Line). atLines (c .before .before .args .k) ls numbers) lines
 
 packed-requires : tie.Need-packed-requires
 packed-requires c κs =
@@ -65,7 +65,7 @@ add-result : tie.Need-add-result
 add-result c =
     let at = c .before .before .before in
     let w = word-lt (number at) (small at) (numbers at) 0 (lit< tt) in
-    let r = packed-as at (c .before .before .packed .ensures) ∙ ap (λ (k : ℕ). packed k (layout (number at)) (numbers at)) (c .before .if1 .taken) in
+    let r = packed-as at (c .before .before .packed .ensures) ∙ ap (λ (k : ℕ). atLines k (layout (number at)) (numbers at)) (c .before .if1 .taken) in
     record { fits = rw (c .fixed-bits .ensures, r) w }
 
 returns : tie.Need-returns

@@ -10,7 +10,7 @@ use borrow.Author.Needs.{needs}
 use denote.Ref.{now}
 use Rattle.rdp_command.specs.Layout.{Line}
 use Rattle.rdp_encode.specs.Table.{lineOf, linesAt, Readable}
-use Rattle.rdp_encode.specs.Placed.{placed, packed}
+use Rattle.rdp_encode.specs.Placed.{atLine, atLines}
 use Rattle.rdp_encode.proofs.TableLaws.{lines-long, line-at, readable-line}
 use Rattle.rdp_encode.proofs.PackLaws.{packedFrom, packed-step, packed-end}
 use Rattle.rdp_encode.proofs.packing.packed.Statement.{statement}
@@ -18,7 +18,7 @@ use Rattle.rdp_encode.proofs.packing.packed.Tie as tie
 
 abbrev Inv-loop : tie.InvT-loop
 Inv-loop table first word numbers sum₀ k₀ sum k = let ls = linesAt table first (length numbers) in
-    (k ≤ length numbers) × (sum + packedFrom ls numbers word k ≡ packed word ls numbers)
+    (k ≤ length numbers) × (sum + packedFrom ls numbers word k ≡ atLines word ls numbers)
 
 abbrev μ-loop : tie.MeasureT-loop
 μ-loop table first word numbers sum₀ k₀ sum k = length numbers - k
@@ -55,12 +55,12 @@ module _ (c : tie.At-loop Inv-loop μ-loop) where
 
     -- the number of the line, and what is to come after it
     stepped :
-        {r : ℕ} → r ≡ cond (eqb (lineOf (getD table (first + c .loop .k) 0) .word) word) (placed (lineOf (getD table (first + c .loop .k) 0)) (getD numbers (c .loop .k) 0)) 0 →
+        {r : ℕ} → r ≡ cond (eqb (lineOf (getD table (first + c .loop .k) 0) .word) word) (atLine (lineOf (getD table (first + c .loop .k) 0)) (getD numbers (c .loop .k) 0)) 0 →
         packedFrom ls numbers word (c .loop .k) ≡ r + packedFrom ls numbers word (c .loop .k + 1)
     stepped e =
         packed-step ls numbers long (c .loop .k) h word ∙
         ap (λ (x : ℕ). x + packedFrom ls numbers word (c .loop .k + 1))
-        (ap (λ (l : Line). cond (eqb (l .word) word) (placed l (getD numbers (c .loop .k) 0)) 0) line ∙ sym e)
+        (ap (λ (l : Line). cond (eqb (l .word) word) (atLine l (getD numbers (c .loop .k) 0)) 0) line ∙ sym e)
 
 loop-holds : tie.Need-loop-holds Inv-loop μ-loop
 loop-holds c = (zero-le, zero-add _)

@@ -5,7 +5,7 @@ use native.Mathlib.Omega.{arith}
 use borrow.Author.Needs.{needs}
 use lib.ListN.{length, getD, length-set}
 use Rattle.rdp_repair.specs.Best.{chosen}
-use Rattle.rdp_repair.specs.Work.{packed, totalsOf, choicesOf, Bounded}
+use Rattle.rdp_repair.specs.Work.{packedChoice, totalsOf, choicesOf, Bounded}
 use Rattle.rdp_repair.proofs.RankLaws.{rankOf, least-held, total-of, choice-of, bare-most}
 use Rattle.rdp_repair.proofs.TabulateLaws.{Holds, holds-more, holds-all, tabulate-same, tabulate-most}
 use Rattle.rdp_repair.proofs.plan.row_before.Statement.{statement}
@@ -97,7 +97,7 @@ returns c =
           tabulate-same 16 (λ j. r j / 64) (λ j. chosen n f j .total) (λ j h. ap (λ (x : ℕ). x / 64) (rank j h) ∙ total-of n f (s .pre .2) j);
       choices-are =
           holds-all (t .loop .choices) (λ j. r j % 64) 16 (inv .2) (rw all at (inv .4)) ∙
-          tabulate-same 16 (λ j. r j % 64) (λ j. packed (chosen n f j)) (λ j h. ap (λ (x : ℕ). x % 64) (rank j h) ∙ choice-of n f (s .pre .2) j);
+          tabulate-same 16 (λ j. r j % 64) (λ j. packedChoice (chosen n f j)) (λ j h. ap (λ (x : ℕ). x % 64) (rank j h) ∙ choice-of n f (s .pre .2) j);
     }
 
 pub row-before-spec : {M : Type 1} → statement M

@@ -2,10 +2,11 @@
 use mathlib.Core.Path.{_≡_, ap, _∙_}
 use Rattle.rdp_command.specs.Reads.{registerFields}
 use Rattle.rdp_command.specs.declared.RegisterFields.{RegisterFields}
-use Rattle.rdp_state.specs.RegisterWords.{registerWords, registersBy}
+use Rattle.rdp_state.specs.RegisterWords.{registersBy}
 use borrow.Author.Needs.{needs}
 use Rattle.rdp_state.proofs.updates.registers_of.Statement.{statement}
 use Rattle.rdp_state.proofs.updates.registers_of.Tie as tie
+use Rattle.rdp_state.specs.Replay.{registerWords}
 
 words-in-requires : tie.Need-words-in-requires
 words-in-requires c κs = search needs
