@@ -1,6 +1,5 @@
 -- Refusals 1 and 2 of a list, as building and a question call for them. Assumes nothing.
 use mathlib.Core.Path.{_≡_, refl, sym, ap, _∙_}
-use mathlib.Core.Bool.{cond}
 use mathlib.Core.List.{List}
 use Prim.Native.Nat.{ℕ, _/_, _%_, _≤_, _<_}
 use native.Mathlib.Nat.{suc-ne-zero}
@@ -9,22 +8,17 @@ use lib.Dec.{eqb, ltb}
 use lib.ListN.{length}
 use Rattle.rdp_words.proofs.Tests.{by-test}
 use Rattle.rdp_command.specs.declared.Answer.{Answer}
-use Rattle.rdp_check.specs.Order.{answer}
+use Rattle.rdp_command.specs.Decode.{answer}
 use Rattle.rdp_index.specs.Index.{refusedAt, askOf}
-use Rattle.rdp_index.specs.Steps.{IndexIs}
+use Rattle.rdp_index.specs.Steps.{sizeAnswer, IndexIs}
 use Rattle.rdp_index.proofs.ReadLaws.{ask-long, ask-odd}
 use Rattle.rdp_index.proofs.NoteLaws.{index-long, index-odd, refused}
-
--- what `noting::size_answer` answers
-abbrev sized : List ℕ → Answer
-sized list =
-    cond (ltb 32768 (length list)) (answer 1 4096) (cond (eqb (length list % 8) 0) (answer 0 (length list / 8)) (answer 2 (length list / 8)))
 
 -- by the refusal that holds, or none
 by-size :
     (P : Answer → Type 0) (list : List ℕ) → (32768 < length list → P (answer 1 4096)) →
     (length list ≤ 32768 → (length list % 8 ≡ 0 → ⊥) → P (answer 2 (length list / 8))) →
-    (length list ≤ 32768 → length list % 8 ≡ 0 → P (answer 0 (length list / 8))) → P (sized list)
+    (length list ≤ 32768 → length list % 8 ≡ 0 → P (answer 0 (length list / 8))) → P (sizeAnswer list)
 by-size P list long odd whole =
     by-test (ltb 32768 (length list)) (λ t. rw (t) (long (ltb-true _ _ t)))
     (λ f.
@@ -35,7 +29,7 @@ pub record Sized (list : List ℕ) : Type 0 where
   pub short : length list ≤ 32768
   pub words : length list % 8 ≡ 0
 
-module _ (list : List ℕ) (r : Answer) (is : r ≡ sized list) where
+module _ (list : List ℕ) (r : Answer) (is : r ≡ sizeAnswer list) where
   pub size-none : r .number ≡ 0 → Sized list
   size-none z =
       by-size (λ a. a .number ≡ 0 → Sized list) list (λ h e. absurd (suc-ne-zero 0 e)) (λ s h e. absurd (suc-ne-zero 1 e))

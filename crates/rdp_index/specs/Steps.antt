@@ -1,15 +1,22 @@
 -- What the private functions of #111 promise.
-use Prim.Native.Nat.{ℕ, _*_, _/_, _≤_}
-use mathlib.Core.Bool.{true}
+use Prim.Native.Nat.{ℕ, _*_, _/_, _%_, _≤_}
+use mathlib.Core.Bool.{true, cond}
 use mathlib.Core.List.{List}
 use mathlib.Core.Path.{_≡_}
+use lib.Dec.{eqb, ltb}
 use lib.ListN.{length, take}
 use Rattle.rdp_words.specs.Words.{wordAt, numberIn}
 use Rattle.rdp_words.specs.Kinds.{wordsOf}
 use Rattle.rdp_words.specs.Lengths.{wholeWords}
 use Rattle.rdp_command.specs.declared.Answer.{Answer}
+use Rattle.rdp_command.specs.Decode.{answer}
 use Rattle.rdp_check.specs.Commands.{commandsOf}
 use Rattle.rdp_index.specs.Index.{entriesOf, indexAnswer, startsAt, replaceAnswer}
+
+-- 1 and 2 of a list, or 0 at its words
+abbrev pub sizeAnswer : List ℕ → Answer
+sizeAnswer list =
+    cond (ltb 32768 (length list)) (answer 1 4096) (cond (eqb (length list % 8) 0) (answer 0 (length list / 8)) (answer 2 (length list / 8)))
 
 -- building into room for 64 entries: the answer, and where it is 0 the entries at the front
 pub record IndexIs (list : List ℕ) (r : Answer) (made : List ℕ) : Type 0 where

@@ -1,14 +1,11 @@
 // The entries of a list, in one pass.
-ghost use mathlib.Core.Bool.{cond};
 ghost use mathlib.Core.Path.{_≡_};
-ghost use Prim.Native.Nat.{_/_, _%_, _≤_};
-ghost use lib.Dec.{eqb, ltb};
+ghost use Prim.Native.Nat.{_%_, _≤_};
 ghost use lib.ListN.{length, take, drop};
 ghost use Rattle.rdp_words.specs.Words.{pasted};
 ghost use Rattle.rdp_hazards.specs.Hazards.{Agrees};
-ghost use Rattle.rdp_check.specs.Order.{answer};
 ghost use Rattle.rdp_index.specs.Index.{indexAnswer, roomAnswer};
-ghost use Rattle.rdp_index.specs.Steps.{IndexIs};
+ghost use Rattle.rdp_index.specs.Steps.{sizeAnswer, IndexIs};
 use rdp_command::Answer;
 use rdp_hazards::hazards;
 use rdp_hazards::table;
@@ -65,8 +62,7 @@ fn note(table: &[u8; 1024], list: &[u8], made: &mut [u32]) -> Answer
 
 // Refusals 1 and 2 of a list, or 0 at its words.
 pub fn size_answer(list: &[u8]) -> Answer
-    ensures { λ r. ⌜ r ≡ cond (ltb 32768 (length (now (list .entry)))) (answer 1 4096)
-        (cond (eqb (length (now (list .entry)) % 8) 0) (answer 0 (length (now (list .entry)) / 8)) (answer 2 (length (now (list .entry)) / 8))) ⌝ }
+    ensures { λ r. ⌜ r ≡ sizeAnswer (now (list .entry)) ⌝ }
 {
     let len = list.len();
     if rdp_check::MOST_BYTES < len {
