@@ -56,28 +56,34 @@ mostThird = 0xFFFFFF
 abbrev pub plain : Answer → Reply
 plain a = reply (a .number) 0 (a .place)
 
+-- the check: the third number is the cause
+abbrev pub checkReply : List ℕ → Reply
+checkReply list = reply (checkOf list .number) (min (checkOf list .cause) mostThird) (checkOf list .place)
+
+-- a call on a record: the third number is the cycles that the record has waited after it, 0 at 28 (#105)
+abbrev pub toldReply : Fed → Reply
+toldReply x = reply (x .answer .number) (cond (eqb (x .answer .number) 28) 0 (x .after .waited)) (x .answer .place)
+
+-- a portion that a record takes, and the closing of its list
+abbrev pub feedReply : Stream → List ℕ → Reply
+feedReply r portion = toldReply (fedOf r portion)
+
+abbrev pub closeReply : Stream → Reply
+closeReply r = toldReply (closedOf r)
+
+-- with the record after it
+abbrev pub fedPacked : Stream → List ℕ → Packed
+fedPacked r portion = record { after = fedOf r portion .after; answer = packed (feedReply r portion) }
+
+abbrev pub closedPacked : Stream → Packed
+closedPacked r = record { after = closedOf r .after; answer = packed (closeReply r) }
+
 -- a step of the hazards, of which four bits count, by a number, of which six do: the third number is the sync that the command requires, and 4 more where it
 -- is missing; the place is the hazards after it
 abbrev pub stepReply : ℕ → ℕ → Reply
 stepReply hazards number =
     let t = transitionOf (hazards % 16) (number % 64) in
     reply 0 (t .required + cond (t .missing) 4 0) (t .next)
-
--- the check: the third number is the cause
-abbrev pub checkReply : List ℕ → Reply
-checkReply list = reply (checkOf list .number) (min (checkOf list .cause) mostThird) (checkOf list .place)
-
--- the repair: the third number is the cycles
-abbrev pub repairReply : Repaired → Reply
-repairReply r = reply (r .number) (r .cycles) (r .place)
-
--- a number that is the repair's answer, where it leaves its buffers so
-abbrev pub RepairReplies : List ℕ → List ℕ → List ℕ → ℕ → List ℕ → List ℕ → Type 0
-RepairReplies list work out w work′ out′ = (r : Repaired) × (w ≡ packed (repairReply r)) × RepairIs list work out r work′ out′
-
--- the second repair's (#109), likewise; its cycles are all waiting
-abbrev pub AfreshReplies : List ℕ → List ℕ → List ℕ → ℕ → List ℕ → List ℕ → Type 0
-AfreshReplies list work out w work′ out′ = (r : Repaired) × (w ≡ packed (repairReply r)) × AfreshIs list work out r work′ out′
 
 -- #111: building
 abbrev pub buildReply : List ℕ → List ℕ → Reply
@@ -97,6 +103,18 @@ replaceReply list entries place new = plain (replaceAnswer list entries place ne
 abbrev pub ReplaceReplies : List ℕ → List ℕ → ℕ → List ℕ → ℕ → List ℕ → List ℕ → Type 0
 ReplaceReplies list entries place new w list′ entries′ = (r : Answer) × (w ≡ packed (plain r)) × ReplaceIs list entries place new r list′ entries′
 
+-- the repair: the third number is the cycles
+abbrev pub repairReply : Repaired → Reply
+repairReply r = reply (r .number) (r .cycles) (r .place)
+
+-- a number that is the repair's answer, where it leaves its buffers so
+abbrev pub RepairReplies : List ℕ → List ℕ → List ℕ → ℕ → List ℕ → List ℕ → Type 0
+RepairReplies list work out w work′ out′ = (r : Repaired) × (w ≡ packed (repairReply r)) × RepairIs list work out r work′ out′
+
+-- the second repair's (#109), likewise; its cycles are all waiting
+abbrev pub AfreshReplies : List ℕ → List ℕ → List ℕ → ℕ → List ℕ → List ℕ → Type 0
+AfreshReplies list work out w work′ out′ = (r : Repaired) × (w ≡ packed (repairReply r)) × AfreshIs list work out r work′ out′
+
 -- drawing on memory of `len` bytes that starts at address `start`, with texture memory of `size` bytes
 abbrev pub drawReply : List ℕ → ℕ → ℕ → ℕ → Reply
 drawReply list start len size = plain (drawAnswer list start len size)
@@ -104,6 +122,36 @@ drawReply list start len size = plain (drawAnswer list start len size)
 -- an image of memory of `len` bytes that starts at address `start`, as RGBA rows in an output of `room` bytes (#113)
 abbrev pub viewReply : ℕ → ℕ → Framebuffer → ℕ → Reply
 viewReply start len i room = plain (viewAnswer start len i room)
+
+-- two lists compared (#110): no third number
+abbrev pub compareReply : List ℕ → List ℕ → ℕ → Reply
+compareReply first second room = plain (compareAnswer first second room)
+
+-- the most that a place can be; where it stands for a byte of a list, it stands for that and more
+abbrev pub mostPlace : ℕ
+mostPlace = 0xFFFFFFFF
+
+-- where the rest of the longer list begins: the comparison's number; the third number is the list, 0 the first and 1 the second; the place is the byte
+abbrev pub restReply : List ℕ → List ℕ → ℕ → Reply
+restReply first second room = let r = restStart first second room in reply (r .number) (boolByte (r .second)) (min (r .start) mostPlace)
+
+-- of a memory 4,294,967,288 bytes count as lent, so that every offset fits 32 bits: what lies beyond counts as not lent
+abbrev pub mostLent : ℕ
+mostLent = 0xFFFFFFF8
+
+abbrev pub lentPart : List ℕ → List ℕ
+lentPart memory = take (min (length memory) mostLent) memory
+
+-- a display list, written as an RDP list (#108): the third number is the display list commands read
+abbrev pub translatedReply : Translated → Reply
+translatedReply t = reply (t .number) (t .read) (t .place)
+
+abbrev pub translateReply : List ℕ → ℕ → ℕ → Reply
+translateReply memory start room = translatedReply (translateAnswer (lentPart memory) start room)
+
+-- the output after it; at a refusal, as it was
+abbrev pub translateBytes : List ℕ → ℕ → List ℕ → List ℕ
+translateBytes memory start out = translateOut (lentPart memory) start out
 
 -- a decoded command of number n: the third number is n where its fields are written; the place is their count
 abbrev pub decodedReply : ℕ → List ℕ → Decoded → Reply
@@ -137,69 +185,21 @@ madeBytes suffix out (Refused a) = out
 abbrev pub encodeBytes : ℕ → List ℕ → List ℕ → List ℕ → List ℕ
 encodeBytes number fields suffix out = madeBytes suffix out (fromNumbers number fields)
 
--- a call on a record: the third number is the cycles that the record has waited after it, 0 at 28 (#105)
-abbrev pub toldReply : Fed → Reply
-toldReply x = reply (x .answer .number) (cond (eqb (x .answer .number) 28) 0 (x .after .waited)) (x .answer .place)
-
--- a portion that a record takes, and the closing of its list
-abbrev pub feedReply : Stream → List ℕ → Reply
-feedReply r portion = toldReply (fedOf r portion)
-
-abbrev pub closeReply : Stream → Reply
-closeReply r = toldReply (closedOf r)
-
--- with the record after it
-abbrev pub fedPacked : Stream → List ℕ → Packed
-fedPacked r portion = record { after = fedOf r portion .after; answer = packed (feedReply r portion) }
-
-abbrev pub closedPacked : Stream → Packed
-closedPacked r = record { after = closedOf r .after; answer = packed (closeReply r) }
-
--- of a memory 4,294,967,288 bytes count as lent, so that every offset fits 32 bits: what lies beyond counts as not lent
-abbrev pub mostLent : ℕ
-mostLent = 0xFFFFFFF8
-
-abbrev pub lentPart : List ℕ → List ℕ
-lentPart memory = take (min (length memory) mostLent) memory
-
--- a display list, written as an RDP list (#108): the third number is the display list commands read
-abbrev pub translatedReply : Translated → Reply
-translatedReply t = reply (t .number) (t .read) (t .place)
-
-abbrev pub translateReply : List ℕ → ℕ → ℕ → Reply
-translateReply memory start room = translatedReply (translateAnswer (lentPart memory) start room)
-
--- the output after it; at a refusal, as it was
-abbrev pub translateBytes : List ℕ → ℕ → List ℕ → List ℕ
-translateBytes memory start out = translateOut (lentPart memory) start out
-
--- two lists compared (#110): no third number
-abbrev pub compareReply : List ℕ → List ℕ → ℕ → Reply
-compareReply first second room = plain (compareAnswer first second room)
-
--- the most that a place can be; where it stands for a byte of a list, it stands for that and more
-abbrev pub mostPlace : ℕ
-mostPlace = 0xFFFFFFFF
-
--- where the rest of the longer list begins: the comparison's number; the third number is the list, 0 the first and 1 the second; the place is the byte
-abbrev pub restReply : List ℕ → List ℕ → ℕ → Reply
-restReply first second room = let r = restStart first second room in reply (r .number) (boolByte (r .second)) (min (r .start) mostPlace)
-
 -- the answers that there are; of a record, its held bytes are 176 and its place is a 32-bit number, as is a place that is asked
 pub data Occurs : Reply → Type 0 where
-  ofStep : (hazards number : ℕ) → Occurs (stepReply hazards number)
   ofCheck : (list : List ℕ) → Occurs (checkReply list)
-  ofRepair : {list work out work′ out′ : List ℕ} {r : Repaired} → RepairIs list work out r work′ out′ → Occurs (repairReply r)
-  ofAfresh : {list work out work′ out′ : List ℕ} {r : Repaired} → AfreshIs list work out r work′ out′ → Occurs (repairReply r)
+  ofFeed : (r : Stream) → length (r .held) ≡ 176 → r .place < 2 ^ 32 → (portion : List ℕ) → Occurs (feedReply r portion)
+  ofClose : (r : Stream) → length (r .held) ≡ 176 → r .place < 2 ^ 32 → Occurs (closeReply r)
+  ofStep : (hazards number : ℕ) → Occurs (stepReply hazards number)
   ofBuild : (list entries : List ℕ) → Occurs (buildReply list entries)
   ofAsk : (list entries : List ℕ) (place : ℕ) → place < 2 ^ 32 → Occurs (askReply list entries place)
   ofReplace : (list entries : List ℕ) (place : ℕ) (new : List ℕ) → place < 2 ^ 32 → Occurs (replaceReply list entries place new)
+  ofRepair : {list work out work′ out′ : List ℕ} {r : Repaired} → RepairIs list work out r work′ out′ → Occurs (repairReply r)
+  ofAfresh : {list work out work′ out′ : List ℕ} {r : Repaired} → AfreshIs list work out r work′ out′ → Occurs (repairReply r)
   ofDraw : (list : List ℕ) (start len size : ℕ) → Occurs (drawReply list start len size)
   ofView : (start len : ℕ) (i : Framebuffer) (room : ℕ) → Occurs (viewReply start len i room)
-  ofDecode : (list fields : List ℕ) → Occurs (decodeReply list fields)
-  ofEncode : (number : ℕ) (fields suffix out : List ℕ) → Occurs (encodeReply number fields suffix out)
-  ofFeed : (r : Stream) → length (r .held) ≡ 176 → r .place < 2 ^ 32 → (portion : List ℕ) → Occurs (feedReply r portion)
-  ofClose : (r : Stream) → length (r .held) ≡ 176 → r .place < 2 ^ 32 → Occurs (closeReply r)
-  ofTranslate : (memory : List ℕ) (start room : ℕ) → start < 2 ^ 32 → Occurs (translateReply memory start room)
   ofCompare : (first second : List ℕ) (room : ℕ) → Occurs (compareReply first second room)
   ofRest : (first second : List ℕ) (room : ℕ) → Occurs (restReply first second room)
+  ofTranslate : (memory : List ℕ) (start room : ℕ) → start < 2 ^ 32 → Occurs (translateReply memory start room)
+  ofDecode : (list fields : List ℕ) → Occurs (decodeReply list fields)
+  ofEncode : (number : ℕ) (fields suffix out : List ℕ) → Occurs (encodeReply number fields suffix out)

@@ -1,4 +1,4 @@
-// The functions for callers in C. Every answer is one 64-bit number, returned in a register; include/lanyardrove.h declares them.
+// The functions for callers in C. Every answer is one 64-bit number, returned in a register; include/lanyardrove.h declares them, in this order.
 ghost use mathlib.Core.Bool.{cond};
 ghost use mathlib.Core.Path.{_≡_};
 ghost use Prim.Native.Nat.{_+_, _<_, _^_, min};
@@ -31,14 +31,21 @@ fn third_of(count: usize) -> u32
     0xFF_FFFF
 }
 
-// A sync that a command requires as a third number: 4 more where it is missing.
-fn third_of_sync(required: u8, missing: bool) -> u32
-    ensures { λ r. ⌜ r ≡ required + cond missing 4 0 ⌝ }
+// The version of this library: major, minor and patch number, eight bits each. The header has the same number.
+#[no_mangle]
+pub extern "C" fn lanyardrove_version() -> u32
+    ensures { λ r. ⌜ r ≡ 0x070100 ⌝ }
 {
-    if missing {
-        return required as u32 + 4;
-    }
-    required as u32
+    0x070100
+}
+
+// The check of a list: the first of refusals 1 to 9 and 19, or 0 and the words of the list. The third number is the cause.
+#[no_mangle]
+pub extern "C" fn lanyardrove_check(list: &[u8]) -> u64
+    ensures { λ r. ⌜ r ≡ packed (checkReply (now (list .entry))) ⌝ }
+{
+    let checked = rdp_check::check(list);
+    pack(checked.number, third_of(checked.cause), checked.place)
 }
 
 // The cycles that a record has waited as a third number: none where 28 refuses the record.
@@ -51,20 +58,72 @@ fn third_of_record(number: u32, waited: u32) -> u32
     waited
 }
 
-// The version of this library: major, minor and patch number, eight bits each. The header has the same number.
-#[no_mangle]
-pub extern "C" fn lanyardrove_version() -> u32
-    ensures { λ r. ⌜ r ≡ 0x070100 ⌝ }
-{
-    0x070100
+// A record after a call, and the call's answer as one number.
+pub struct Packed {
+    pub after: Stream,
+    pub answer: u64,
 }
 
-// The words of the command that begins with a word: a plain count.
-#[no_mangle]
-pub extern "C" fn lanyardrove_words(first: u64) -> u64
-    ensures { λ r. ⌜ r ≡ commandWords first ⌝ }
+// A portion fed to a record by value.
+fn feed_packed(before: Stream, portion: &[u8]) -> Packed
+    ensures { λ r. ⌜ r ≡ fedPacked before (now (portion .entry)) ⌝ }
 {
-    rdp_words::command_words(first) as u64
+    let fed = rdp_stream::feed_value(before, portion);
+    let after = fed.after;
+    let told = fed.answer;
+    let third = third_of_record(told.number, after.waited);
+    let answer = pack(told.number, third, told.place);
+    Packed { after, answer }
+}
+
+// The closing of a record by value.
+fn close_packed(before: Stream) -> Packed
+    ensures { λ r. ⌜ r ≡ closedPacked before ⌝ }
+{
+    let closed = rdp_stream::close_value(before);
+    let left = closed.after;
+    let last = closed.answer;
+    let cycles = third_of_record(last.number, left.waited);
+    let answer = pack(last.number, cycles, last.place);
+    Packed {
+        after: left,
+        answer,
+    }
+}
+
+// Takes a portion of a list into the caller's record, where it stands: 0 and the words of the commands accepted so far, or the refusal that the record
+// remembers from then on, 1, or 4 to 9 or 19 at a command; 28 at 0 where the record is damaged. The third number is the cycles that the commands accepted
+// have waited.
+#[no_mangle]
+pub extern "C" fn lanyardrove_stream_feed(lent: &mut Stream, portion: &[u8]) -> u64
+    ensures { λ r. ⌜ (r ≡ fedPacked (now (lent .entry)) (now (portion .entry)) .answer) × (now (lent .exit) ≡ fedPacked (now (lent .entry)) (now (portion .entry)) .after) ⌝ }
+{
+    let before = *lent;
+    let both = feed_packed(before, portion);
+    *lent = both.after;
+    both.answer
+}
+
+// Closes the list of the caller's record: 0 and its words, or the refusal that the record remembers, 2, 3 or an earlier one; 28 at 0 where the record is
+// damaged. The third number is the cycles that the commands accepted have waited.
+#[no_mangle]
+pub extern "C" fn lanyardrove_stream_close(lent: &mut Stream) -> u64
+    ensures { λ r. ⌜ (r ≡ closedPacked (now (lent .entry)) .answer) × (now (lent .exit) ≡ closedPacked (now (lent .entry)) .after) ⌝ }
+{
+    let before = *lent;
+    let both = close_packed(before);
+    *lent = both.after;
+    both.answer
+}
+
+// A sync that a command requires as a third number: 4 more where it is missing.
+fn third_of_sync(required: u8, missing: bool) -> u32
+    ensures { λ r. ⌜ r ≡ required + cond missing 4 0 ⌝ }
+{
+    if missing {
+        return required as u32 + 4;
+    }
+    required as u32
 }
 
 // One step of the hazards by the number of a command: 0, the sync that it requires and 4 where it is missing as the third number, and the hazards after it
@@ -76,34 +135,6 @@ pub extern "C" fn lanyardrove_step(hazards: u32, number: u32) -> u64
     let step = rdp_hazards::step((hazards % 16) as u8, (number % 64) as u8);
     let third = third_of_sync(step.required, step.missing);
     pack(0, third, step.next as u32)
-}
-
-// The check of a list: the first of refusals 1 to 9 and 19, or 0 and the words of the list. The third number is the cause.
-#[no_mangle]
-pub extern "C" fn lanyardrove_check(list: &[u8]) -> u64
-    ensures { λ r. ⌜ r ≡ packed (checkReply (now (list .entry))) ⌝ }
-{
-    let checked = rdp_check::check(list);
-    pack(checked.number, third_of(checked.cause), checked.place)
-}
-
-// The repair of a list: the first of refusals 1 to 6, 19, 13 and 14, or 0, the cycles and the words written.
-#[no_mangle]
-pub extern "C" fn lanyardrove_repair(list: &[u8], work: &mut [u8], out: &mut [u8]) -> u64
-    ensures { λ r. ⌜ RepairReplies (now (list .entry)) (now (work .entry)) (now (out .entry)) r (now (work .exit)) (now (out .exit)) ⌝ }
-{
-    let repaired = rdp_repair::repair(list, work, out);
-    pack(repaired.number, repaired.cycles, repaired.place)
-}
-
-// The second repair (#109), which chooses the Load, Tile and Pipe syncs of a list afresh: the first of the repair's refusals, or 0, all waiting and the words
-// written.
-#[no_mangle]
-pub extern "C" fn lanyardrove_repair_afresh(list: &[u8], work: &mut [u8], out: &mut [u8]) -> u64
-    ensures { λ r. ⌜ AfreshReplies (now (list .entry)) (now (work .entry)) (now (out .entry)) r (now (work .exit)) (now (out .exit)) ⌝ }
-{
-    let renewed = rdp_repair::repair_afresh(list, work, out);
-    pack(renewed.number, renewed.cycles, renewed.place)
 }
 
 // The entries of a list at every 64th command (#111): the first of refusals 1 to 3, then 14 at the entries needed, or 0 and the entries.
@@ -142,6 +173,25 @@ pub extern "C" fn lanyardrove_index_replace(
     pack(replaced.number, 0, replaced.place)
 }
 
+// The repair of a list: the first of refusals 1 to 6, 19, 13 and 14, or 0, the cycles and the words written.
+#[no_mangle]
+pub extern "C" fn lanyardrove_repair(list: &[u8], work: &mut [u8], out: &mut [u8]) -> u64
+    ensures { λ r. ⌜ RepairReplies (now (list .entry)) (now (work .entry)) (now (out .entry)) r (now (work .exit)) (now (out .exit)) ⌝ }
+{
+    let repaired = rdp_repair::repair(list, work, out);
+    pack(repaired.number, repaired.cycles, repaired.place)
+}
+
+// The second repair (#109), which chooses the Load, Tile and Pipe syncs of a list afresh: the first of the repair's refusals, or 0, all waiting and the words
+// written.
+#[no_mangle]
+pub extern "C" fn lanyardrove_repair_afresh(list: &[u8], work: &mut [u8], out: &mut [u8]) -> u64
+    ensures { λ r. ⌜ AfreshReplies (now (list .entry)) (now (work .entry)) (now (out .entry)) r (now (work .exit)) (now (out .exit)) ⌝ }
+{
+    let renewed = rdp_repair::repair_afresh(list, work, out);
+    pack(renewed.number, renewed.cycles, renewed.place)
+}
+
 // Drawing a list into memory that starts at an address, with texture memory: the first of refusals 1 to 9, 19, 16, and 10, 11, 17, 12 and 18, or 0 and the words of
 // the list.
 #[no_mangle]
@@ -175,6 +225,71 @@ pub extern "C" fn lanyardrove_view(
 {
     let viewed = rdp_view::view(memory, start, address, width, height, size, out);
     pack(viewed.number, 0, viewed.place)
+}
+
+// Compares two lists, command by command: the first of refusals 1, 2 and 3 of the first list, then of the second, then 14 at the numbers needed, or 0 and the
+// numbers written, four for each pair of commands that differ in number or a field.
+#[no_mangle]
+pub extern "C" fn lanyardrove_compare(first: &[u8], second: &[u8], entries: &mut [u32]) -> u64
+    ensures reply { λ r. ⌜ r ≡ packed (compareReply (now (first .entry)) (now (second .entry)) (length (now (entries .entry)))) ⌝ }
+    ensures entries { λ _. ⌜ now (entries .exit) ≡ entriesAfter (now (first .entry)) (now (second .entry)) (now (entries .entry)) ⌝ }
+{
+    let compared = rdp_compare::differences(first, second, entries);
+    pack(compared.number, 0, compared.place)
+}
+
+// A byte of a list as a place: at most 4,294,967,295, which stands for that and more.
+fn place_of(byte: usize) -> u32
+    ensures { λ r. ⌜ r ≡ min byte mostPlace ⌝ }
+{
+    if byte < 0xFFFF_FFFF {
+        return byte as u32;
+    }
+    0xFFFF_FFFF
+}
+
+// Where the rest begins of the list that has more commands, where so many numbers are lent to a comparison: the comparison's number, the list (0 or 1) as the
+// third number, and the byte.
+#[no_mangle]
+pub extern "C" fn lanyardrove_rest(first: &[u8], second: &[u8], count: usize) -> u64
+    ensures { λ r. ⌜ r ≡ packed (restReply (now (first .entry)) (now (second .entry)) count) ⌝ }
+{
+    let rest = rdp_compare::rest_start(first, second, count);
+    let list = rest.second as u32;
+    let byte = place_of(rest.start);
+    pack(rest.number, list, byte)
+}
+
+// How many bytes of a memory count as lent: at most 4,294,967,288, so that every offset fits 32 bits.
+fn lent_length(length: usize) -> usize
+    ensures { λ r. ⌜ r ≡ min length mostLent ⌝ }
+{
+    if length < 0xFFFF_FFF8 {
+        return length;
+    }
+    0xFFFF_FFF8
+}
+
+// Writes the RDP list of the Fast3DEX2 display list at an offset of a memory: the first of refusals 20 to 23 at the offset of the refused command, then 14 at
+// the words needed, or 0 and the words written. The third number is the display list commands read.
+#[no_mangle]
+pub extern "C" fn lanyardrove_translate(memory: &[u8], start: u32, out: &mut [u8]) -> u64
+    ensures reply { λ r. ⌜ r ≡ packed (translateReply (now (memory .entry)) start (length (now (out .entry)))) ⌝ }
+    ensures output { λ _. ⌜ now (out .exit) ≡ translateBytes (now (memory .entry)) start (now (out .entry)) ⌝ }
+{
+    let end = lent_length(memory.len());
+    let translated = f3dex2::translate(&memory[0..end], start as usize, out);
+    let read = translated.read as u32;
+    let offset = translated.place as u32;
+    pack(translated.number, read, offset)
+}
+
+// The words of the command that begins with a word: a plain count.
+#[no_mangle]
+pub extern "C" fn lanyardrove_words(first: u64) -> u64
+    ensures { λ r. ⌜ r ≡ commandWords first ⌝ }
+{
+    rdp_words::command_words(first) as u64
 }
 
 // The first command of a list: 0, its command number as the third number and the count of its fields, which are written in the order of the wiki's bit
@@ -218,119 +333,4 @@ pub extern "C" fn lanyardrove_encode(
         }
         Decoded::Refused(unmade) => return pack(unmade.number, 0, unmade.place),
     }
-}
-
-// A record after a call, and the call's answer as one number.
-pub struct Packed {
-    pub after: Stream,
-    pub answer: u64,
-}
-
-// A portion fed to a record by value.
-fn feed_packed(before: Stream, portion: &[u8]) -> Packed
-    ensures { λ r. ⌜ r ≡ fedPacked before (now (portion .entry)) ⌝ }
-{
-    let fed = rdp_stream::feed_value(before, portion);
-    let after = fed.after;
-    let told = fed.answer;
-    let third = third_of_record(told.number, after.waited);
-    let answer = pack(told.number, third, told.place);
-    Packed { after, answer }
-}
-
-// The closing of a record by value.
-fn close_packed(before: Stream) -> Packed
-    ensures { λ r. ⌜ r ≡ closedPacked before ⌝ }
-{
-    let closed = rdp_stream::close_value(before);
-    let left = closed.after;
-    let last = closed.answer;
-    let cycles = third_of_record(last.number, left.waited);
-    let answer = pack(last.number, cycles, last.place);
-    Packed {
-        after: left,
-        answer,
-    }
-}
-
-// Takes a portion of a list into the caller's record, where it stands: 0 and the words of the commands accepted so far, or the refusal that the record
-// remembers from then on, 1, or 4 to 9 or 19 at a command; 28 at 0 where these calls cannot have left the record. The third number is the cycles that the
-// commands accepted have waited.
-#[no_mangle]
-pub extern "C" fn lanyardrove_stream_feed(lent: &mut Stream, portion: &[u8]) -> u64
-    ensures { λ r. ⌜ (r ≡ fedPacked (now (lent .entry)) (now (portion .entry)) .answer) × (now (lent .exit) ≡ fedPacked (now (lent .entry)) (now (portion .entry)) .after) ⌝ }
-{
-    let before = *lent;
-    let both = feed_packed(before, portion);
-    *lent = both.after;
-    both.answer
-}
-
-// Closes the list of the caller's record: 0 and its words, or the refusal that the record remembers, 2, 3 or an earlier one; 28 at 0 where these calls
-// cannot have left the record. The third number is the cycles that the commands accepted have waited.
-#[no_mangle]
-pub extern "C" fn lanyardrove_stream_close(lent: &mut Stream) -> u64
-    ensures { λ r. ⌜ (r ≡ closedPacked (now (lent .entry)) .answer) × (now (lent .exit) ≡ closedPacked (now (lent .entry)) .after) ⌝ }
-{
-    let before = *lent;
-    let both = close_packed(before);
-    *lent = both.after;
-    both.answer
-}
-
-// How many bytes of a memory count as lent: at most 4,294,967,288, so that every offset fits 32 bits.
-fn lent_length(length: usize) -> usize
-    ensures { λ r. ⌜ r ≡ min length mostLent ⌝ }
-{
-    if length < 0xFFFF_FFF8 {
-        return length;
-    }
-    0xFFFF_FFF8
-}
-
-// Writes the RDP list of the Fast3DEX2 display list at an offset of a memory: the first of refusals 20 to 23 at the offset of the refused command, then 14 at
-// the words needed, or 0 and the words written. The third number is the display list commands read.
-#[no_mangle]
-pub extern "C" fn lanyardrove_translate(memory: &[u8], start: u32, out: &mut [u8]) -> u64
-    ensures reply { λ r. ⌜ r ≡ packed (translateReply (now (memory .entry)) start (length (now (out .entry)))) ⌝ }
-    ensures output { λ _. ⌜ now (out .exit) ≡ translateBytes (now (memory .entry)) start (now (out .entry)) ⌝ }
-{
-    let end = lent_length(memory.len());
-    let translated = f3dex2::translate(&memory[0..end], start as usize, out);
-    let read = translated.read as u32;
-    let offset = translated.place as u32;
-    pack(translated.number, read, offset)
-}
-
-// Compares two lists, command by command: the first of refusals 1, 2 and 3 of the first list, then of the second, then 14 at the numbers needed, or 0 and the
-// numbers written, four for each pair of commands that differ in number or a field.
-#[no_mangle]
-pub extern "C" fn lanyardrove_compare(first: &[u8], second: &[u8], entries: &mut [u32]) -> u64
-    ensures reply { λ r. ⌜ r ≡ packed (compareReply (now (first .entry)) (now (second .entry)) (length (now (entries .entry)))) ⌝ }
-    ensures entries { λ _. ⌜ now (entries .exit) ≡ entriesAfter (now (first .entry)) (now (second .entry)) (now (entries .entry)) ⌝ }
-{
-    let compared = rdp_compare::differences(first, second, entries);
-    pack(compared.number, 0, compared.place)
-}
-
-// A byte of a list as a place: at most 4,294,967,295, which stands for that and more.
-fn place_of(byte: usize) -> u32
-    ensures { λ r. ⌜ r ≡ min byte mostPlace ⌝ }
-{
-    if byte < 0xFFFF_FFFF {
-        return byte as u32;
-    }
-    0xFFFF_FFFF
-}
-
-// Where the rest begins of the list that has more commands, where so many numbers are lent to a comparison: the comparison's number, the list (0 or 1) as the
-// third number, and the byte.
-#[no_mangle]
-pub extern "C" fn lanyardrove_rest(first: &[u8], second: &[u8], count: usize) -> u64
-    ensures { λ r. ⌜ r ≡ packed (restReply (now (first .entry)) (now (second .entry)) count) ⌝ }
-{
-    let rest = rdp_compare::rest_start(first, second, count);
-    let list = rest.second as u32;
-    let byte = place_of(rest.start);
-    pack(rest.number, list, byte)
 }
