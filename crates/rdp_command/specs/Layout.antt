@@ -1,5 +1,5 @@
--- Document 000's bit lines, in its order, for the commands in the order of their numbers: the one place where bit positions stand.
--- Decoding, encoding, refusal 15 and the fields as numbers are computed from these lists.
+-- Document 000's bit lines, in its order, for the commands in the order of their numbers: the one place where bit positions stand, but for a tile's number in
+-- rdp_state's `tileIn`. Decoding, encoding, refusal 15 and the fields as numbers are computed from these lists.
 use mathlib.Core.Bool.{Bool, true, false, cond}
 use mathlib.Core.List.{List, [], _∷_, _++_}
 use Prim.Native.Nat.{ℕ, _+_, _-_, _/_}
