@@ -196,9 +196,6 @@ module _ (refusals : Refusals) where
       judge-free free =
           by-test (eqb (judgeList refusals list .number) 0) (eqb-true _ _) (λ f. absurd (free _ _ (commands-first .refused (eqb-false _ _ f))))
 
-      pub free-judged : judgeList refusals list .number ≡ 0 → Free refusals list
-      free-judged e = commands-first .accepted e .1
-
     module _ (words : ℕ) where
       pub to-order : (n p : ℕ) → Holds words refusals list n p → Among (answer n p) (groundsOf words refusals list)
       unfolding groundsOf

@@ -64,14 +64,6 @@ macro_rules! foreign {
     ) => {{
         extern "C" {
             fn $check(list: *const u8, list_length: usize) -> u64;
-            fn $repair(
-                list: *const u8,
-                list_length: usize,
-                work: *mut u8,
-                work_length: usize,
-                out: *mut u8,
-                out_length: usize,
-            ) -> u64;
             fn $draw(
                 list: *const u8,
                 list_length: usize,
@@ -91,14 +83,6 @@ macro_rules! foreign {
                 memory: *const u8,
                 memory_length: usize,
                 start: u32,
-                out: *mut u8,
-                out_length: usize,
-            ) -> u64;
-            fn $repair_afresh(
-                list: *const u8,
-                list_length: usize,
-                work: *mut u8,
-                work_length: usize,
                 out: *mut u8,
                 out_length: usize,
             ) -> u64;
@@ -170,6 +154,7 @@ macro_rules! foreign {
                 ) -> u64;
             )?
         }
+        $crate::repairs!($repair, $repair_afresh);
         $crate::comparison::foreign::Foreign {
             check: $check,
             repair: $repair,
@@ -192,6 +177,25 @@ macro_rules! foreign {
     }};
     () => { None };
     ($function:ident) => { Some($function) };
+}
+
+/// Declares repairs by their names: both take the same.
+#[macro_export]
+macro_rules! repairs {
+    ($($repair:ident),*) => {
+        extern "C" {
+            $(
+                fn $repair(
+                    list: *const u8,
+                    list_length: usize,
+                    work: *mut u8,
+                    work_length: usize,
+                    out: *mut u8,
+                    out_length: usize,
+                ) -> u64;
+            )*
+        }
+    };
 }
 
 /// The proved library.
