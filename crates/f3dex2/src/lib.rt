@@ -1,4 +1,6 @@
 // A Fast3DEX2 display list read from a memory, and the RDP list that it stands for.
+#![tactic(auto)]
+
 mod command;
 mod output;
 mod walk;
@@ -8,7 +10,7 @@ ghost use Rattle.f3dex2.specs.Translate.{walked, translate_answer, translate_out
 
 // The number of the refusal or 0, its place, and the display list commands read. The place is the offset of the refused command; at 14 the words needed, at
 // 0 the words written.
-#[derive(Drop)]
+#[derive(Clone, Copy)]
 pub struct Translated {
     pub number: u32,
     pub place: usize,
@@ -16,7 +18,7 @@ pub struct Translated {
 }
 
 // What the next command must be: any, or a half-word of a texture rectangle. The second holds the value of the first.
-#[derive(Drop)]
+#[derive(Clone, Copy)]
 pub enum Due {
     Command,
     FirstHalf,
@@ -24,7 +26,7 @@ pub enum Due {
 }
 
 // The high and the low word of the other modes, and what is due next.
-#[derive(Drop)]
+#[derive(Clone, Copy)]
 pub struct Setting {
     pub high: u32,
     pub low: u32,
@@ -32,7 +34,7 @@ pub struct Setting {
 }
 
 // What a command does: refused by 22 or by 23, a word that is written, nothing but that it is read, a list called, a list gone to for good, the end of a list.
-#[derive(Drop)]
+#[derive(Clone, Copy)]
 pub enum Action {
     Unknown,
     Invalid,
@@ -44,7 +46,7 @@ pub enum Action {
 }
 
 // How far a walk has come: the setting, the commands read and the words written.
-#[derive(Drop)]
+#[derive(Clone, Copy)]
 pub struct State {
     pub setting: Setting,
     pub read: usize,
@@ -52,7 +54,7 @@ pub struct State {
 }
 
 // What one command asks: a refusal with its place, the next command, the end of the list, or a list to run and then the offset to return to.
-#[derive(Drop)]
+#[derive(Clone, Copy)]
 pub enum Asked {
     Refused(u32, usize, State),
     Next(usize, State),
@@ -61,7 +63,7 @@ pub enum Asked {
 }
 
 // What running one command comes to: a refusal with its place, the next command, or the end of the list.
-#[derive(Drop)]
+#[derive(Clone, Copy)]
 pub enum Stepped {
     Refused(u32, usize, State),
     Next(usize, State),
@@ -69,7 +71,7 @@ pub enum Stepped {
 }
 
 // What running a list comes to.
-#[derive(Drop)]
+#[derive(Clone, Copy)]
 pub enum Outcome {
     Refused(u32, usize, State),
     Returned(State),

@@ -1,4 +1,6 @@
 // The functions for callers in C. Every answer is one 64-bit number, returned in a register; include/lanyardrove.h declares them, in this order.
+#![tactic(auto)]
+
 ghost use Rattle.std.specs.Prelude.{cond, ◌≡◌, ◌+◌, ◌<◌, ◌^◌, min, eqb, length};
 ghost use Rattle.lanyardrove.specs.Replies.{most_lent, translate_reply, translate_bytes, most_place, compare_reply, rest_reply, reply, most_third, packed, step_reply, check_reply, RepairReplies, AfreshReplies, build_reply, ask_reply, ReplaceReplies, draw_reply, view_reply, decode_reply, decode_fields, encode_reply, encode_bytes, fed_packed, closed_packed};
 ghost use Rattle.rdp_words.specs.Lengths.{command_words};
@@ -56,7 +58,7 @@ fn third_of_record(number: u32, waited: u32) -> u32
 }
 
 // A record after a call, and the call's answer as one number.
-#[derive(Drop)]
+#[derive(Clone, Copy)]
 pub struct Packed {
     pub after: Stream,
     pub answer: u64,

@@ -1,5 +1,7 @@
 // The registers after a list as one number: for the benchmark alone, and no part of the library. The fields of each register are put side by side in a
 // few numbers, and these are joined, so that a field that is wrong shows.
+#![tactic(auto)]
+
 ghost use Rattle.std.specs.Prelude.{◌≡◌};
 ghost use Rattle.rdp_state.specs.After.{list_state_of};
 ghost use Rattle.rdp_bench.specs.Mixed.{mixed_five, mixed_flag, mixed_bits, mixed_bytes, mixed_halves, mixed_fill_color, mixed_color, mixed_primitive_color, mixed_combine, mixed_key_gb, mixed_key_r, mixed_convert, mixed_texture_modes, mixed_blender_inputs, mixed_pixel_modes, mixed_other_modes, mixed_depth, mixed_scissor, mixed_image, mixed_depth_image, mixed_descriptor, mixed_colors, mixed_combiner, mixed_modes, mixed_images, mixed_tile, mixed_tiles, mixed_answer, mixed_of};

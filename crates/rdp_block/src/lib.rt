@@ -1,4 +1,6 @@
 // Load Block (#112).
+#![tactic(auto)]
+
 ghost use Rattle.std.specs.Prelude.{◌≡◌, length};
 ghost use Rattle.rdp_texels.specs.Texels.{loaded};
 ghost use Rattle.rdp_texels.specs.Refusals.{sized};
@@ -10,7 +12,7 @@ mod strips;
 use rdp_command::LoadFields;
 
 // The texels of a block, one after the other: texel k at address `address + 2 k` of memory goes to byte `ahead + 2 k` of texture memory, turned by dxt.
-#[derive(Drop)]
+#[derive(Clone, Copy)]
 pub struct Strip {
     pub address: u64,
     pub ahead: u64,

@@ -1,4 +1,6 @@
 // The check of a command list: refusals and registers.
+#![tactic(auto)]
+
 ghost use Rattle.std.specs.Prelude.{◌≡◌};
 ghost use Rattle.rdp_check.specs.Check.{check_of, repair_check_of};
 ghost use Rattle.rdp_check.specs.Checkpoint.{check_from};
@@ -16,7 +18,7 @@ use rdp_command::{
 // The number of the first refusal, 0 where the list is accepted; its place in words; the hazards there; and the place of the command that caused it, at
 // 7, 8 and 9, at every other number the list's whole words.
 #[repr(C)]
-#[derive(Drop)]
+#[derive(Clone, Copy)]
 pub struct Checked {
     pub number: u32,
     pub place: u32,
@@ -27,7 +29,7 @@ pub struct Checked {
 // Where a list stands between two of its commands, as far as the check reads it: the words that last set the other modes, the colour image and the scissor,
 // 0 where none has come; the hazards, of which the low four bits count; and whether a Sync Full has come.
 #[repr(C)]
-#[derive(Drop)]
+#[derive(Clone, Copy)]
 pub struct Checkpoint {
     pub other_modes: u64,
     pub color_image: u64,
@@ -39,7 +41,7 @@ pub struct Checkpoint {
 // The number of the first refusal of some commands, 0 where none is refused; its place, or that after the last; and the hazards and whether a Sync Full has
 // come there.
 #[repr(C)]
-#[derive(Drop)]
+#[derive(Clone, Copy)]
 pub struct Judged {
     pub number: u32,
     pub place: u32,
@@ -49,84 +51,84 @@ pub struct Judged {
 
 // Each register has its value and whether the list has set it.
 #[repr(C)]
-#[derive(Drop)]
+#[derive(Clone, Copy)]
 pub struct FillColorRegister {
     pub set: bool,
     pub color: u32,
 }
 
 #[repr(C)]
-#[derive(Drop)]
+#[derive(Clone, Copy)]
 pub struct ColorRegister {
     pub set: bool,
     pub color: Color,
 }
 
 #[repr(C)]
-#[derive(Drop)]
+#[derive(Clone, Copy)]
 pub struct PrimitiveColorRegister {
     pub set: bool,
     pub color: PrimitiveColor,
 }
 
 #[repr(C)]
-#[derive(Drop)]
+#[derive(Clone, Copy)]
 pub struct CombineRegister {
     pub set: bool,
     pub mode: u64,
 }
 
 #[repr(C)]
-#[derive(Drop)]
+#[derive(Clone, Copy)]
 pub struct KeyGbRegister {
     pub set: bool,
     pub key: KeyGb,
 }
 
 #[repr(C)]
-#[derive(Drop)]
+#[derive(Clone, Copy)]
 pub struct KeyRRegister {
     pub set: bool,
     pub key: KeyR,
 }
 
 #[repr(C)]
-#[derive(Drop)]
+#[derive(Clone, Copy)]
 pub struct ConvertRegister {
     pub set: bool,
     pub convert: Convert,
 }
 
 #[repr(C)]
-#[derive(Drop)]
+#[derive(Clone, Copy)]
 pub struct OtherModesRegister {
     pub set: bool,
     pub modes: OtherModes,
 }
 
 #[repr(C)]
-#[derive(Drop)]
+#[derive(Clone, Copy)]
 pub struct PrimitiveDepthRegister {
     pub set: bool,
     pub depth: PrimitiveDepth,
 }
 
 #[repr(C)]
-#[derive(Drop)]
+#[derive(Clone, Copy)]
 pub struct ScissorRegister {
     pub set: bool,
     pub scissor: Scissor,
 }
 
 #[repr(C)]
-#[derive(Drop)]
+#[derive(Clone, Copy)]
 pub struct ImageRegister {
     pub set: bool,
     pub image: Image,
 }
 
 #[repr(C)]
-#[derive(Drop)]
+#[derive(Clone, Copy)]
 pub struct DepthImageRegister {
     pub set: bool,
     pub address: u32,
@@ -134,7 +136,7 @@ pub struct DepthImageRegister {
 
 // A tile descriptor and its size, each with whether the list has set it.
 #[repr(C)]
-#[derive(Drop)]
+#[derive(Clone, Copy)]
 pub struct Tile {
     pub set: bool,
     pub descriptor: TileDescriptor,
@@ -144,7 +146,7 @@ pub struct Tile {
 }
 
 #[repr(C)]
-#[derive(Drop)]
+#[derive(Clone, Copy)]
 pub struct Colors {
     pub fill: FillColorRegister,
     pub fog: ColorRegister,
@@ -154,7 +156,7 @@ pub struct Colors {
 }
 
 #[repr(C)]
-#[derive(Drop)]
+#[derive(Clone, Copy)]
 pub struct Combiner {
     pub combine: CombineRegister,
     pub key_gb: KeyGbRegister,
@@ -163,7 +165,7 @@ pub struct Combiner {
 }
 
 #[repr(C)]
-#[derive(Drop)]
+#[derive(Clone, Copy)]
 pub struct Modes {
     pub other: OtherModesRegister,
     pub depth: PrimitiveDepthRegister,
@@ -171,7 +173,7 @@ pub struct Modes {
 }
 
 #[repr(C)]
-#[derive(Drop)]
+#[derive(Clone, Copy)]
 pub struct Images {
     pub color: ImageRegister,
     pub texture: ImageRegister,
@@ -179,7 +181,7 @@ pub struct Images {
 }
 
 #[repr(C)]
-#[derive(Drop)]
+#[derive(Clone, Copy)]
 pub struct Registers {
     pub colors: Colors,
     pub combiner: Combiner,

@@ -18,7 +18,7 @@ const ALL: u64 = 0xFFFF_FFFF_FFFF_FFFF;
 
 // What few commands change of what the walk carries: whether a Sync Full has come; modes (0 not set, 1 set, 2 set to FILL); colour image (0 not set, 1
 // set, 2 set to 4 bits); and whether the scissor is set.
-#[derive(Drop)]
+#[derive(Clone, Copy)]
 pub struct Rest {
     pub ended: bool,
     pub modes: u8,
@@ -27,14 +27,14 @@ pub struct Rest {
 }
 
 // What the walk carries from command to command.
-#[derive(Drop)]
+#[derive(Clone, Copy)]
 pub struct View {
     pub hazards: u8,
     pub rest: Rest,
 }
 
 // The refusal of a command or 0, its words, and the view after it.
-#[derive(Drop)]
+#[derive(Clone, Copy)]
 pub struct Advanced {
     pub refusal: u32,
     pub words: usize,
@@ -42,7 +42,7 @@ pub struct Advanced {
 }
 
 // Where a walk ends: the refusal, or 0; its place; and what is carried there.
-#[derive(Drop)]
+#[derive(Clone, Copy)]
 pub struct Stop {
     pub number: u32,
     pub place: u32,
@@ -50,7 +50,7 @@ pub struct Stop {
 }
 
 // Where a walk ends, and the cause of a refusal by 7, 8 or 9.
-#[derive(Drop)]
+#[derive(Clone, Copy)]
 pub struct Caused {
     pub stop: Stop,
     pub cause: usize,

@@ -1,4 +1,6 @@
 // Decoding of the display processor's commands, and the fields that other layers read of their words.
+#![tactic(auto)]
+
 ghost use Rattle.std.specs.Prelude.{◌≡◌};
 ghost use Rattle.rdp_words.specs.Words.{word_at};
 ghost use Rattle.rdp_command.specs.Decode.{decode_of, decoded_from};
@@ -13,7 +15,7 @@ mod words;
 
 // A corner of a rectangle, in quarter pixels.
 #[repr(C)]
-#[derive(Drop)]
+#[derive(Clone, Copy)]
 pub struct Corner {
     pub x: u16,
     pub y: u16,
@@ -21,7 +23,7 @@ pub struct Corner {
 
 // A corner of an area of texels, in quarter texels; that of a Load Block in whole ones.
 #[repr(C)]
-#[derive(Drop)]
+#[derive(Clone, Copy)]
 pub struct TexelCorner {
     pub s: u16,
     pub t: u16,
@@ -29,7 +31,7 @@ pub struct TexelCorner {
 
 // A fixed-point number: its signed integer part and its 16-bit fraction.
 #[repr(C)]
-#[derive(Drop)]
+#[derive(Clone, Copy)]
 pub struct Fixed {
     pub i: i16,
     pub f: u16,
@@ -37,7 +39,7 @@ pub struct Fixed {
 
 // An edge of a triangle: the x of a point on it, and the change in x per line.
 #[repr(C)]
-#[derive(Drop)]
+#[derive(Clone, Copy)]
 pub struct Edge {
     pub x: Fixed,
     pub dxdy: Fixed,
@@ -45,7 +47,7 @@ pub struct Edge {
 
 // The base of a triangle: what follows it, its tile, its heights in quarter pixels, and its edges.
 #[repr(C)]
-#[derive(Drop)]
+#[derive(Clone, Copy)]
 pub struct TriangleBase {
     pub shade: bool,
     pub texture: bool,
@@ -63,7 +65,7 @@ pub struct TriangleBase {
 
 // Texture coordinates of a rectangle's upper left corner, and their change per pixel.
 #[repr(C)]
-#[derive(Drop)]
+#[derive(Clone, Copy)]
 pub struct TextureStep {
     pub s: i16,
     pub t: i16,
@@ -73,7 +75,7 @@ pub struct TextureStep {
 
 // A rectangle with its tile and its texture coordinates.
 #[repr(C)]
-#[derive(Drop)]
+#[derive(Clone, Copy)]
 pub struct TexturedRectangle {
     pub lower_right: Corner,
     pub tile: u8,
@@ -83,7 +85,7 @@ pub struct TexturedRectangle {
 
 // Chroma key of green and blue.
 #[repr(C)]
-#[derive(Drop)]
+#[derive(Clone, Copy)]
 pub struct KeyGb {
     pub width_g: u16,
     pub width_b: u16,
@@ -95,7 +97,7 @@ pub struct KeyGb {
 
 // Chroma key of red.
 #[repr(C)]
-#[derive(Drop)]
+#[derive(Clone, Copy)]
 pub struct KeyR {
     pub width_r: u16,
     pub center_r: u8,
@@ -104,7 +106,7 @@ pub struct KeyR {
 
 // Colour conversion constants.
 #[repr(C)]
-#[derive(Drop)]
+#[derive(Clone, Copy)]
 pub struct Convert {
     pub k0: u16,
     pub k1: u16,
@@ -116,7 +118,7 @@ pub struct Convert {
 
 // The scissor rectangle, and which lines are kept when field is set.
 #[repr(C)]
-#[derive(Drop)]
+#[derive(Clone, Copy)]
 pub struct Scissor {
     pub upper_left: Corner,
     pub field: bool,
@@ -126,7 +128,7 @@ pub struct Scissor {
 
 // Depth of a primitive.
 #[repr(C)]
-#[derive(Drop)]
+#[derive(Clone, Copy)]
 pub struct PrimitiveDepth {
     pub z: u16,
     pub dz: u16,
@@ -134,7 +136,7 @@ pub struct PrimitiveDepth {
 
 // The modes of texture sampling.
 #[repr(C)]
-#[derive(Drop)]
+#[derive(Clone, Copy)]
 pub struct TextureModes {
     pub persp_tex_en: bool,
     pub detail_tex_en: bool,
@@ -151,7 +153,7 @@ pub struct TextureModes {
 
 // The inputs of the blender, for the first and the second cycle.
 #[repr(C)]
-#[derive(Drop)]
+#[derive(Clone, Copy)]
 pub struct BlenderInputs {
     pub bl_m1a_0: u8,
     pub bl_m1a_1: u8,
@@ -165,7 +167,7 @@ pub struct BlenderInputs {
 
 // The modes of blending, coverage, depth and alpha compare.
 #[repr(C)]
-#[derive(Drop)]
+#[derive(Clone, Copy)]
 pub struct PixelModes {
     pub force_blend: bool,
     pub alpha_cvg_select: bool,
@@ -184,7 +186,7 @@ pub struct PixelModes {
 
 // The other modes. The cycle type is 0 one-cycle, 1 two-cycle, 2 COPY, 3 FILL.
 #[repr(C)]
-#[derive(Drop)]
+#[derive(Clone, Copy)]
 pub struct OtherModes {
     pub atomic_prim: bool,
     pub cycle_type: u8,
@@ -198,7 +200,7 @@ pub struct OtherModes {
 
 // An area of texels of a tile.
 #[repr(C)]
-#[derive(Drop)]
+#[derive(Clone, Copy)]
 pub struct TileArea {
     pub upper_left: TexelCorner,
     pub tile: u8,
@@ -207,7 +209,7 @@ pub struct TileArea {
 
 // The texels of a block.
 #[repr(C)]
-#[derive(Drop)]
+#[derive(Clone, Copy)]
 pub struct Block {
     pub upper_left: TexelCorner,
     pub tile: u8,
@@ -217,7 +219,7 @@ pub struct Block {
 
 // A tile descriptor.
 #[repr(C)]
-#[derive(Drop)]
+#[derive(Clone, Copy)]
 pub struct TileDescriptor {
     pub format: u8,
     pub size: u8,
@@ -237,7 +239,7 @@ pub struct TileDescriptor {
 
 // A rectangle by its corners.
 #[repr(C)]
-#[derive(Drop)]
+#[derive(Clone, Copy)]
 pub struct Rectangle {
     pub lower_right: Corner,
     pub upper_left: Corner,
@@ -245,7 +247,7 @@ pub struct Rectangle {
 
 // A colour.
 #[repr(C)]
-#[derive(Drop)]
+#[derive(Clone, Copy)]
 pub struct Color {
     pub red: u8,
     pub green: u8,
@@ -255,7 +257,7 @@ pub struct Color {
 
 // The primitive colour, with its level of detail.
 #[repr(C)]
-#[derive(Drop)]
+#[derive(Clone, Copy)]
 pub struct PrimitiveColor {
     pub min_level: u8,
     pub prim_lod_frac: u8,
@@ -264,7 +266,7 @@ pub struct PrimitiveColor {
 
 // An image in memory. The width is one less than that of the image.
 #[repr(C)]
-#[derive(Drop)]
+#[derive(Clone, Copy)]
 pub struct Image {
     pub format: u8,
     pub size: u8,
@@ -274,7 +276,7 @@ pub struct Image {
 
 // What the check reads of a word: its command number, the cycle type of a Set Other Modes and the size of a Set Color Image.
 #[repr(C)]
-#[derive(Drop)]
+#[derive(Clone, Copy)]
 pub struct Head {
     pub number: u8,
     pub cycle_type: u8,
@@ -284,7 +286,7 @@ pub struct Head {
 // The first words of the commands that set what a fill is drawn under: Set Other Modes, Set Scissor, Set Color Image and Set Fill Color. 0 stands
 // where none has come: the fields of the word 0 are the registers at the start.
 #[repr(C)]
-#[derive(Drop)]
+#[derive(Clone, Copy)]
 pub struct FillWords {
     pub modes: u64,
     pub scissor: u64,
@@ -294,7 +296,7 @@ pub struct FillWords {
 
 // A fill rectangle with what it is drawn under.
 #[repr(C)]
-#[derive(Drop)]
+#[derive(Clone, Copy)]
 pub struct FillFields {
     pub cycle_type: u8,
     pub rectangle: Rectangle,
@@ -306,7 +308,7 @@ pub struct FillFields {
 // The first words of the commands that set what a Load Tile or a Load Block is done under: Set Texture Image, and the Set Tile of its tile. 0 stands where
 // none has come.
 #[repr(C)]
-#[derive(Drop)]
+#[derive(Clone, Copy)]
 pub struct LoadWords {
     pub image: u64,
     pub tile: u64,
@@ -314,7 +316,7 @@ pub struct LoadWords {
 
 // A Load Tile or a Load Block with what it is done under; a register is set where its word is not 0. The dxt of a Load Block stands as lower right t.
 #[repr(C)]
-#[derive(Drop)]
+#[derive(Clone, Copy)]
 pub struct LoadFields {
     pub image_set: bool,
     pub image: Image,
@@ -326,7 +328,7 @@ pub struct LoadFields {
 // The first words of the commands that set what a texture rectangle is drawn under: Set Other Modes, Set Scissor, Set Color Image, the Set Tile of its
 // tile, and the command that set that tile's size. 0 stands where none has come.
 #[repr(C)]
-#[derive(Drop)]
+#[derive(Clone, Copy)]
 pub struct CopyWords {
     pub modes: u64,
     pub scissor: u64,
@@ -337,7 +339,7 @@ pub struct CopyWords {
 
 // A texture rectangle with what it is drawn under in COPY mode: of its tile, whether the descriptor is set, and the upper left corner.
 #[repr(C)]
-#[derive(Drop)]
+#[derive(Clone, Copy)]
 pub struct CopyFields {
     pub cycle_type: u8,
     pub rectangle: TexturedRectangle,
@@ -353,7 +355,7 @@ pub struct CopyFields {
 
 // The first words of the commands that set the registers but the tiles, in the order of their numbers. 0 stands where none has come.
 #[repr(C)]
-#[derive(Drop)]
+#[derive(Clone, Copy)]
 pub struct RegisterWords {
     pub key_gb: u64,
     pub key_r: u64,
@@ -374,7 +376,7 @@ pub struct RegisterWords {
 
 // The colours of the registers.
 #[repr(C)]
-#[derive(Drop)]
+#[derive(Clone, Copy)]
 pub struct ColorFields {
     pub fill: u32,
     pub fog: Color,
@@ -385,7 +387,7 @@ pub struct ColorFields {
 
 // The colour combiner, chroma key and conversion.
 #[repr(C)]
-#[derive(Drop)]
+#[derive(Clone, Copy)]
 pub struct CombinerFields {
     pub combine: u64,
     pub key_gb: KeyGb,
@@ -395,7 +397,7 @@ pub struct CombinerFields {
 
 // The other modes, the primitive depth and the scissor.
 #[repr(C)]
-#[derive(Drop)]
+#[derive(Clone, Copy)]
 pub struct ModeFields {
     pub other: OtherModes,
     pub depth: PrimitiveDepth,
@@ -404,7 +406,7 @@ pub struct ModeFields {
 
 // The colour, texture and depth images.
 #[repr(C)]
-#[derive(Drop)]
+#[derive(Clone, Copy)]
 pub struct ImageFields {
     pub color: Image,
     pub texture: Image,
@@ -413,7 +415,7 @@ pub struct ImageFields {
 
 // The fields of the registers but the tiles.
 #[repr(C)]
-#[derive(Drop)]
+#[derive(Clone, Copy)]
 pub struct RegisterFields {
     pub colors: ColorFields,
     pub combiner: CombinerFields,
@@ -423,14 +425,14 @@ pub struct RegisterFields {
 
 // The fields of a tile: its descriptor, and the area that sets its size.
 #[repr(C)]
-#[derive(Drop)]
+#[derive(Clone, Copy)]
 pub struct TileFields {
     pub descriptor: TileDescriptor,
     pub area: TileArea,
 }
 
 // A decoded command.
-#[derive(Drop)]
+#[derive(Clone, Copy)]
 pub enum Command {
     // A no operation keeps its number, 0x00 where it was decoded.
     NoOperation(u8),
@@ -468,21 +470,21 @@ pub enum Command {
 
 // The number of a refusal, 0 for acceptance, and its place in words; for `fields` of rdp_encode a count of numbers.
 #[repr(C)]
-#[derive(Drop)]
+#[derive(Clone, Copy)]
 pub struct Answer {
     pub number: u32,
     pub place: u32,
 }
 
 // What decoding answers: the command, or a refusal.
-#[derive(Drop)]
+#[derive(Clone, Copy)]
 pub enum Decoded {
     Whole(Command),
     Refused(Answer),
 }
 
 // The number of a command and its words before the suffix; those that it does not have are 0. Without ok there is no command.
-#[derive(Drop)]
+#[derive(Clone, Copy)]
 pub struct Base {
     pub ok: bool,
     pub number: u8,

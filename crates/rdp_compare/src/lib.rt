@@ -1,4 +1,6 @@
 // The comparison of two lists (#110).
+#![tactic(auto)]
+
 ghost use Rattle.std.specs.Prelude.{◌≡◌, length};
 ghost use Rattle.rdp_compare.specs.Entries.{compare_answer, entries_after};
 ghost use Rattle.rdp_compare.specs.Part.{Handed, rest_start};
@@ -10,7 +12,7 @@ mod grounds;
 mod pairs;
 
 // Where the rest begins: the number of the comparison, whether the rest is of the second list, and its first byte there.
-#[derive(Drop)]
+#[derive(Clone, Copy)]
 pub struct RestStart {
     pub number: u32,
     pub second: bool,

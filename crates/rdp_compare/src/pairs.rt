@@ -9,14 +9,14 @@ use crate::grounds::words_at;
 use crate::{fieldwise, *};
 
 // Whether two commands differ, and in which fields.
-#[derive(Drop)]
+#[derive(Clone, Copy)]
 pub struct Difference {
     pub differs: bool,
     pub mask: u64,
 }
 
 // The numbers of the entries of paired commands, and the places after these commands.
-#[derive(Drop)]
+#[derive(Clone, Copy)]
 pub struct Paired {
     pub count: usize,
     pub a: usize,

@@ -5,6 +5,8 @@
 //
 // Each list first fills pixels (1, 1) to (2, 2) of memory that holds the byte 55; tiles are loaded out of what was drawn. tools/drawings.py reads the lists in
 // these files and works out the file stdout.
+#![tactic(auto)]
+
 mod blocks;
 mod copies;
 mod refusals;

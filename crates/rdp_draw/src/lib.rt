@@ -1,4 +1,6 @@
 // Drawing of a list into memory: fill rectangles, loads of tiles and blocks, and copy rectangles.
+#![tactic(auto)]
+
 ghost use Rattle.std.specs.Prelude.{◌≡◌, length};
 ghost use Rattle.rdp_draw.specs.Draw.{draw_answer, drawn, memories};
 

@@ -9,7 +9,7 @@ use rdp_state::slots;
 const SETTERS: u64 = 0xFFBD_FC00_0000_0000;
 
 // An act: its place and its number. Where there is none, the place is the number of words.
-#[derive(Drop)]
+#[derive(Clone, Copy)]
 pub struct Reached {
     pub place: usize,
     pub number: u8,

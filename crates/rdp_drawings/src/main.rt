@@ -5,6 +5,8 @@
 //
 // Memory holds the byte 55 before, which no colour here has, so that what is left as it was can be seen. Of a long memory there are a checksum, the
 // first bytes and the last ones. crates/rdp_copies draws copies and loads. tools/drawings.py reads the lists in these files and works out the file stdout.
+#![tactic(auto)]
+
 mod fields;
 mod lent;
 mod long;

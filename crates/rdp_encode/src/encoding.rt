@@ -16,7 +16,7 @@ use crate::{packing, table, words};
 use rdp_command::*;
 
 // Where the bit lines of a number stand in the table, and how many they are.
-#[derive(Drop)]
+#[derive(Clone, Copy)]
 pub struct Lines {
     pub first: usize,
     pub count: usize,

@@ -1,4 +1,6 @@
 // Encoding of the display processor's commands, and commands as their number and the numbers of their fields.
+#![tactic(auto)]
+
 ghost use Rattle.std.specs.Prelude.{◌≡◌};
 ghost use Rattle.rdp_encode.specs.Encode.{encode_answer, encode_out};
 ghost use Rattle.rdp_encode.specs.Numbers.{fields_answer, fields_out, from_numbers};

@@ -8,7 +8,7 @@ ghost use Rattle.rdp_encode.specs.Numbers.{value_from, each_fits};
 ghost use Rattle.rdp_encode.specs.Table.{line_of, lines_for, Stand, Readable, LineIs};
 
 // A bit line: its word, its width in bits and its low bit.
-#[derive(Drop)]
+#[derive(Clone, Copy)]
 pub struct BitLine {
     pub is_signed: bool,
     pub word: usize,

@@ -15,7 +15,7 @@ ghost use Rattle.rdp_command.specs.Groups.{edge_values, triangle_base_values, te
 use rdp_command::*;
 
 // A command's number, whether it is one that the command can have, and the numbers of its fields: their count, and the numbers with zeros after them.
-#[derive(Drop)]
+#[derive(Clone, Copy)]
 pub struct Numbers {
     pub number: u8,
     pub known: bool,
@@ -74,7 +74,7 @@ fn none(number: u8, known: bool) -> Numbers
 }
 
 // Four numbers of fields.
-#[derive(Drop)]
+#[derive(Clone, Copy)]
 pub struct Four {
     pub first: u64,
     pub second: u64,

@@ -1,4 +1,6 @@
 // A fill rectangle (01, "Fill"): whether it is inside memory, and its pixels painted.
+#![tactic(auto)]
+
 ghost use Rattle.std.specs.Prelude.{not, ◌≡◌};
 ghost use Rattle.rdp_fill.specs.Fill.{outside, fill_memory};
 
@@ -9,7 +11,7 @@ mod run;
 use rdp_command::FillFields;
 
 // The bytes of the kept pixels of a fill: `rows` runs of `size` bytes each, the first at the address `first`, each next one `stride` bytes on.
-#[derive(Drop)]
+#[derive(Clone, Copy)]
 pub struct Area {
     pub first: u64,
     pub size: u64,

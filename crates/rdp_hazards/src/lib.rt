@@ -1,4 +1,6 @@
 // The hazards between commands: document 01's four marks, their step at a command, and the table of all steps.
+#![tactic(auto)]
+
 ghost use Rattle.std.specs.Prelude.{◌≡◌, ◌%◌};
 ghost use Rattle.rdp_hazards.specs.Hazards.{transition_of};
 
@@ -20,7 +22,7 @@ pub const PIPE_WAIT: u32 = 50;
 
 // The hazards after a command, whether a sync is missing, and the sync that the command requires: 0 none, 1 Load, 2 Tile, 3 Pipe.
 #[repr(C)]
-#[derive(Drop)]
+#[derive(Clone, Copy)]
 pub struct Transition {
     pub next: u8,
     pub missing: bool,

@@ -1,4 +1,6 @@
 // The hazards before one command of a list, from entries that are kept at every 64th command (#111).
+#![tactic(auto)]
+
 ghost use Rattle.std.specs.Prelude.{◌≡◌};
 ghost use Rattle.rdp_index.specs.Index.{BuildIs, ask_of, ReplaceIs};
 
@@ -11,7 +13,7 @@ use rdp_hazards::table;
 
 // What a question answers: 0 or a refusal, the place, and at 0 the hazards before the command there and the number of commands read.
 #[repr(C)]
-#[derive(Drop)]
+#[derive(Clone, Copy)]
 pub struct Asked {
     pub number: u32,
     pub place: u32,

@@ -1,4 +1,6 @@
 // The pixels of a rectangle that a scissor keeps.
+#![tactic(auto)]
+
 ghost use Rattle.std.specs.Prelude.{◌≡◌, ◌≤◌};
 ghost use Rattle.rdp_pixels.specs.Kept.{line_kept, first_kept, end_kept, kept_from};
 // The first kept column, or row. Pixel p is kept where 4p is at least the scissor's edge, so the edge is rounded up.

@@ -5,6 +5,8 @@
 // The check's answer in decimal, with the hazards summed (P 1, T 2, D 4, G 8), and a digest for each group of registers, in 16 hexadecimal digits.
 // lists.rt says how the lists are made, digest.rt how the digests are. The file stdout is what the second program, reference/src/bin/registers.rs,
 // prints of the same lists by its own check and registers; `make registers` holds it to that.
+#![tactic(auto)]
+
 mod digest;
 mod lists;
 mod show;

@@ -1,4 +1,6 @@
 // The repairs of a command list: the syncs that it misses are inserted, at the least cycles; or all are chosen afresh (#109).
+#![tactic(auto)]
+
 ghost use Rattle.rdp_repair.specs.Repair.{RepairIs};
 ghost use Rattle.rdp_repair.specs.Afresh.{AfreshIs};
 ghost use Rattle.rdp_repair.specs.Work.{basis_of, Repairs};
@@ -8,7 +10,7 @@ mod repairing;
 
 // The number of the first refusal, 0 where the list is repaired; its place, or the words written; and the cycles of the inserted syncs, 0 at a refusal.
 #[repr(C)]
-#[derive(Drop)]
+#[derive(Clone, Copy)]
 pub struct Repaired {
     pub number: u32,
     pub place: u32,

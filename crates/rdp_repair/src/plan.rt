@@ -11,7 +11,7 @@ const TILE: u32 = 64 * rdp_hazards::TILE_WAIT + 32;
 const PIPE: u32 = 64 * rdp_hazards::PIPE_WAIT + 48;
 
 // The totals before a command at the sixteen hazard states, and the choices there: 16 times the option, and the next hazards.
-#[derive(Drop)]
+#[derive(Clone, Copy)]
 pub struct Row {
     pub totals: [u32; 16],
     pub choices: [u8; 16],

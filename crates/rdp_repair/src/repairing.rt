@@ -56,7 +56,7 @@ fn kept_words(afresh: bool, number: u8, words: usize) -> usize
 }
 
 // The commands of a list, and the words of those that are kept.
-#[derive(Drop)]
+#[derive(Clone, Copy)]
 pub struct Noted {
     pub commands: usize,
     pub words: usize,
@@ -215,7 +215,7 @@ fn clear(work: &mut [u8], n: usize)
 }
 
 // The commands of a list, its least cycles, and the words that are kept with the plan's syncs.
-#[derive(Drop)]
+#[derive(Clone, Copy)]
 pub struct Planned {
     pub commands: usize,
     pub cycles: u32,

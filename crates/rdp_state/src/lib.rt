@@ -1,4 +1,6 @@
 // The registers as the words that last set them, and the registers after a list.
+#![tactic(auto)]
+
 ghost use Rattle.std.specs.Prelude.{◌≡◌, ◌%◌, ◌<◌};
 ghost use Rattle.rdp_state.specs.RegisterWords.{tile_in, words_after};
 ghost use Rattle.rdp_state.specs.Replay.{end_of};
@@ -12,7 +14,7 @@ use rdp_check::{Checkpoint, Registers};
 
 // The check's answer with the registers there.
 #[repr(C)]
-#[derive(Drop)]
+#[derive(Clone, Copy)]
 pub struct ListState {
     pub number: u32,
     pub place: u32,
@@ -23,7 +25,7 @@ pub struct ListState {
 // Where a list stands between two of its commands: the words that last set the registers, the hazards, of which the low four bits count, whether a Sync
 // Full has come, and the cycles that its syncs have waited.
 #[repr(C)]
-#[derive(Drop)]
+#[derive(Clone, Copy)]
 pub struct Standing {
     pub words: [u64; 32],
     pub hazards: u8,
@@ -33,7 +35,7 @@ pub struct Standing {
 
 // What the commands of a list leave: the words that last set the registers, and the cycles waited.
 #[repr(C)]
-#[derive(Drop)]
+#[derive(Clone, Copy)]
 pub struct Replay {
     pub words: [u64; 32],
     pub waited: u32,
@@ -41,7 +43,7 @@ pub struct Replay {
 
 // Where the list stands; the number of the first refusal, 0 where no command is refused; and its place, or that after the last whole command.
 #[repr(C)]
-#[derive(Drop)]
+#[derive(Clone, Copy)]
 pub struct Resumed {
     pub standing: Standing,
     pub number: u32,

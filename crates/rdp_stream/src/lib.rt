@@ -1,4 +1,6 @@
 // A list that arrives in portions: the caller owns one record, and each portion updates it where it stands.
+#![tactic(auto)]
+
 ghost use Rattle.std.specs.Prelude.{◌≡◌};
 ghost use Rattle.rdp_stream.specs.Records.{damaged_in, fed_of, closed_of};
 ghost use Rattle.rdp_stream.specs.Steps.{answered_as};
@@ -12,7 +14,7 @@ use rdp_command::Answer;
 // the bytes taken, a remembered refusal, 0 where there is none, and its place, the hazards, of which the low four bits count, and whether a Sync Full has
 // come, 0 where not, two bytes that mean nothing and stay, and the cycles that the commands accepted have waited (#105). A fresh record is all zero.
 #[repr(C)]
-#[derive(Drop)]
+#[derive(Clone, Copy)]
 pub struct Stream {
     pub words: [u64; 32],
     pub held: [u8; 176],
@@ -28,7 +30,7 @@ pub struct Stream {
 
 // What a call keeps of a record: whether a Sync Full has come, as a number, and the bytes that mean nothing.
 #[repr(C)]
-#[derive(Drop)]
+#[derive(Clone, Copy)]
 pub struct Kept {
     pub ended: u8,
     pub spare: u16,
@@ -36,7 +38,7 @@ pub struct Kept {
 
 // The record after a call, and the call's answer.
 #[repr(C)]
-#[derive(Drop)]
+#[derive(Clone, Copy)]
 pub struct Fed {
     pub after: Stream,
     pub answer: Answer,

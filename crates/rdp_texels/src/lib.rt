@@ -1,4 +1,6 @@
 // Copy mode (#106): Load Tile and texture rectangles in COPY mode, one command each.
+#![tactic(auto)]
+
 ghost use Rattle.std.specs.Prelude.{◌≡◌, length};
 ghost use Rattle.rdp_texels.specs.Texels.{loaded, copied};
 ghost use Rattle.rdp_texels.specs.Load.{load_needs, load_moves};
@@ -17,7 +19,7 @@ use rdp_command::{CopyFields, LoadFields};
 pub const TEXTURE_BYTES: usize = 4096;
 
 // Texels by column x and row y: memory address `address + y pitch + 2 x`, texture byte `ahead + y line + 2 x - behind`, turned where y + turn is odd.
-#[derive(Drop)]
+#[derive(Clone, Copy)]
 pub struct Grid {
     pub address: u64,
     pub pitch: u64,
@@ -28,7 +30,7 @@ pub struct Grid {
 }
 
 // Columns from `left` up to `right`, and rows from `top` up to `bottom`, the ends not included.
-#[derive(Drop)]
+#[derive(Clone, Copy)]
 pub struct Span {
     pub left: u64,
     pub right: u64,
@@ -37,7 +39,7 @@ pub struct Span {
 }
 
 // A rectangle's texture coordinates: `right` less `left`, `down` less `up`; and what dsdx and dtdy are above 0.
-#[derive(Drop)]
+#[derive(Clone, Copy)]
 pub struct Step {
     pub right: u64,
     pub left: u64,

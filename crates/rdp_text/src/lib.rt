@@ -1,4 +1,6 @@
 // For the programs that draw test lists: the words that many lists have, words as the bytes of a list, and bytes as text in hexadecimal.
+#![tactic(auto)]
+
 ghost use Rattle.std.specs.Prelude.{◌≡◌, length};
 ghost use Rattle.rdp_text.specs.Text.{tabulated, byte_in, digit_of, mark_of, character_of};
 

@@ -6,6 +6,8 @@
 // command gives back, the word after them in the output, which is left as it was, and 'same' where the command that is made of the printed numbers is
 // encoded to the same bytes. A list that is refused has the line 'refused', number and place. Then come the answers of refusals.rt, number and place,
 // and the lines of bits.rt. tools/vectors.py works out the file stdout.
+#![tactic(auto)]
+
 mod bits;
 mod lists;
 mod refusals;

@@ -1,4 +1,6 @@
 // A finished image in memory as RGBA rows.
+#![tactic(auto)]
+
 ghost use Rattle.std.specs.Prelude.{◌≡◌, length};
 ghost use Rattle.rdp_view.specs.View.{framebuffer_at, view_answer, view_out};
 

@@ -1,4 +1,6 @@
 // A list of commands as words: the word at a place, the number of a command, its words, and the bytes after a triangle's base; and a copy of bytes.
+#![tactic(auto)]
+
 ghost use Rattle.std.specs.Prelude.{◌≡◌, ◌<◌, ◌*◌, ◌+◌, ◌≤◌, ◌^◌, length, take, drop};
 ghost use Rattle.rdp_words.specs.Words.{half_of, word_at, bytes_of, number_in, overwrite};
 ghost use Rattle.rdp_words.specs.Kinds.{words_of, is_among};

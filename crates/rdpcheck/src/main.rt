@@ -1,4 +1,6 @@
 // Reads a command list from standard input and prints the check's number and place.
+#![tactic(auto)]
+
 use libc::{STDIN_FILENO, STDOUT_FILENO};
 
 fn main() {
