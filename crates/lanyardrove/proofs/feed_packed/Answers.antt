@@ -1,0 +1,24 @@
+-- `lanyardrove::feed_packed` meets its contract: the answer is packed, and the record is handed on. Assumes nothing.
+use mathlib.Core.Path.{◌≡◌, ◌∙◌, ap}
+use Prim.Native.Nat.{◌^◌, ◌<◌}
+use native.Mathlib.Omega.{arith}
+use lib.ListN.{length}
+use borrow.Author.Rules.{rules}
+use Rattle.lanyardrove.specs.Replies.{packed, of_feed}
+use Rattle.lanyardrove.proofs.BoundLaws.{told, packs}
+use Rattle.lanyardrove.proofs.feed_packed.Goals as goal
+
+pub pack-answer-requires : goal.pack-answer-requires
+pack-answer-requires c =
+    let r = c.args.before in
+    let long : length r.held ≡ 176 = search (rules, c.well-formed.0.1.1.1.0) in
+    let near : r.place < 2 ^ 32 = search (rules, c.well-formed.0.1.1.1.1.1.1.1.0) in
+    let e = told _ _ _ c.third_of_record-third.ensures c.feed_value-fed.ensures in
+    let p = packs _ e (of_feed r long near c.args.portion.now) in
+    omega (arith, p.0, p.1)
+
+pub returns : goal.returns
+returns c =
+    let e = c.feed_value-fed.ensures in
+    let answered = c.pack-answer.ensures ∙ ap packed (told _ _ _ c.third_of_record-third.ensures e) in
+    λ i. record { after = (e i).after; answer = answered i }

@@ -1,0 +1,7 @@
+-- `lanyardrove::lanyardrove_version` meets its contract. Assumes nothing.
+use mathlib.Core.Path.{refl}
+use Rattle.lanyardrove.proofs.lanyardrove_version.Goals as goal
+
+-- `lanyardrove::lanyardrove_version` meets its contract. Assumes nothing.
+pub returns : goal.returns
+returns c = refl

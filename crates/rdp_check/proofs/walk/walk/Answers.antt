@@ -1,0 +1,121 @@
+-- `rdp_check::walk::walk` meets its contract. The loop's invariant: the judgement of what is left is that of the whole list from the first view, and the numbers that are
+use mathlib.Core.Path.{ap, ◌∙◌}
+use Prim.Native.Nat.{◌-◌, ◌<◌}
+use native.Mathlib.Omega.{arith}
+use borrow.Author.Rules.{rules}
+use Rattle.rdp_hazards.proofs.HazardLaws.{next-read}
+use Rattle.rdp_check.specs.View.{view_after, Watches, judged_view}
+use Rattle.rdp_words.proofs.PlaceLaws.{number_small}
+use Rattle.rdp_check.proofs.WalkLaws.{Walked, first, ended, past, refused, falls, again, turn, stays, quick, quick-one}
+use Rattle.std.proofs.Common.{not, ap}
+use Rattle.rdp_check.proofs.walk.walk.Goals as goal
+
+pub loop-at-init : goal.loop-at-init
+loop-at-init c = let p = c.requires in (first _ _ _ _ p.1.1.1 p.1.0 p.1.1.0, c.watched_of-watched.ensures)
+
+pub entry-e-requires : goal.entry-e-requires
+entry-e-requires c = (c.requires.0, (c.loop-at.invariant.0.low, rw c.head_at-head.ensures (number_small _)))
+
+pub overflow_add-at : goal.overflow_add-at
+overflow_add-at c = let w = c.loop-at.invariant.0 in omega (arith, c.loop-at-test.true, w.few)
+
+pub loop-at-smaller-then-e-hazards : goal.loop-at-smaller-then-e-hazards
+loop-at-smaller-then-e-hazards c = omega (arith, c.loop-at-test.true)
+
+pub loop-at-preserved-then-e-hazards : goal.loop-at-preserved-then-e-hazards
+loop-at-preserved-then-e-hazards c =
+    let l = c.loop-at in
+    let agree = c.requires.0 in
+    let small : c.head_at-head.result.number < 64 = rw c.head_at-head.ensures (number_small _) in
+    let q = turn l.invariant.0 _ l.invariant.1 c.loop-at-test.true _ c.head_at-head.ensures _ c.entry-e.ensures _ c.is_among.ensures _ c.clear_below-clear.ensures c.if-e-clear.true in
+    (quick-one q (stays q c.if-e-hazards.true) _ c.is_among-then-e-clear.ensures (ap not c.if-not-is_among.true), l.invariant.1)
+
+-- loop-less-2 : tie.Need-loop-smaller-2 invariant-loop decreases-loop
+-- loop-less-2 c = omega (arith, c.before.before.before.before.before.before.before.before.loop-test.true)
+
+-- loop-again-2 : tie.Need-loop-preserved-2 invariant-loop decreases-loop
+-- loop-again-2 c =
+--     let t = c.before.before.before.before in
+--     let l = t.before.before.before.before.before.loop in
+--     let h = t.before.before.before in
+--     let agree = h.before.before.before.before.before.before.before.requires.0 in
+--     let small : h.head_at.result.number < 64 = rw h.head_at.ensures (number_small _) in
+--     let q = turn l.invariant.0 _ l.invariant.1 h.before.loop-test.true _ h.head_at.ensures _ t.before.before.entry.ensures _ t.before.is_among.ensures _ h.before.before.before.clear-below.ensures t.if1.true in
+--     (quick-one q (c.next.ensures ∙ next-read _ agree _ _ l.invariant.0.low small) _ c.before.before.before.is-among2.ensures c.before.before.if2.true, l.invariant.1)
+
+pub overflow_sub-words : goal.overflow_sub-words
+overflow_sub-words c = omega (arith, c.loop-at-test.true)
+
+pub answer-requires : goal.answer-requires
+answer-requires c = let w = c.loop-at.invariant.0 in omega (arith, w.within, w.few)
+
+pub returns-then-words-at : goal.returns-then-words-at
+returns-then-words-at c =
+    c.answer.ensures ∙
+    past c.loop-at.invariant.0 c.loop-at-test.true _ (ap (λ x. x.number) c.head_at-head.ensures) _ c.words_of-count.ensures c.if-words-at.true
+
+pub overflow_add-at-then-e-clear : goal.overflow_add-at-then-e-clear
+overflow_add-at-then-e-clear c = let w = c.loop-at.invariant.0 in omega (arith, c.if-words-at.false, w.within, w.few)
+
+-- loop-less-3 : tie.Need-loop-smaller-3 invariant-loop decreases-loop
+-- loop-less-3 c =
+--     let t = c.before.before.before.before.before.before.before.before in
+--     falls t.before.before.loop.invariant.0 t.before.loop-test.true _ (ap (λ x. x.number) t.head_at.ensures) _ c.before.before.words-of.ensures c.before.if4.false
+
+-- loop-again-3 : tie.Need-loop-preserved-3 invariant-loop decreases-loop
+-- loop-again-3 c =
+--     let t = c.before.before.before.before.before in
+--     let l = t.before.before.before.before.before.loop in
+--     let h = t.before.before.before in
+--     let agree = h.before.before.before.before.before.before.before.requires.0 in
+--     let small : h.head_at.result.number < 64 = rw h.head_at.ensures (number_small _) in
+--     let q = turn l.invariant.0 _ l.invariant.1 h.before.loop-test.true _ h.head_at.ensures _ t.before.before.entry.ensures _ t.before.is_among.ensures _ h.before.before.before.clear-below.ensures t.if1.true in
+--     (quick q (c.next2.ensures ∙ next-read _ agree _ _ l.invariant.0.low small) _ c.before.before.words-of.ensures c.before.if4.false, l.invariant.1)
+
+pub advance-advanced-requires : goal.advance-advanced-requires
+advance-advanced-requires c =
+    let small : c.head_at-head.result.number < 64 = rw c.head_at-head.ensures (number_small _) in
+    (small, c.entry-e.ensures)
+
+pub overflow_sub-words-in-loop-at : goal.overflow_sub-words-in-loop-at
+overflow_sub-words-in-loop-at c = omega (arith, c.loop-at-test.true)
+
+pub answer-requires-then-words-at-2 : goal.answer-requires-then-words-at-2
+answer-requires-then-words-at-2 c = let w = c.loop-at.invariant.0 in omega (arith, w.within, w.few)
+
+pub returns-then-words-at-2 : goal.returns-then-words-at-2
+returns-then-words-at-2 c =
+    c.answer-then-words-at-2.ensures ∙
+    past c.loop-at.invariant.0 c.loop-at-test.true _ (ap (λ x. x.number) c.head_at-head.ensures) _ c.advance-advanced.ensures.words c.if-words-at-2.true
+
+pub answer-requires-then-refusal-ne0 : goal.answer-requires-then-refusal-ne0
+answer-requires-then-refusal-ne0 c = let w = c.loop-at.invariant.0 in omega (arith, w.within, w.few)
+
+pub returns-then-refusal-ne0 : goal.returns-then-refusal-ne0
+returns-then-refusal-ne0 c =
+    let a = c.advance-advanced.ensures in
+    c.answer-then-refusal-ne0.ensures ∙
+    refused c.loop-at.invariant.0 c.loop-at-test.true _ (ap (λ x. x.number) c.head_at-head.ensures) _ a.words c.if-words-at-2.false _ a.refusal c.if-refusal-ne0.true
+
+pub overflow_add-at-in-loop-at : goal.overflow_add-at-in-loop-at
+overflow_add-at-in-loop-at c = let w = c.loop-at.invariant.0 in omega (arith, c.if-words-at-2.false, w.within, w.few)
+
+-- loop-less-4 : tie.Need-loop-smaller-4 invariant-loop decreases-loop
+-- loop-less-4 c =
+--     let t = c.before.before.before.before.before.before.before.before.before in
+--     falls t.before.before.loop.invariant.0 t.before.loop-test.true _ (ap (λ x. x.number) t.head_at.ensures) _ c.before.before.before.before.before.advance.ensures.words c.before.before.before.before.if5.false
+
+-- loop-again-4 : tie.Need-loop-preserved-4 invariant-loop decreases-loop
+-- loop-again-4 c =
+--     let t = c.before.before.before.before.before.before.before.before.before in
+--     let h = t.head_at.ensures in
+--     let a = c.before.before.before.before.before.advance.ensures in (
+--       again t.before.before.loop.invariant.0 t.before.loop-test.true _ (ap (λ x. x.number) h) _ a.words c.before.before.before.before.if5.false _ a.refusal c.before.before.before.if6.false _ (a.after ∙ ap (view_after _) h),
+--       c.watched-of2.ensures,
+--     )
+
+pub answer-requires-2 : goal.answer-requires-2
+answer-requires-2 c = let w = c.loop-at.invariant.0 in w.few
+
+pub returns : goal.returns
+returns c = c.answer-2.ensures ∙ ended c.loop-at.invariant.0 c.loop-at-test.false

@@ -1,0 +1,9 @@
+use borrow.Author.Tests.{lt-ltb, le-ltb}
+use borrow.Author.Rules.{rules}
+use Rattle.rdp_command.proofs.words.own_word.Goals as goal
+
+pub returns-then-k-n : goal.returns-then-k-n
+returns-then-k-n c = rw (lt-ltb _ _ c.if-k-n.true) c.word_at.ensures
+
+pub returns-else-k-n : goal.returns-else-k-n
+returns-else-k-n c = rw (le-ltb _ _ c.if-k-n.false)

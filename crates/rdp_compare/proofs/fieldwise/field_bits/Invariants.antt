@@ -1,0 +1,12 @@
+use Prim.Native.Nat.{◌-◌}
+use native.Mathlib.Omega.{arith}
+use lib.ListN.{length}
+use Rattle.rdp_compare.proofs.DifferingLaws.{Adding, adding-first, adding-small, adding-next, added}
+use borrow.Author.Rules.{rules}
+use Rattle.rdp_compare.proofs.fieldwise.field_bits.Given as goal
+
+abbrev pub invariant-loop-k : goal.invariant-loop-k
+invariant-loop-k l = Adding l.number l.first l.second l.sum l.k
+
+abbrev pub decreases-loop-k : goal.decreases-loop-k
+decreases-loop-k l = length l.first - l.k

@@ -1,0 +1,37 @@
+-- `rdp_draw::acting::act` meets its contract. Assumes nothing.
+use borrow.Author.Rules.{rules}
+use Rattle.rdp_draw.proofs.DrawLaws.{fill-left, copy-left, load-left, block-left}
+use Rattle.rdp_draw.proofs.acting.act.Goals as goal
+
+pub returns-then-at-eq54 : goal.returns-then-at-eq54
+returns-then-at-eq54 c =
+    let a = c.args in
+    fill-left a.start a.memory.now a.texture.now a.file.now a.list.now a.at.place a.at.number c.requires.1 c.if-at-eq54.true _
+    c.fill_at.ensures _ c.paint.ensures
+
+pub copy_at-requires : goal.copy_at-requires
+copy_at-requires c = c.before.requires.0.0
+
+pub returns-then-at-eq36 : goal.returns-then-at-eq36
+returns-then-at-eq36 c =
+    let e = c.before in
+    let a = e.args in
+    let p = e.requires in
+    copy-left a.start a.memory.now a.texture.now a.file.now a.list.now a.at.place a.at.number p.1 p.0.1 c.if-at-eq36.true _
+    c.copy_at.ensures _ c.copy_rectangle.ensures.1
+
+pub returns-then-at-eq52 : goal.returns-then-at-eq52
+returns-then-at-eq52 c =
+    let e = c.before in
+    let a = e.args in
+    let p = e.requires in
+    load-left a.start a.memory.now a.texture.now a.file.now a.list.now a.at.place a.at.number p.1 p.0.1 _
+    c.load_at-load.ensures c.if-at-eq52.true _ c.load_tile.ensures.1
+
+pub returns : goal.returns
+returns c =
+    let e = c.before in
+    let a = e.args in
+    let p = e.requires in
+    block-left a.start a.memory.now a.texture.now a.file.now a.list.now a.at.place a.at.number p.1 p.0.1 _
+    c.load_at-load.ensures c.if-at-eq54.false c.if-at-eq36.false c.if-at-eq52.false _ c.load_block.ensures.1

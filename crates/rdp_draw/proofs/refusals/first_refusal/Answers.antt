@@ -1,0 +1,43 @@
+-- `rdp_draw::refusals::first_refusal` meets its contract. The loop's invariant: the first refusal of the acts from here on is that of the list. The
+use mathlib.Core.Path.{refl}
+use Prim.Native.Nat.{◌-◌}
+use native.Mathlib.Omega.{arith}
+use borrow.Author.Rules.{rules}
+use Rattle.rdp_draw.proofs.DrawLaws.{Reaching, reaching-first, next, falls, Tests, tests-none, tests-refused, tests-again}
+use Rattle.rdp_draw.proofs.refusals.first_refusal.Goals as goal
+
+pub loop-reached-init : goal.loop-reached-init
+loop-reached-init c =
+    let p = c.requires in
+    reaching-first _ _ _ p.0 p.1.1 refl _ _ c.next_act-reached.ensures
+
+pub refusal_at-number-requires : goal.refusal_at-number-requires
+refusal_at-number-requires c = omega (arith, c.loop-reached-test.true, c.requires.1.0)
+
+pub overflow_cast-result : goal.overflow_cast-result
+overflow_cast-result c =
+    omega (arith, c.loop-reached-test.true, c.requires.1.0)
+
+pub returns-then-number-ne0 : goal.returns-then-number-ne0
+returns-then-number-ne0 c =
+    tests-refused _ _ c.loop-reached.invariant c.loop-reached-test.true _ c.refusal_at-number.ensures c.if-number-ne0.true
+
+pub overflow_add-next : goal.overflow_add-next
+overflow_add-next c =
+    let p = c.requires in
+    omega (arith, c.words_of.ensures, (next c.loop-reached.invariant c.loop-reached-test.true).inside, p.0, p.1.0)
+
+pub loop-reached-smaller : goal.loop-reached-smaller
+loop-reached-smaller c =
+    omega (arith, c.loop-reached-test.true, falls c.loop-reached.invariant c.loop-reached-test.true _ c.words_of.ensures _ _ c.next_act-reached-in-loop-reached.ensures)
+
+pub loop-reached-preserved : goal.loop-reached-preserved
+loop-reached-preserved c =
+    tests-again _ _ c.loop-reached.invariant c.loop-reached-test.true _ c.refusal_at-number.ensures c.if-number-ne0.false _
+    c.words_of.ensures _ _ c.next_act-reached-in-loop-reached.ensures
+
+pub overflow_cast-result-2 : goal.overflow_cast-result-2
+overflow_cast-result-2 c = omega (arith, c.requires.1.0)
+
+pub returns : goal.returns
+returns c = tests-none _ _ c.loop-reached.invariant c.loop-reached-test.false

@@ -1,0 +1,35 @@
+-- `rdp_repair::plan::bare_ranks` meets its contract: after m turns the first m ranks stand. Assumes nothing.
+use mathlib.Core.Path.{◌≡◌, refl, ◌∙◌}
+use Prim.Native.Nat.{ℕ, ◌-◌, ◌≤◌}
+use native.Mathlib.Omega.{arith}
+use borrow.Author.Rules.{rules}
+use lib.ListN.{length, get_or, length-set}
+use Rattle.rdp_repair.specs.Work.{bare_rank}
+use Rattle.rdp_repair.proofs.RankLaws.{bare-is}
+use Rattle.rdp_repair.proofs.TabulateLaws.{Holds, holds_more, holds-all}
+use Rattle.rdp_repair.proofs.plan.bare_ranks.Goals as goal
+
+pub loop-m-init : goal.loop-m-init
+loop-m-init c = (omega arith, refl, λ k h. absurd (omega arith))
+
+pub bounds-table-at : goal.bounds-table-at
+bounds-table-at c = search (rules, c.requires.1)
+
+pub bare_rank-rank-requires : goal.bare_rank-rank-requires
+bare_rank-rank-requires c = c.requires.2
+
+pub loop-m-preserved : goal.loop-m-preserved
+loop-m-preserved c =
+    let a = c.args in
+    let f : ℕ → ℕ = λ k. get_or a.after.now k 0 in
+    let long : length c.loop-m.ranks ≡ 16 = c.loop-m.invariant.1 in (
+      omega arith,
+      simp length-set long,
+      holds_more c.loop-m.ranks (bare_rank a.number f) c.loop-m.m _ (omega arith) c.loop-m.invariant.2
+          (c.bare_rank-rank.ensures ∙ bare-is c.loop-m.m a.number _ c.requires.1 (c.requires.0 c.loop-m.m a.number c.loop-m-test.true c.requires.1) f),
+    )
+
+pub returns : goal.returns
+returns c =
+    let all : c.loop-m.m ≡ 16 = omega arith in
+    holds-all c.loop-m.ranks (bare_rank c.args.number (λ k. get_or c.args.after.now k 0)) 16 c.loop-m.invariant.1 (rw all at c.loop-m.invariant.2)

@@ -1,0 +1,20 @@
+-- `rdp_repair::plan::row_before` meets its contract: after m turns the first m totals and choices stand. Assumes nothing.
+use mathlib.Core.Path.{◌≡◌, refl, sym, ap, ◌∙◌, subst}
+use Prim.Native.Nat.{ℕ, ◌-◌, ◌/◌, ◌%◌, min, ◌<◌, ◌≤◌}
+use native.Mathlib.Omega.{arith}
+use borrow.Author.Rules.{rules}
+use lib.ListN.{length, get_or, length-set}
+use Rattle.rdp_repair.specs.Best.{chosen}
+use Rattle.rdp_repair.specs.Work.{packed_choice, totals_of, choices_of, Bounded}
+use Rattle.rdp_repair.proofs.RankLaws.{rank_of, least-held, total_of, choice-of, bare-most}
+use Rattle.rdp_repair.proofs.TabulateLaws.{Holds, holds_more, holds-all, tabulate-same, tabulate-most}
+use Rattle.rdp_repair.proofs.plan.row_before.Given as goal
+
+-- `rdp_repair::plan::row_before` meets its contract: after m turns the first m totals and choices stand. Assumes nothing.
+abbrev pub invariant-loop-m : goal.invariant-loop-m
+invariant-loop-m l =
+    let r : ℕ → ℕ = λ j. min (get_or l.ranks j 0) (get_or l.synced (j % 4) 0) in
+    (l.m ≤ 16) × (length l.totals ≡ 16) × (length l.choices ≡ 16) × Holds l.totals (λ j. r j / 64) l.m × Holds l.choices (λ j. r j % 64) l.m
+
+abbrev pub decreases-loop-m : goal.decreases-loop-m
+decreases-loop-m l = 16 - l.m

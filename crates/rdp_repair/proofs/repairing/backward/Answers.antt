@@ -1,0 +1,90 @@
+-- `rdp_repair::repairing::backward` meets its contract: the choices stand from command i on, and the totals are those from i on. Assumes nothing.
+use mathlib.Core.Path.{◌≡◌, refl, sym, ap, ◌∙◌}
+use mathlib.Core.List.{List}
+use Prim.Native.Nat.{ℕ, suc, ◌+◌, ◌*◌, ◌-◌, ◌<◌, ◌≤◌}
+use native.Mathlib.Omega.{arith}
+use lib.ListN.{length, get_or, drop}
+use Rattle.rdp_words.proofs.OverwriteLaws.{part-copied}
+use Rattle.rdp_repair.specs.Best.{best}
+use Rattle.rdp_repair.specs.Work.{tabulate, noted_in}
+use Rattle.rdp_repair.proofs.BackLaws.{back_to, back_start, back_end, no-numbers-left, length_back, length-choices, number-below, totals-bounded, turn-totals, turn-work}
+use Rattle.rdp_repair.proofs.repairing.backward.Goals.{After-row_before-row, In-loop-i}
+use Rattle.rdp_repair.proofs.repairing.backward.Goals as goal
+
+-- what a turn works on: the buffer as it was, the count, the command, and what the invariant says of them
+module _ (c : In-loop-i) where
+  abbrev first-work : List ℕ
+  first-work = c.args.work.now
+
+  abbrev count : ℕ
+  count = c.args.commands
+
+  abbrev index : ℕ
+  index = c.loop-i.i - 1
+
+  room : 16 * count ≤ length first-work
+  room = c.requires.2
+
+  same : c.loop-i.i ≡ suc index
+  same = omega arith
+
+  in-range : index < count
+  in-range = omega arith
+
+  is-now : c.loop-i.work ≡ back_to first-work count (suc index)
+  is-now = c.loop-i.invariant.1 ∙ ap (back_to first-work count) same
+
+  are-totals : c.loop-i.totals ≡ tabulate 16 (best (drop (suc index) (noted_in first-work count)))
+  are-totals = c.loop-i.invariant.2 ∙ ap (λ (k : ℕ). tabulate 16 (best (drop k (noted_in first-work count)))) same
+
+  length-now : length c.loop-i.work ≡ length first-work
+  length-now = ap length is-now ∙ length_back first-work count room (suc index) (omega (arith, in-range))
+
+sixteen : (row : After-row_before-row) → length row.row_before-row.result.choices ≡ 16
+sixteen row = ap length row.row_before-row.ensures.choices-are ∙ length-choices _ _
+
+pub loop-i-init : goal.loop-i-init
+unfolding best tabulate
+loop-i-init c =
+    let work : List ℕ = c.args.work.now in
+    let n : ℕ = c.args.commands in
+    (omega arith, sym (back_start work n c.requires.2), sym (ap (λ (ns : List ℕ). tabulate 16 (best ns)) (no-numbers-left work n c.requires.2)))
+
+pub bounds-work-at : goal.bounds-work-at
+bounds-work-at c = omega (arith, length-now (goal.at.bounds-work-at c).In-loop-i, room (goal.at.bounds-work-at c).In-loop-i)
+
+pub row_before-row-requires : goal.row_before-row-requires
+row_before-row-requires c =
+    (
+      c.requires.0,
+      number-below (first-work (goal.at.row_before-row-requires c).In-loop-i) (count (goal.at.row_before-row-requires c).In-loop-i) (room (goal.at.row_before-row-requires c).In-loop-i) (index (goal.at.row_before-row-requires c).In-loop-i) (in-range (goal.at.row_before-row-requires c).In-loop-i) _ (is-now (goal.at.row_before-row-requires c).In-loop-i) _ (are-totals (goal.at.row_before-row-requires c).In-loop-i) _ refl c.requires.3,
+      totals-bounded (first-work (goal.at.row_before-row-requires c).In-loop-i) (count (goal.at.row_before-row-requires c).In-loop-i) (room (goal.at.row_before-row-requires c).In-loop-i) (index (goal.at.row_before-row-requires c).In-loop-i) (in-range (goal.at.row_before-row-requires c).In-loop-i) _ (is-now (goal.at.row_before-row-requires c).In-loop-i) _ (are-totals (goal.at.row_before-row-requires c).In-loop-i) _ refl c.requires.1,
+    )
+
+pub slice_bounds-copy-end : goal.slice_bounds-copy-end
+slice_bounds-copy-end c = omega (arith, length-now (goal.at.slice_bounds-copy-end c).In-loop-i, room (goal.at.slice_bounds-copy-end c).In-loop-i)
+
+pub slice_bounds-copy-end-in-loop-i : goal.slice_bounds-copy-end-in-loop-i
+slice_bounds-copy-end-in-loop-i c = sym (sixteen (goal.at.slice_bounds-copy-end-in-loop-i c).After-row_before-row)
+
+pub copy-requires : goal.copy-requires
+copy-requires c = tt
+
+pub loop-i-preserved : goal.loop-i-preserved
+loop-i-preserved c =
+    let at : ℕ = 16 * index (goal.at.loop-i-preserved c).In-loop-i in (
+      omega arith,
+      part-copied c.row_before-row.result.choices c.loop-i.work c.copy.new.0 at (at + 16) (omega (arith, sixteen (goal.at.loop-i-preserved c).After-row_before-row))
+          (omega (arith, length-now (goal.at.loop-i-preserved c).In-loop-i, room (goal.at.loop-i-preserved c).In-loop-i)) c.copy.ensures ∙
+          turn-work (first-work (goal.at.loop-i-preserved c).In-loop-i) (count (goal.at.loop-i-preserved c).In-loop-i) (room (goal.at.loop-i-preserved c).In-loop-i) (index (goal.at.loop-i-preserved c).In-loop-i) (in-range (goal.at.loop-i-preserved c).In-loop-i) _ (is-now (goal.at.loop-i-preserved c).In-loop-i) _ (are-totals (goal.at.loop-i-preserved c).In-loop-i) _ refl _ c.row_before-row.ensures.choices-are,
+      turn-totals (first-work (goal.at.loop-i-preserved c).In-loop-i) (count (goal.at.loop-i-preserved c).In-loop-i) (room (goal.at.loop-i-preserved c).In-loop-i) (index (goal.at.loop-i-preserved c).In-loop-i) (in-range (goal.at.loop-i-preserved c).In-loop-i) _ (is-now (goal.at.loop-i-preserved c).In-loop-i) _ (are-totals (goal.at.loop-i-preserved c).In-loop-i) _ refl _ c.row_before-row.ensures.totals-are,
+    )
+
+pub returns : goal.returns
+unfolding tabulate
+returns c =
+    let end : c.loop-i.i ≡ 0 = omega arith in
+    record {
+      least = ap (λ (l : List ℕ). get_or l 0 0) (rw end at c.loop-i.invariant.2);
+      choices = rw end at c.loop-i.invariant.1 ∙ back_end c.args.work.now c.args.commands c.requires.2;
+    }

@@ -1,0 +1,86 @@
+-- `rdp_repair::repairing::plan_list` meets its contract: the passes one after the other, by `RepairLaws`. Assumes nothing.
+use mathlib.Core.Path.{◌≡◌, sym, ap, ap₂, ◌∙◌, subst}
+use mathlib.Core.Bool.{Bool}
+use mathlib.Core.List.{List}
+use Prim.Native.Nat.{ℕ, ◌+◌, ◌*◌}
+use native.Mathlib.Omega.{arith}
+use borrow.Author.Rules.{rules}
+use lib.ListN.{length}
+use Rattle.rdp_check.specs.Commands.{commands_of}
+use Rattle.rdp_repair.specs.Best.{plan}
+use Rattle.rdp_repair.specs.Work.{noted_of, NotedIs, Below, work_of, options_in, inserts_of}
+use Rattle.rdp_repair.specs.declared.repairing.Noted.{Noted}
+use Rattle.rdp_words.specs.Words.{overwrite}
+use Rattle.rdp_repair.proofs.RepairedLaws.{count_most}
+use Rattle.rdp_repair.proofs.RepairLaws.{words-few, noted-below, cycles-are, choices-are, choices-below, plan-held}
+use Rattle.rdp_repair.proofs.repairing.plan_list.Goals.{After-backward-cycles, Start}
+use Rattle.rdp_repair.proofs.repairing.plan_list.Goals as goal
+
+-- after the backward pass
+module _ (b : After-backward-cycles) where
+  abbrev s : Start
+  s = b.before.before.before.before.before.before.before.before.before.before
+
+  abbrev afresh : Bool
+  afresh = s.args.afresh
+
+  abbrev list : List ℕ
+  list = s.args.list.now
+
+  abbrev work : List ℕ
+  work = s.args.work.now
+
+  abbrev result : Noted
+  result = b.note_numbers-noted.result
+
+  abbrev count : ℕ
+  count = result.commands
+
+  abbrev noted : NotedIs afresh list work result b.note_numbers-noted.last.1.1.0
+  noted = b.note_numbers-noted.ensures
+
+  abbrev held : List ℕ
+  held = b.backward-cycles.last.1.0
+
+  held-is : held ≡ overwrite (work_of (noted_of afresh (commands_of list))) work
+  held-is = choices-are afresh list work _ _ noted _ _ b.backward-cycles.ensures
+
+  held-long : length held ≡ length work
+  held-long = b.backward-cycles.kept.1.0 ∙ b.note_numbers-noted.kept.1.1.0
+
+  held_below : Below 64 held (16 * count)
+  held_below = subst (λ (k : ℕ). Below 64 held (16 * k)) (sym noted.counted) (choices-below afresh list work held held-is)
+
+  inserts-are : (inserts : ℕ) → inserts ≡ inserts_of (options_in count held 0) → inserts ≡ inserts_of (plan (noted_of afresh (commands_of list)) 0)
+  inserts-are inserts e =
+      e ∙ ap (λ (k : ℕ). inserts_of (options_in k held 0)) noted.counted ∙ ap inserts_of (plan-held afresh list work held held-is)
+
+-- `rdp_repair::repairing::plan_list` meets its contract: the passes one after the other, by `RepairLaws`. Assumes nothing.
+pub note_numbers-noted-requires : goal.note_numbers-noted-requires
+note_numbers-noted-requires c = c.requires
+
+pub backward-cycles-requires : goal.backward-cycles-requires
+backward-cycles-requires c =
+    let w = c.requires.0 in (
+      c.step_table-table.ensures,
+      omega (arith, c.note_numbers-noted.ensures.counted, count_most c.args.list.now w.none, w.long, w.few),
+      omega (arith, c.note_numbers-noted.ensures.counted, c.requires.1, c.note_numbers-noted.auto.1.1.0),
+      noted-below c.args.afresh c.args.list.now c.args.work.now _ _ c.note_numbers-noted.ensures,
+    )
+
+pub count_inserts-requires : goal.count_inserts-requires
+count_inserts-requires c =
+    (omega (arith, held-long (goal.at.count_inserts-requires c).After-backward-arg-1, (s (goal.at.count_inserts-requires c).After-backward-arg-1).requires.1, (noted (goal.at.count_inserts-requires c).After-backward-arg-1).counted), held_below (goal.at.count_inserts-requires c).After-backward-arg-1)
+
+pub overflow_add-total : goal.overflow_add-total
+overflow_add-total c =
+    omega (arith, (noted (goal.at.overflow_add-total c).After-backward-arg-1).words, inserts-are (goal.at.overflow_add-total c).After-backward-arg-1 _ c.count_inserts.ensures, words-few (afresh (goal.at.overflow_add-total c).After-backward-arg-1) (list (goal.at.overflow_add-total c).After-backward-arg-1) _ (s (goal.at.overflow_add-total c).After-backward-arg-1).requires.0)
+
+pub returns : goal.returns
+returns c =
+    record {
+      commands = (noted (goal.at.returns c).After-backward-arg-1).counted;
+      cycles = cycles-are (afresh (goal.at.returns c).After-backward-arg-1) (list (goal.at.returns c).After-backward-arg-1) (work (goal.at.returns c).After-backward-arg-1) _ _ (noted (goal.at.returns c).After-backward-arg-1) _ _ c.backward-cycles.ensures;
+      words = ap₂ (λ (x y : ℕ). x + y) (noted (goal.at.returns c).After-backward-arg-1).words (inserts-are (goal.at.returns c).After-backward-arg-1 _ c.count_inserts.ensures);
+      choices = held-is (goal.at.returns c).After-backward-arg-1;
+    }

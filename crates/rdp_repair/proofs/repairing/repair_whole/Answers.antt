@@ -1,0 +1,100 @@
+-- `rdp_repair::repairing::repair_whole` meets its contract: the plan, the output and the cleared work buffer, by `RepairLaws`. Assumes nothing.
+use mathlib.Core.Path.{◌≡◌, ap, ◌∙◌}
+use mathlib.Core.Bool.{Bool}
+use mathlib.Core.List.{List}
+use Prim.Native.Nat.{ℕ, ◌*◌, ◌≤◌}
+use native.Mathlib.Omega.{arith}
+use borrow.Author.Rules.{rules}
+use lib.ListN.{length, replicate}
+use Rattle.rdp_words.specs.Words.{overwrite}
+use Rattle.rdp_check.specs.Commands.{commands_of}
+use Rattle.rdp_repair.specs.Best.{repaired_bytes, least_cycles}
+use Rattle.rdp_repair.specs.Work.{basis_of, due_bytes}
+use Rattle.rdp_repair.proofs.DropLaws.{best-basis}
+use Rattle.rdp_repair.proofs.RepairLaws.{whole-list, commands-few, words-needed, choices-below, due-held, work-cleared, refused-out, repaired-is}
+use Rattle.rdp_repair.proofs.repairing.repair_whole.Goals.{After-plan_list-planned, Start}
+use Rattle.rdp_repair.proofs.repairing.repair_whole.Goals as goal
+
+-- after the plan is made
+module _ (p : After-plan_list-planned) where
+  abbrev s : Start
+  s = p.before.before.before.before.before
+
+  abbrev afresh : Bool
+  afresh = s.args.afresh
+
+  abbrev list : List ℕ
+  list = s.args.list.now
+
+  abbrev basis : List ℕ
+  basis = basis_of afresh list
+
+  abbrev work : List ℕ
+  work = s.args.work.now
+
+  abbrev held : List ℕ
+  held = p.plan_list-planned.last.1.1.0
+
+  abbrev count : ℕ
+  count = p.plan_list-planned.result.commands
+
+  long : length held ≡ length work
+  long = p.plan_list-planned.kept.1.1.0
+
+  needed : (length (repaired_bytes basis) ≡ 8 * p.plan_list-planned.result.words) × (p.plan_list-planned.result.words ≤ 4096)
+  needed = words-needed afresh list s.pre.0 _ p.plan_list-planned.ensures.words
+
+  few : count ≤ 2048
+  few = omega (arith, p.plan_list-planned.ensures.commands, commands-few list s.pre.0)
+
+  room : 16 * count ≤ length held
+  room = omega (arith, p.plan_list-planned.ensures.commands, s.pre.2, long)
+
+  due-is : due_bytes afresh list held ≡ repaired_bytes basis
+  due-is = due-held afresh list work held p.plan_list-planned.ensures.choices
+
+  written_is : (out out' : List ℕ) → out' ≡ overwrite (due_bytes afresh list held) out → out' ≡ overwrite (repaired_bytes basis) out
+  written_is out out' e = e ∙ ap (λ (l : List ℕ). overwrite l out) due-is
+
+  cycles-is : p.plan_list-planned.result.cycles ≡ least_cycles basis
+  cycles-is = p.plan_list-planned.ensures.cycles ∙ best-basis afresh list
+
+  cleared-is : (work' : List ℕ) → work' ≡ overwrite (replicate (16 * count) 0) held → work' ≡ overwrite (replicate (16 * length (commands_of list)) 0) work
+  cleared-is work' e = e ∙ work-cleared afresh list work held p.plan_list-planned.ensures.choices count p.plan_list-planned.ensures.commands
+
+-- `rdp_repair::repairing::repair_whole` meets its contract: the plan, the output and the cleared work buffer, by `RepairLaws`. Assumes nothing.
+pub plan_list-planned-requires : goal.plan_list-planned-requires
+plan_list-planned-requires c =
+    (whole-list c.args.list.now c.args.words c.requires.0 c.requires.1, c.requires.2)
+
+pub overflow_mul-used : goal.overflow_mul-used
+overflow_mul-used c = omega (arith, few (goal.at.overflow_mul-used c).After-plan_list-planned)
+
+pub overflow_cast-place : goal.overflow_cast-place
+overflow_cast-place c = omega (arith, (needed (goal.at.overflow_cast-place c).After-plan_list-planned).1)
+
+pub clear-requires : goal.clear-requires
+clear-requires c = omega (arith, room (goal.at.clear-requires c).After-plan_list-planned)
+
+pub returns-then-out-needed : goal.returns-then-out-needed
+returns-then-out-needed c =
+    refused-out (basis (goal.at.returns-then-out-needed c).After-plan_list-planned) (list (goal.at.returns-then-out-needed c).After-plan_list-planned) (work (goal.at.returns-then-out-needed c).After-plan_list-planned) (s (goal.at.returns-then-out-needed c).After-plan_list-planned).args.out.now (s (goal.at.returns-then-out-needed c).After-plan_list-planned).requires.0 (s (goal.at.returns-then-out-needed c).After-plan_list-planned).requires.2 _ (needed (goal.at.returns-then-out-needed c).After-plan_list-planned).0 _ (cleared-is (goal.at.returns-then-out-needed c).After-plan_list-planned _ c.clear.ensures)
+    c.if-out-needed.true
+
+pub write_plan-requires : goal.write_plan-requires
+write_plan-requires c =
+    (
+      whole-list (list (goal.at.write_plan-requires c).After-plan_list-arg-1) (s (goal.at.write_plan-requires c).After-plan_list-arg-1).args.words (s (goal.at.write_plan-requires c).After-plan_list-arg-1).requires.0 (s (goal.at.write_plan-requires c).After-plan_list-arg-1).requires.1,
+      omega (arith, long (goal.at.write_plan-requires c).After-plan_list-arg-1, (s (goal.at.write_plan-requires c).After-plan_list-arg-1).requires.2),
+      choices-below (afresh (goal.at.write_plan-requires c).After-plan_list-arg-1) (list (goal.at.write_plan-requires c).After-plan_list-arg-1) (work (goal.at.write_plan-requires c).After-plan_list-arg-1) (held (goal.at.write_plan-requires c).After-plan_list-arg-1) c.plan_list-planned.ensures.choices,
+      omega (arith, ap length (due-is (goal.at.write_plan-requires c).After-plan_list-arg-1), (needed (goal.at.write_plan-requires c).After-plan_list-arg-1).0, c.if-out-needed.false),
+    )
+
+pub clear-requires-2 : goal.clear-requires-2
+clear-requires-2 c = omega (arith, room (goal.at.clear-requires-2 c).After-plan_list-arg-1)
+
+pub returns : goal.returns
+returns c =
+    let out : List ℕ = (s (goal.at.returns c).After-plan_list-arg-1).args.out.now in
+    repaired-is (basis (goal.at.returns c).After-plan_list-arg-1) (list (goal.at.returns c).After-plan_list-arg-1) (work (goal.at.returns c).After-plan_list-arg-1) out (s (goal.at.returns c).After-plan_list-arg-1).requires.0 (s (goal.at.returns c).After-plan_list-arg-1).requires.2 _ (needed (goal.at.returns c).After-plan_list-arg-1).0 _ (cleared-is (goal.at.returns c).After-plan_list-arg-1 _ c.clear-2.ensures)
+    c.if-out-needed.false _ (cycles-is (goal.at.returns c).After-plan_list-arg-1) _ (written_is (goal.at.returns c).After-plan_list-arg-1 out _ c.write_plan.ensures)

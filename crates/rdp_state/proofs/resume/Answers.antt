@@ -1,0 +1,12 @@
+-- `rdp_state::resume` meets its contract: the check from where the list stands, and the words of the commands before its place. Assumes nothing.
+use mathlib.Core.Path.{◌≡◌}
+use lib.ListN.{length}
+use borrow.Author.Rules.{rules}
+use Rattle.rdp_state.proofs.ResumeLaws.{resumed-is}
+use Rattle.rdp_state.proofs.resume.Goals as goal
+
+pub returns : goal.returns
+returns c =
+    let b = c.args.before in
+    let long : length b.words ≡ 32 = search (rules, c.well-formed.0.1.1.0) in
+    resumed-is b long c.args.bytes.now _ c.check_from-judged.ensures _ c.end_of_lem.ensures _ c.replay_from-replay.ensures

@@ -1,0 +1,19 @@
+-- `rdp_texels::grids::place` meets its contract. Assumes nothing.
+use native.Mathlib.Nat.{mul-le-mul}
+use native.Mathlib.Omega.{arith}
+use mathlib.Core.Path.{refl}
+use borrow.Author.Rules.{rules}
+use Rattle.rdp_texels.proofs.grids.place.Goals as goal
+
+-- `rdp_texels::grids::place` meets its contract. Assumes nothing.
+pub overflow_mul-result : goal.overflow_mul-result
+overflow_mul-result c = omega (arith, mul-le-mul c.requires.3 c.requires.1)
+
+pub overflow_add-result : goal.overflow_add-result
+overflow_add-result c = omega (arith, mul-le-mul c.requires.3 c.requires.1)
+
+pub overflow_add-result-2 : goal.overflow_add-result-2
+overflow_add-result-2 c = omega (arith, mul-le-mul c.requires.3 c.requires.1)
+
+pub returns : goal.returns
+returns c = (refl, omega (arith, mul-le-mul c.requires.3 c.requires.1))

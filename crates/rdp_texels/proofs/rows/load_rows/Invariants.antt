@@ -1,0 +1,15 @@
+-- `rdp_texels::rows::load_rows` meets its contract. The invariant stands first. Assumes nothing.
+use mathlib.Core.Bool.{true}
+use Rattle.rdp_texels.proofs.LoopLaws.{LoadDue, load-first, load-next, load-done}
+use native.Mathlib.Omega.{arith}
+use mathlib.Core.Path.{◌∙◌}
+use Prim.Native.Nat.{◌-◌}
+use borrow.Author.Rules.{rules}
+use Rattle.rdp_texels.proofs.rows.load_rows.Given as goal
+
+-- `rdp_texels::rows::load_rows` meets its contract. The invariant stands first. Assumes nothing.
+abbrev pub invariant-loop-y : goal.invariant-loop-y
+invariant-loop-y l = LoadDue (λ _. true) l.grid l.span l.start l.memory l.initial.texture l.texture l.y
+
+abbrev pub decreases-loop-y : goal.decreases-loop-y
+decreases-loop-y l = l.span.bottom - l.y

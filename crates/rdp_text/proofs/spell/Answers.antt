@@ -1,0 +1,38 @@
+-- `rdp_text::spell` meets its contract: after k turns the first k characters are written. Assumes nothing.
+use Prim.Native.Nat.{ℕ, ◌≤◌, ◌<◌, ◌-◌, zero-le}
+use mathlib.Core.List.{List}
+use mathlib.Core.Path.{◌≡◌, ap, ◌∙◌}
+use native.Mathlib.Omega.{arith}
+use lib.ListN.{length, set}
+use borrow.Author.Rules.{rules}
+use Rattle.rdp_text.specs.Text.{character_of}
+use Rattle.rdp_text.proofs.FirstLaws.{written, written_none, written-more, written_all, length-written}
+use Rattle.rdp_text.proofs.spell.Goals.{At-loop-k}
+use Rattle.rdp_text.proofs.spell.Goals as goal
+
+module _ (c : At-loop-k) where
+  abbrev text : List ℕ
+  text = c.args.text.now
+
+  abbrev wanted : ℕ → ℕ
+  wanted = character_of c.args.row c.args.bytes.now
+
+  -- what is written so far has the length of the output
+  long : length c.loop-k.text ≡ length text
+  long = ap length c.loop-k.invariant.1 ∙ length-written wanted text c.loop-k.k c.loop-k.invariant.0
+
+pub loop-k-init : goal.loop-k-init
+loop-k-init c = (zero-le, written_none _ _)
+
+pub loop-k-smaller : goal.loop-k-smaller
+loop-k-smaller c = omega (arith, long (goal.at.loop-k-smaller c).At-loop-k)
+
+pub loop-k-preserved : goal.loop-k-preserved
+loop-k-preserved c =
+    let inside : c.loop-k.k < length (text (goal.at.loop-k-preserved c).At-loop-k) = omega (arith, long (goal.at.loop-k-preserved c).At-loop-k) in (
+      omega (arith, inside),
+      (λ j. set (c.loop-k.invariant.1 j) c.loop-k.k (c.character.ensures j)) ∙ written-more (wanted (goal.at.loop-k-preserved c).At-loop-k) (text (goal.at.loop-k-preserved c).At-loop-k) c.loop-k.k inside,
+    )
+
+pub returns : goal.returns
+returns c = c.loop-k.invariant.1 ∙ written_all (wanted (goal.at.returns c).At-loop-k) (text (goal.at.returns c).At-loop-k) c.loop-k.k (omega (arith, long (goal.at.returns c).At-loop-k))

@@ -1,0 +1,17 @@
+-- `rdp_text::spell` meets its contract: after k turns the first k characters are written. Assumes nothing.
+use Prim.Native.Nat.{ℕ, ◌≤◌, ◌<◌, ◌-◌, zero-le}
+use mathlib.Core.List.{List}
+use mathlib.Core.Path.{◌≡◌, ap, ◌∙◌}
+use native.Mathlib.Omega.{arith}
+use lib.ListN.{length, set}
+use borrow.Author.Rules.{rules}
+use Rattle.rdp_text.specs.Text.{character_of}
+use Rattle.rdp_text.proofs.FirstLaws.{written, written_none, written-more, written_all, length-written}
+use Rattle.rdp_text.proofs.spell.Given as goal
+
+-- `rdp_text::spell` meets its contract: after k turns the first k characters are written. Assumes nothing.
+abbrev pub invariant-loop-k : goal.invariant-loop-k
+invariant-loop-k l = (l.k ≤ length l.initial.text) × (l.text ≡ written (character_of l.row l.bytes) l.initial.text l.k)
+
+abbrev pub decreases-loop-k : goal.decreases-loop-k
+decreases-loop-k l = length l.initial.text - l.k
