@@ -19,7 +19,7 @@ excess_of (negsuc n) = 2 ^ 16 - suc n
 
 -- a call's result, as a local holds it, is what the call ensures
 pub read_back : {r z : ℤ} → mag r < 2 ^ 15 → r ≡ z → to_z w16 (of_z w16 r) ≡ z
-read_back f e = to_z-of_z (record { sfits = f }) ∙ e
+read_back f e = to_z-of_z {w = w16} (record { sfits = f }) ∙ e
 
 pub minus_one : (k : ℕ) → negsuc 0 -ℤ pos k ≡ negsuc k
 minus_one zero = refl
@@ -40,15 +40,15 @@ module _ (z : ℤ) (f : SFits w16 z) where
   -- the sum as the machine has it, out of two signed locals
   pub machine-plus : to_z w32 (of_z w32 (to_z w16 (of_z w16 z))) +ℤ pos 65536 ≡ pos (excess_of z)
   machine-plus =
-      ap (λ (y : ℤ). to_z w32 (of_z w32 y) +ℤ pos 65536) (to_z-of_z f) ∙
-      ap (λ (y : ℤ). y +ℤ pos 65536) (to_z-of_z (sfits_widen tt f)) ∙
+      ap (λ (y : ℤ). to_z w32 (of_z w32 y) +ℤ pos 65536) (to_z-of_z {w = w16} f) ∙
+      ap (λ (y : ℤ). y +ℤ pos 65536) (to_z-of_z {w = w32} (sfits_widen {w = w16} {w' = w32} tt f)) ∙
       plus z f.sfits
 
   pub excess-fits : SFits w32 (pos (excess_of z))
   excess-fits = record { sfits = omega (arith, excess_lt z f.sfits) }
 
   pub machine-excess : to_z w32 (of_z w32 (to_z w32 (of_z w32 (to_z w16 (of_z w16 z))) +ℤ pos 65536)) ≡ pos (excess_of z)
-  machine-excess = ap (λ (y : ℤ). to_z w32 (of_z w32 y)) machine-plus ∙ to_z-of_z excess-fits
+  machine-excess = ap (λ (y : ℤ). to_z w32 (of_z w32 y)) machine-plus ∙ to_z-of_z {w = w32} excess-fits
 
 pub bool_le : (b : Bool) → bool_byte b ≤ 1
 bool_le true = lit≤ tt

@@ -8,18 +8,18 @@ use Rattle.rdp_fill.proofs.run.rotated_color.Goals as goal
 
 pub returns-in-0 : goal.returns-in-0
 unfolding rotated
-returns-in-0 c = rw c.in-0.keys1 (omega arith)
+returns-in-0 c = rw c.in-0.is (omega arith)
 
 pub returns-in-1 : goal.returns-in-1
 unfolding rotated
-returns-in-1 c = rw c.in-1.keys2
+returns-in-1 c = rw c.in-1.is
 
 pub returns-in-2 : goal.returns-in-2
 unfolding rotated
-returns-in-2 c = rw c.in-2.keys3
+returns-in-2 c = rw c.in-2.is
 
 pub returns-in_default : goal.returns-in_default
 unfolding rotated
 returns-in_default c =
-    let last : c.args.address % 4 ≡ 3 = omega (arith, c.in_default.rest.0.0.1, c.in_default.rest.0.1, c.in_default.rest.1) in
+    let last : c.args.address % 4 ≡ 3 = omega (arith, c.in_default.in_default-own.rest.0.0.1, c.in_default.in_default-own.rest.0.1, c.in_default.in_default-own.rest.1) in
     rw last

@@ -9,11 +9,11 @@ use Rattle.rdp_repair.proofs.repairing.sync_of.Goals as goal
 -- `rdp_repair::repairing::sync_of` meets its contract: each arm is a clause of `syncAt`. Assumes nothing.
 pub returns-in-1 : goal.returns-in-1
 unfolding sync_at
-returns-in-1 c = ap (λ (a : ℕ). sync_number (sync_at (pred a))) (sym c.in-1.keys1)
+returns-in-1 c = ap (λ (a : ℕ). sync_number (sync_at (pred a))) (sym c.in-1.is)
 
 pub returns-in-2 : goal.returns-in-2
 unfolding sync_at
-returns-in-2 c = ap (λ (a : ℕ). sync_number (sync_at (pred a))) (sym c.in-2.keys2)
+returns-in-2 c = ap (λ (a : ℕ). sync_number (sync_at (pred a))) (sym c.in-2.is)
 
 pub returns-in_default : goal.returns-in_default
-returns-in_default c = sync-other c.args.option c.requires c.in_default.rest.0.1 c.in_default.rest.1
+returns-in_default c = sync-other c.args.option c.requires c.in_default.in_default-own.rest.0.1 c.in_default.in_default-own.rest.1

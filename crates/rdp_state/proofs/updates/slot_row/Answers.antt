@@ -6,18 +6,18 @@ use Rattle.rdp_state.proofs.updates.slot_row.Goals as goal
 -- `rdp_state::updates::slot_row` meets its contract: each arm is a line of `slotRow`. Assumes nothing.
 pub returns-in-5 : goal.returns-in-5
 unfolding slot_row
-returns-in-5 c = rw c.in-5.keys1
+returns-in-5 c = rw c.in-5.is
 
 pub returns-in-6 : goal.returns-in-6
 unfolding slot_row
-returns-in-6 c = rw c.in-6.keys2
+returns-in-6 c = rw c.in-6.is
 
 pub returns-in-7 : goal.returns-in-7
 unfolding slot_row
-returns-in-7 c = rw c.in-7.keys3
+returns-in-7 c = rw c.in-7.is
 
 pub returns-in_default : goal.returns-in_default
 unfolding slot_row
 returns-in_default c =
-    let n = c.in_default.rest in
+    let n = c.in_default.in_default-own.rest in
     rw (ne_eqb _ _ n.0.0.1, ne_eqb _ _ n.0.1, ne_eqb _ _ n.1)
