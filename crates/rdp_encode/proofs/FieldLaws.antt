@@ -10,6 +10,7 @@ use lib.Dec.{T, eqb}
 use lib.ListN.{length, get_or, drop, replicate, length-replicate}
 use lib.Pow.{pow_mono}
 use lib.Signed.{mag}
+use mir.Syntax.{w64}
 use mir.Val.{bool_byte}
 use mir.Facts.{to_z-of_z}
 use Rattle.rdp_words.specs.Words.{number_in}
@@ -56,7 +57,7 @@ value-again l v q = by l.is_signed v
     by true (unsigned n) t e = absurd t
     by true (signed z) t e =
         let r : width l - 1 ≤ 63 = omega arith in
-        ap signed (to_z-of_z (record { sfits = lt_of_lt_of_le (ltb-true (mag z) (2 ^ (width l - 1)) (sym (signed-fits (2 ^ (width l - 1)) z) ∙ e)) (pow_mono r) }))
+        ap signed (to_z-of_z {w = w64} (record { sfits = lt_of_lt_of_le (ltb-true (mag z) (2 ^ (width l - 1)) (sym (signed-fits (2 ^ (width l - 1)) z) ∙ e)) (pow_mono r) }))
 
 values-again : (ls : List Line) (vs : List Value) → AllReadable ls → T (matched ls vs) → all_fit ls vs ≡ true → values_from ls (map number_of_value vs) ≡ vs
 values-again [] [] r t a = refl

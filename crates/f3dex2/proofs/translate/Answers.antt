@@ -11,7 +11,7 @@ run_list-counted-requires c =
 
 pub returns-then-out-words : goal.returns-then-out-words
 returns-then-out-words c =
-    let list = (rw (c.fresh.ensures, c.counted-in-Returned-1.given.1) at c.run_list-counted.ensures) in
+    let list = (rw (c.fresh.ensures, c.in-Returned.is) at c.run_list-counted.ensures) in
     let given = c.args in
     record { answer = short-answer given.memory.now given.start list given.out.now (omega arith); output = short-out given.memory.now given.start list given.out.now (omega arith) }
 
@@ -21,12 +21,12 @@ run_list-requires c =
 
 pub returns-in-Refused : goal.returns-in-Refused
 returns-in-Refused c =
-    let list = (rw (c.fresh.ensures, c.counted-1.given.1) at c.run_list-counted.ensures) in
+    let list = (rw (c.fresh.ensures, c.in-Refused.is) at c.run_list-counted.ensures) in
     let given = c.args in
     record { answer = refused-answer given.memory.now given.start list (length given.out.now); output = refused-out given.memory.now given.start list given.out.now }
 
 pub returns-else-out-words : goal.returns-else-out-words
 returns-else-out-words c =
-    let list = (rw (c.fresh.ensures, c.counted-in-Returned-1.given.1) at c.run_list-counted.ensures) in
+    let list = (rw (c.fresh.ensures, c.in-Returned.is) at c.run_list-counted.ensures) in
     let again = rw c.fresh-in-Returned.ensures at c.run_list.ensures in
-    let given = c.args in record { answer = full-answer given.memory.now given.start list given.out.now (omega (arith, c.if-out-words.false)); output = full-out given.memory.now given.start list given.out.now (omega (arith, c.if-out-words.false)) c.run_list.result c.run_list.new.1.1.1.1.0 again }
+    let given = c.args in record { answer = full-answer given.memory.now given.start list given.out.now (omega (arith, c.if-out-words.false)); output = full-out given.memory.now given.start list given.out.now (omega (arith, c.if-out-words.false)) c.run_list.result c.run_list.new.out again }

@@ -3,7 +3,6 @@ use borrow.Author.Rules.{rules}
 use Rattle.rdp_check.proofs.OnwardLaws.{from-over, from-stop}
 use Rattle.rdp_check.proofs.check_from.Goals as goal
 
--- `rdp_check::check_from` meets its contract, by the walk from the checkpoint's view. Assumes nothing.
 pub returns-then-bytes-gt-MOST_BYTES : goal.returns-then-bytes-gt-MOST_BYTES
 returns-then-bytes-gt-MOST_BYTES c = from-over _ _ c.if-bytes-gt-MOST_BYTES.true
 

@@ -8,4 +8,4 @@ write_values-requires c = usable _ _ c.spread.ensures
 pub returns : goal.returns
 returns c =
     let s = c.spread.ensures in
-    record { answer = c.write_values.ensures.0 _ s; output = c.write_values.ensures.1 _ s }
+    record { answer = c.write_values.ensures.answer _ s; output = c.write_values.ensures.output _ s }

@@ -5,20 +5,20 @@ use Rattle.f3dex2.proofs.command.action_for.Goals as goal
 
 pub returns-then-number-eq225 : goal.returns-then-number-eq225
 returns-then-number-eq225 c =
-    rw (c.enum_told-in-FirstHalf-1.given.1, eq-eqb _ _ c.if-number-eq225.true)
+    rw (c.in-FirstHalf.is, eq-eqb _ _ c.if-number-eq225.true)
 
 pub returns-then-number-eq241 : goal.returns-then-number-eq241
 returns-then-number-eq241 c =
-    rw (c.due-1.given.1, eq-eqb _ _ c.if-number-eq241.true, c.low_half.ensures)
+    rw (c.in-SecondHalf.is, eq-eqb _ _ c.if-number-eq241.true, c.low_half.ensures)
 
 pub returns-in-Command : goal.returns-in-Command
 returns-in-Command c =
-    rw c.enum_told-1.given.1 c.command_action.ensures
+    rw c.in-Command.is c.command_action.ensures
 
 pub returns-else-number-eq225 : goal.returns-else-number-eq225
 returns-else-number-eq225 c =
-    rw (c.enum_told-in-FirstHalf-1.given.1, ne_eqb _ _ c.if-number-eq225.false)
+    rw (c.in-FirstHalf.is, ne_eqb _ _ c.if-number-eq225.false)
 
 pub returns-else-number-eq241 : goal.returns-else-number-eq241
 returns-else-number-eq241 c =
-    rw (c.due-1.given.1, ne_eqb _ _ c.if-number-eq241.false)
+    rw (c.in-SecondHalf.is, ne_eqb _ _ c.if-number-eq241.false)

@@ -5,14 +5,14 @@ use Rattle.f3dex2.proofs.command.setting_after.Goals as goal
 pub returns-in-Command : goal.returns-in-Command
 unfolding setting_after
 returns-in-Command c =
-    rw c.enum_told-1.given.1 c.after_command.ensures
+    rw c.in-Command.is c.after_command.ensures
 
 pub returns-in-FirstHalf : goal.returns-in-FirstHalf
 unfolding setting_after
 returns-in-FirstHalf c =
-    rw (c.enum_told-in-FirstHalf-1.given.1, c.low_half.ensures)
+    rw (c.in-FirstHalf.is, c.low_half.ensures)
 
 pub returns-in-SecondHalf : goal.returns-in-SecondHalf
 unfolding setting_after
 returns-in-SecondHalf c =
-    rw c.enum_told-in-SecondHalf-1.given.1 c.modes.ensures
+    rw c.in-SecondHalf.is c.modes.ensures

@@ -14,7 +14,7 @@ returns-then-k-out c =
     let given = c.args in
     let at = 8 * given.k in
     rw (le-leb (8 * given.k + 8) (length given.out.now) (omega (arith, room)), ← c.bytes_of-bytes.ensures)
-    (part-copied c.bytes_of-bytes.result given.out.now c.copy.new.0 at (at + 8) (omega arith) (omega (arith, room)) c.copy.ensures)
+    (part-copied c.bytes_of-bytes.result given.out.now c.copy.new.out at (at + 8) (omega arith) (omega (arith, room)) c.copy.ensures)
 
 pub returns-else-k-out : goal.returns-else-k-out
 unfolding put_word

@@ -23,32 +23,32 @@ overflow_add-on c =
 
 pub returns-then-depth-ge8 : goal.returns-then-depth-ge8
 returns-then-depth-ge8 c =
-    too-deep (known (goal.at.returns-then-depth-ge8 c).After-action_for) c.target-1.given.1 (omega (arith, c.if-depth-ge8.true))
+    too-deep (known (goal.at.returns-then-depth-ge8 c).After-action_for) c.in-Call.is (omega (arith, c.if-depth-ge8.true))
 
 pub returns-in-Unknown : goal.returns-in-Unknown
 returns-in-Unknown c =
-    unknown (known (goal.at.returns-in-Unknown c).After-action_for) c.enum_told-1.given.1
+    unknown (known (goal.at.returns-in-Unknown c).After-action_for) c.in-Unknown.is
 
 pub returns-in-Invalid : goal.returns-in-Invalid
 returns-in-Invalid c =
-    invalid (known (goal.at.returns-in-Invalid c).After-action_for) c.enum_told-in-Invalid-1.given.1
+    invalid (known (goal.at.returns-in-Invalid c).After-action_for) c.in-Invalid.is
 
 pub returns-in-Write : goal.returns-in-Write
 returns-in-Write c =
-    writes (known (goal.at.returns-in-Write c).After-action_for) c.x-1.given.1 c.put.ensures
+    writes (known (goal.at.returns-in-Write c).After-action_for) c.in-Write.is c.put.ensures
 
 pub returns-in-Pass : goal.returns-in-Pass
 returns-in-Pass c =
-    passes (known (goal.at.returns-in-Pass c).After-action_for) c.enum_told-in-Pass-1.given.1
+    passes (known (goal.at.returns-in-Pass c).After-action_for) c.in-Pass.is
 
 pub returns-else-depth-ge8 : goal.returns-else-depth-ge8
 returns-else-depth-ge8 c =
-    calls (known (goal.at.returns-else-depth-ge8 c).After-action_for) c.target-1.given.1 (omega (arith, c.if-depth-ge8.false))
+    calls (known (goal.at.returns-else-depth-ge8 c).After-action_for) c.in-Call.is (omega (arith, c.if-depth-ge8.false))
 
 pub returns-in-Branch : goal.returns-in-Branch
 returns-in-Branch c =
-    branches (known (goal.at.returns-in-Branch c).After-action_for) c.target-in-Branch-1.given.1
+    branches (known (goal.at.returns-in-Branch c).After-action_for) c.in-Branch.is
 
 pub returns-in-End : goal.returns-in-End
 returns-in-End c =
-    ends (known (goal.at.returns-in-End c).After-action_for) c.enum_told-in-End-1.given.1
+    ends (known (goal.at.returns-in-End c).After-action_for) c.in-End.is

@@ -5,7 +5,6 @@ use lib.ListN.{length}
 use borrow.Author.Tests.{eq-eqb, ne_eqb, le-leb, lt-leb}
 use Rattle.f3dex2.proofs.walk.read_refusal.Goals as goal
 
--- `f3dex2::walk::read_refusal` meets its contract.
 pub returns-then-at-ne0 : goal.returns-then-at-ne0
 returns-then-at-ne0 c =
     rw (ne_eqb (c.args.at % 8) 0 c.if-at-ne0.true)

@@ -9,7 +9,6 @@ use Rattle.std.proofs.Common.{not, ap}
 use Rattle.rdp_check.proofs.cause.cause_of.Goals.{After-number_at-refused}
 use Rattle.rdp_check.proofs.cause.cause_of.Goals as goal
 
--- `rdp_check::cause::cause_of` meets its contract: at 7 to 9 the refused command has a place and the commands before it are whole. Assumes nothing.
 -- a command misses a sync at the place
 missing : (c : After-number_at-refused) → Missing c.args.list.now c.args.place
 missing c = missing-of _ c.args.number _ c.args.whole (ap not c.if-not-whole-number.false) c.requires

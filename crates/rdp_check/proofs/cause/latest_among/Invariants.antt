@@ -8,7 +8,6 @@ use Rattle.rdp_check.proofs.LeftLaws.{inside, falls}
 use Rattle.rdp_check.proofs.CauseLaws.{Seeking, seek-first, seek-next, seek-end}
 use Rattle.rdp_check.proofs.cause.latest_among.Given as goal
 
--- `rdp_check::cause::latest_among` meets its contract: from what was found, the latest of what is left is the answer. Assumes nothing.
 abbrev pub invariant-loop-at : goal.invariant-loop-at
 invariant-loop-at l = Seeking l.numbers l.list l.words (latest (is_among l.numbers) l.other 0 (commands_of l.list)) l.at l.found
 

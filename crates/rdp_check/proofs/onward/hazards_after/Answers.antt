@@ -2,7 +2,6 @@
 use borrow.Author.Tests.{eq-eqb, ne_eqb}
 use Rattle.rdp_check.proofs.onward.hazards_after.Goals as goal
 
--- `rdp_check::onward::hazards_after` meets its contract, by its test. Assumes nothing.
 pub returns-then-words-eq0 : goal.returns-then-words-eq0
 returns-then-words-eq0 c = rw (eq-eqb _ _ c.if-words-eq0.true)
 

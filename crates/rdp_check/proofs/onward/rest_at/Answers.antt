@@ -10,7 +10,6 @@ use Rattle.rdp_check.specs.Checkpoint.{registers_at}
 use Rattle.rdp_check.specs.declared.walk.Rest.{Rest}
 use Rattle.rdp_check.proofs.onward.rest_at.Goals as goal
 
--- `rdp_check::onward::rest_at` meets its contract, by those of what it calls. Assumes nothing.
 abbrev built : Bool → ℕ → ℕ → Bool → Rest
 built ended modes image scissor = record { ended = ended; modes = modes; image = image; scissor = scissor }
 
@@ -19,6 +18,6 @@ unfolding view_of registers_at
 returns c =
     let b = c.args.before in
     let read = c.fill_fields-fields.ensures in
-    let modes = c.code_of_lem.ensures ∙ ap (λ (f : FillFields). code (not (eqb b.other_modes 0)) (eqb f.cycle_type 3)) read in
+    let modes = c.code_of-modes_code.ensures ∙ ap (λ (f : FillFields). code (not (eqb b.other_modes 0)) (eqb f.cycle_type 3)) read in
     let image = c.code_of-image_code.ensures ∙ ap (λ (f : FillFields). code (not (eqb b.color_image 0)) (eqb f.image.size 0)) read in
     λ i. built b.ended (modes i) (image i) (not (eqb b.scissor 0))

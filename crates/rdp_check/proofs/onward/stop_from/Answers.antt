@@ -14,7 +14,6 @@ use Rattle.rdp_check.specs.View.{view_of, low_of, judged_view}
 use Rattle.rdp_check.proofs.OnwardLaws.{whole-commands}
 use Rattle.rdp_check.proofs.onward.stop_from.Goals as goal
 
--- `rdp_check::onward::stop_from` meets its contract: the whole words of bytes have their commands, and a cut command is no refusal. Assumes nothing.
 long : (bs : List ℕ) → length (take (8 * (length bs / 8)) bs) ≡ 8 * (length bs / 8)
 long bs = length-take-le (8 * (length bs / 8)) bs (omega arith)
 

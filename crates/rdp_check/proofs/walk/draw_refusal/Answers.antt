@@ -2,7 +2,6 @@
 use Rattle.std.proofs.Common.{not, ap}
 use Rattle.rdp_check.proofs.walk.draw_refusal.Goals as goal
 
--- `rdp_check::walk::draw_refusal` meets its contract, by its tests. Assumes nothing.
 pub returns-then-not-rest : goal.returns-then-not-rest
 returns-then-not-rest c = rw (ap not c.if-not-rest.true)
 

@@ -5,7 +5,6 @@ use Rattle.rdp_check.specs.View.{refusal_with}
 use Rattle.rdp_check.proofs.ViewLaws.{or-else}
 use Rattle.rdp_check.proofs.walk.refusal.Goals as goal
 
--- `rdp_check::walk::refusal` meets its contract: the refusals are tested in their order. Assumes nothing.
 pub returns-then-ended : goal.returns-then-ended
 unfolding refusal_with
 returns-then-ended c = rw c.if-ended.true

@@ -4,7 +4,6 @@ use borrow.Author.Tests.{ne_eqb}
 use Rattle.rdp_check.specs.View.{rest_after}
 use Rattle.rdp_check.proofs.walk.rest_after.Goals as goal
 
--- `rdp_check::walk::rest_after` meets its contract: a line for each number that sets something. Assumes nothing.
 pub returns-in-41 : goal.returns-in-41
 unfolding rest_after
 returns-in-41 c = rw c.in-41.is

@@ -1,4 +1,5 @@
 -- `rdp_check::walk::walk` meets its contract. The loop's invariant: the judgement of what is left is that of the whole list from the first view, and the numbers that are
+-- watched are those of the commands that must be. The measure is what is left of the words. Assumes nothing.
 use mathlib.Core.Path.{ap, ◌∙◌}
 use Prim.Native.Nat.{◌-◌, ◌<◌}
 use native.Mathlib.Omega.{arith}
@@ -30,18 +31,16 @@ loop-at-preserved-then-e-hazards c =
     let q = turn l.invariant.0 _ l.invariant.1 c.loop-at-test.true _ c.head_at-head.ensures _ c.entry-e.ensures _ c.is_among.ensures _ c.clear_below-clear.ensures c.if-e-clear.true in
     (quick-one q (stays q c.if-e-hazards.true) _ c.is_among-then-e-clear.ensures (ap not c.if-not-is_among.true), l.invariant.1)
 
--- loop-less-2 : tie.Need-loop-smaller-2 invariant-loop decreases-loop
--- loop-less-2 c = omega (arith, c.before.before.before.before.before.before.before.before.loop-test.true)
+pub loop-at-smaller-then-not-is_among : goal.loop-at-smaller-then-not-is_among
+loop-at-smaller-then-not-is_among c = omega (arith, c.loop-at-test.true)
 
--- loop-again-2 : tie.Need-loop-preserved-2 invariant-loop decreases-loop
--- loop-again-2 c =
---     let t = c.before.before.before.before in
---     let l = t.before.before.before.before.before.loop in
---     let h = t.before.before.before in
---     let agree = h.before.before.before.before.before.before.before.requires.0 in
---     let small : h.head_at.result.number < 64 = rw h.head_at.ensures (number_small _) in
---     let q = turn l.invariant.0 _ l.invariant.1 h.before.loop-test.true _ h.head_at.ensures _ t.before.before.entry.ensures _ t.before.is_among.ensures _ h.before.before.before.clear-below.ensures t.if1.true in
---     (quick-one q (c.next.ensures ∙ next-read _ agree _ _ l.invariant.0.low small) _ c.before.before.before.is-among2.ensures c.before.before.if2.true, l.invariant.1)
+pub loop-at-preserved-then-not-is_among : goal.loop-at-preserved-then-not-is_among
+loop-at-preserved-then-not-is_among c =
+    let l = c.loop-at in
+    let agree = c.requires.0 in
+    let small : c.head_at-head.result.number < 64 = rw c.head_at-head.ensures (number_small _) in
+    let q = turn l.invariant.0 _ l.invariant.1 c.loop-at-test.true _ c.head_at-head.ensures _ c.entry-e.ensures _ c.is_among.ensures _ c.clear_below-clear.ensures c.if-e-clear.true in
+    (quick-one q (c.next-hazards.ensures ∙ next-read _ agree _ _ l.invariant.0.low small) _ c.is_among-then-e-clear.ensures (ap not c.if-not-is_among.true), l.invariant.1)
 
 pub overflow_sub-words : goal.overflow_sub-words
 overflow_sub-words c = omega (arith, c.loop-at-test.true)
@@ -57,20 +56,17 @@ returns-then-words-at c =
 pub overflow_add-at-then-e-clear : goal.overflow_add-at-then-e-clear
 overflow_add-at-then-e-clear c = let w = c.loop-at.invariant.0 in omega (arith, c.if-words-at.false, w.within, w.few)
 
--- loop-less-3 : tie.Need-loop-smaller-3 invariant-loop decreases-loop
--- loop-less-3 c =
---     let t = c.before.before.before.before.before.before.before.before in
---     falls t.before.before.loop.invariant.0 t.before.loop-test.true _ (ap (λ x. x.number) t.head_at.ensures) _ c.before.before.words-of.ensures c.before.if4.false
+pub loop-at-smaller-then-e-clear : goal.loop-at-smaller-then-e-clear
+loop-at-smaller-then-e-clear c =
+    falls c.loop-at.invariant.0 c.loop-at-test.true _ (ap (λ x. x.number) c.head_at-head.ensures) _ c.words_of-count.ensures c.if-words-at.false
 
--- loop-again-3 : tie.Need-loop-preserved-3 invariant-loop decreases-loop
--- loop-again-3 c =
---     let t = c.before.before.before.before.before in
---     let l = t.before.before.before.before.before.loop in
---     let h = t.before.before.before in
---     let agree = h.before.before.before.before.before.before.before.requires.0 in
---     let small : h.head_at.result.number < 64 = rw h.head_at.ensures (number_small _) in
---     let q = turn l.invariant.0 _ l.invariant.1 h.before.loop-test.true _ h.head_at.ensures _ t.before.before.entry.ensures _ t.before.is_among.ensures _ h.before.before.before.clear-below.ensures t.if1.true in
---     (quick q (c.next2.ensures ∙ next-read _ agree _ _ l.invariant.0.low small) _ c.before.before.words-of.ensures c.before.if4.false, l.invariant.1)
+pub loop-at-preserved-then-e-clear : goal.loop-at-preserved-then-e-clear
+loop-at-preserved-then-e-clear c =
+    let l = c.loop-at in
+    let agree = c.requires.0 in
+    let small : c.head_at-head.result.number < 64 = rw c.head_at-head.ensures (number_small _) in
+    let q = turn l.invariant.0 _ l.invariant.1 c.loop-at-test.true _ c.head_at-head.ensures _ c.entry-e.ensures _ c.is_among.ensures _ c.clear_below-clear.ensures c.if-e-clear.true in
+    (quick q (c.next-hazards-then-e-clear.ensures ∙ next-read _ agree _ _ l.invariant.0.low small) _ c.words_of-count.ensures c.if-words-at.false, l.invariant.1)
 
 pub advance-advanced-requires : goal.advance-advanced-requires
 advance-advanced-requires c =
@@ -100,19 +96,17 @@ returns-then-refusal-ne0 c =
 pub overflow_add-at-in-loop-at : goal.overflow_add-at-in-loop-at
 overflow_add-at-in-loop-at c = let w = c.loop-at.invariant.0 in omega (arith, c.if-words-at-2.false, w.within, w.few)
 
--- loop-less-4 : tie.Need-loop-smaller-4 invariant-loop decreases-loop
--- loop-less-4 c =
---     let t = c.before.before.before.before.before.before.before.before.before in
---     falls t.before.before.loop.invariant.0 t.before.loop-test.true _ (ap (λ x. x.number) t.head_at.ensures) _ c.before.before.before.before.before.advance.ensures.words c.before.before.before.before.if5.false
+pub loop-at-smaller : goal.loop-at-smaller
+loop-at-smaller c =
+    falls c.loop-at.invariant.0 c.loop-at-test.true _ (ap (λ x. x.number) c.head_at-head.ensures) _ c.advance-advanced.ensures.words c.if-words-at-2.false
 
--- loop-again-4 : tie.Need-loop-preserved-4 invariant-loop decreases-loop
--- loop-again-4 c =
---     let t = c.before.before.before.before.before.before.before.before.before in
---     let h = t.head_at.ensures in
---     let a = c.before.before.before.before.before.advance.ensures in (
---       again t.before.before.loop.invariant.0 t.before.loop-test.true _ (ap (λ x. x.number) h) _ a.words c.before.before.before.before.if5.false _ a.refusal c.before.before.before.if6.false _ (a.after ∙ ap (view_after _) h),
---       c.watched-of2.ensures,
---     )
+pub loop-at-preserved : goal.loop-at-preserved
+loop-at-preserved c =
+    let h = c.head_at-head.ensures in
+    let a = c.advance-advanced.ensures in (
+      again c.loop-at.invariant.0 c.loop-at-test.true _ (ap (λ x. x.number) h) _ a.words c.if-words-at-2.false _ a.refusal c.if-refusal-ne0.false _ (a.after ∙ ap (view_after _) h),
+      c.watched_of-watched-in-loop-at.ensures,
+    )
 
 pub answer-requires-2 : goal.answer-requires-2
 answer-requires-2 c = let w = c.loop-at.invariant.0 in w.few

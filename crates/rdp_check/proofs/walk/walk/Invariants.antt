@@ -1,4 +1,5 @@
 -- `rdp_check::walk::walk` meets its contract. The loop's invariant: the judgement of what is left is that of the whole list from the first view, and the numbers that are
+-- watched are those of the commands that must be. The measure is what is left of the words. Assumes nothing.
 use mathlib.Core.Path.{ap, ◌∙◌}
 use Prim.Native.Nat.{◌-◌, ◌<◌}
 use native.Mathlib.Omega.{arith}
@@ -10,11 +11,9 @@ use Rattle.rdp_check.proofs.WalkLaws.{Walked, first, ended, past, refused, falls
 use Rattle.std.proofs.Common.{not, ap}
 use Rattle.rdp_check.proofs.walk.walk.Given as goal
 
--- `rdp_check::walk::walk` meets its contract. The loop's invariant: the judgement of what is left is that of the whole list from the first view, and the numbers that are
--- watched are those of the commands that must be. The measure is what is left of the words. Assumes nothing.
 abbrev pub invariant-loop-at : goal.invariant-loop-at
 invariant-loop-at l =
-    Walked l.strict l.list l.words (judged_view l.strict (record { l.hazards = l.initial.hazards; l.rest = l.initial.rest }) 0 l.list) (record { l.hazards = l.hazards; l.rest = l.rest }) l.at × Watches l.watched l.rest
+    Walked l.strict l.list l.words (judged_view l.strict (record { hazards = l.initial.hazards; rest = l.initial.rest }) 0 l.list) (record { hazards = l.hazards; rest = l.rest }) l.at × Watches l.watched l.rest
 
 abbrev pub decreases-loop-at : goal.decreases-loop-at
 decreases-loop-at l = l.words - l.at

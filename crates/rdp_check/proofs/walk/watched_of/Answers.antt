@@ -4,7 +4,6 @@ use borrow.Author.Rules.{rules}
 use Rattle.rdp_check.proofs.ViewLaws.{watches-all, watches-setters, watches-draws}
 use Rattle.rdp_check.proofs.walk.watched_of.Goals as goal
 
--- `rdp_check::walk::watched_of` meets its contract, by one test over the command numbers for each constant. Assumes nothing.
 pub returns-then-rest : goal.returns-then-rest
 returns-then-rest c = watches-all c.args.rest c.if-rest.true
 

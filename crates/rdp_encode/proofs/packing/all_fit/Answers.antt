@@ -51,17 +51,17 @@ pub loop-k-init : goal.loop-k-init
 loop-k-init c = (zero-le, refl)
 
 pub fits_line-requires : goal.fits_line-requires
-fits_line-requires c = readable (goal.at.fits_line-requires c).In-loop-k c.loop-k-test.true
+fits_line-requires c = readable (goal.at.fits_line-requires c).At-loop-k c.loop-k-test.true
 
 pub loop-k-preserved : goal.loop-k-preserved
 loop-k-preserved c =
     let h = c.loop-k-test.true in
-    (omega arith, c.loop-k.invariant.1 ∙ fit-step (ls (goal.at.loop-k-preserved c).In-loop-k) (numbers (goal.at.loop-k-preserved c).In-loop-k) (long (goal.at.loop-k-preserved c).In-loop-k) c.loop-k.k h ∙ ap (λ (b : Bool). b && fit_from (ls (goal.at.loop-k-preserved c).In-loop-k) (numbers (goal.at.loop-k-preserved c).In-loop-k) (c.loop-k.k + 1)) (sym (tested (goal.at.loop-k-preserved c).In-loop-k h c.fits_line.ensures) ∙ c.if-fits_line.true))
+    (omega arith, c.loop-k.invariant.1 ∙ fit-step (ls (goal.at.loop-k-preserved c).At-loop-k) (numbers (goal.at.loop-k-preserved c).At-loop-k) (long (goal.at.loop-k-preserved c).At-loop-k) c.loop-k.k h ∙ ap (λ (b : Bool). b && fit_from (ls (goal.at.loop-k-preserved c).At-loop-k) (numbers (goal.at.loop-k-preserved c).At-loop-k) (c.loop-k.k + 1)) (sym (tested (goal.at.loop-k-preserved c).At-loop-k h c.fits_line.ensures) ∙ c.if-fits_line.true))
 
 pub returns-else-fits_line : goal.returns-else-fits_line
 returns-else-fits_line c =
     let h = c.loop-k-test.true in
-    sym (c.loop-k.invariant.1 ∙ fit-step (ls (goal.at.returns-else-fits_line c).In-loop-k) (numbers (goal.at.returns-else-fits_line c).In-loop-k) (long (goal.at.returns-else-fits_line c).In-loop-k) c.loop-k.k h ∙ ap (λ (b : Bool). b && fit_from (ls (goal.at.returns-else-fits_line c).In-loop-k) (numbers (goal.at.returns-else-fits_line c).In-loop-k) (c.loop-k.k + 1)) (sym (tested (goal.at.returns-else-fits_line c).In-loop-k h c.fits_line.ensures) ∙ c.if-fits_line.false))
+    sym (c.loop-k.invariant.1 ∙ fit-step (ls (goal.at.returns-else-fits_line c).At-loop-k) (numbers (goal.at.returns-else-fits_line c).At-loop-k) (long (goal.at.returns-else-fits_line c).At-loop-k) c.loop-k.k h ∙ ap (λ (b : Bool). b && fit_from (ls (goal.at.returns-else-fits_line c).At-loop-k) (numbers (goal.at.returns-else-fits_line c).At-loop-k) (c.loop-k.k + 1)) (sym (tested (goal.at.returns-else-fits_line c).At-loop-k h c.fits_line.ensures) ∙ c.if-fits_line.false))
 
 pub returns : goal.returns
 returns c =

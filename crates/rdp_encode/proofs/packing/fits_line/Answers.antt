@@ -5,7 +5,7 @@ use borrow.Author.Rules.{rules}
 use Rattle.rdp_encode.proofs.packing.fits_line.Goals as goal
 
 pub returns-then-is_signed : goal.returns-then-is_signed
-returns-then-is_signed c = fits_signed (line_of c.args.code) c.requires c.args.n c.Line-of.ensures.width (sym c.Line-of.ensures.is_signed ∙ c.if-is_signed.true) c.magnitude.ensures
+returns-then-is_signed c = fits_signed (line_of c.args.code) c.requires c.args.n c.line_of-line.ensures.width (sym c.line_of-line.ensures.is_signed ∙ c.if-is_signed.true) c.magnitude.ensures
 
 pub returns-else-is_signed : goal.returns-else-is_signed
-returns-else-is_signed c = fits-unsigned (line_of c.args.code) c.requires c.args.n c.Line-of.ensures.width (sym c.Line-of.ensures.is_signed ∙ c.if-is_signed.false)
+returns-else-is_signed c = fits-unsigned (line_of c.args.code) c.requires c.args.n c.line_of-line.ensures.width (sym c.line_of-line.ensures.is_signed ∙ c.if-is_signed.false)

@@ -58,14 +58,14 @@ pub loop-k-init : goal.loop-k-init
 loop-k-init c = (zero-le, zero-add _)
 
 pub placed_in-sum-requires : goal.placed_in-sum-requires
-placed_in-sum-requires c = readable (goal.at.placed_in-sum-requires c).In-loop-k c.loop-k-test.true
+placed_in-sum-requires c = readable (goal.at.placed_in-sum-requires c).At-loop-k c.loop-k-test.true
 
 pub overflow_add-sum : goal.overflow_add-sum
-overflow_add-sum c = omega (arith, stepped (goal.at.overflow_add-sum c).In-loop-k c.loop-k-test.true c.placed_in-sum.ensures, c.loop-k.invariant.1, c.requires.1)
+overflow_add-sum c = omega (arith, stepped (goal.at.overflow_add-sum c).At-loop-k c.loop-k-test.true c.placed_in-sum.ensures, c.loop-k.invariant.1, c.requires.1)
 
 pub loop-k-preserved : goal.loop-k-preserved
 loop-k-preserved c =
-    let e = stepped (goal.at.loop-k-preserved c).In-loop-k c.loop-k-test.true c.placed_in-sum.ensures in
+    let e = stepped (goal.at.loop-k-preserved c).At-loop-k c.loop-k-test.true c.placed_in-sum.ensures in
     (omega arith, omega (arith, e, c.loop-k.invariant.1))
 
 pub returns : goal.returns

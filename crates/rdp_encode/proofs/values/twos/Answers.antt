@@ -4,7 +4,7 @@ use native.Mathlib.Omega.{arith}
 use lib.Dec.{T}
 use lib.IntN.{ℤ, nat_abs}
 use lib.Signed.{non_neg}
-use mir.Syntax.{w32, w64}
+use mir.Syntax.{w16, w32, w64}
 use mir.Val.{SFits, Fits}
 use mir.Facts.{to_z-of_z, sfits_widen}
 use Rattle.rdp_command.proofs.Signed.{machine-plus, machine-excess, excess-fits, excess_lt}
@@ -28,11 +28,11 @@ returns-then-excess-lt65536 c =
     let z = c.args.value in
     let f = c.ranges.value in
     let e = ap nat_abs (machine-excess z f) in
-    (ap (λ (n : ℕ). n + 0xFFFF_FFFF_FFFF_0000) e ∙ low-back z f.sfits (rw e at c.if-excess-lt65536.true), to_z-of_z (sfits_widen tt f))
+    (ap (λ (n : ℕ). n + 0xFFFF_FFFF_FFFF_0000) e ∙ low-back z f.sfits (rw e at c.if-excess-lt65536.true), to_z-of_z {w = w64} (sfits_widen {w = w16} {w' = w64} tt f))
 
 pub returns-else-excess-lt65536 : goal.returns-else-excess-lt65536
 returns-else-excess-lt65536 c =
     let z = c.args.value in
     let f = c.ranges.value in
     let e = ap nat_abs (machine-excess z f) in
-    (ap (λ (n : ℕ). n - 0x10000) e ∙ high-back z f.sfits (rw e at c.if-excess-lt65536.false), to_z-of_z (sfits_widen tt f))
+    (ap (λ (n : ℕ). n - 0x10000) e ∙ high-back z f.sfits (rw e at c.if-excess-lt65536.false), to_z-of_z {w = w64} (sfits_widen {w = w16} {w' = w64} tt f))

@@ -33,4 +33,4 @@ overflow_cast-result-2 c = omega (arith, c.requires.few)
 pub returns : goal.returns
 unfolding fields_answer fields_out
 returns c =
-    let room = c.if-out-count.false in record { answer = λ command s. rw (le-ltb _ _ (rw (count-is _ _ s) (goal.at.returns c).Start room)) (ap (λ (k : ℕ). record { number = 0; place = k }) (count-is _ _ s)); output = λ command s. rw (le-ltb _ _ (rw (count-is _ _ s) (goal.at.returns c).Start room)) (c.copy_values.ensures ∙ ap (λ (ns : List ℕ). overwrite ns c.args.out.now) (front _ _ s)) }
+    let room = c.if-out-count.false in record { answer = λ command s. rw (le-ltb _ _ (rw (count-is _ _ s) at room)) (ap (λ (k : ℕ). record { number = 0; place = k }) (count-is _ _ s)); output = λ command s. rw (le-ltb _ _ (rw (count-is _ _ s) at room)) (c.copy_values.ensures ∙ ap (λ (ns : List ℕ). overwrite ns c.args.out.now) (front _ _ s)) }

@@ -8,4 +8,4 @@ pub returns : goal.returns
 returns c =
     let at = c.args.at in
     rw (← c.bytes_of-bytes.ensures)
-    (part-copied c.bytes_of-bytes.result c.args.out.now c.copy.new.0 at (at + 8) (omega arith) (omega arith) c.copy.ensures)
+    (part-copied c.bytes_of-bytes.result c.args.out.now c.copy.new.out at (at + 8) (omega arith) (omega arith) c.copy.ensures)
