@@ -13,28 +13,28 @@ no_room : (c : Then-written-ne0) →
     let s = c.args in
     plain c.fields-written.result ≡ decode_reply s.list.now s.fields.now
 no_room c =
-    decode-no-room _ _ _ c.decode-decoded.ensures _ c.decoded-1.given.1 _ c.fields-written.ensures.0 c.if-written-ne0.true
+    decode-no-room _ _ _ c.decode-decoded.ensures _ c.in-Whole.is _ c.fields-written.ensures.answer c.if-written-ne0.true
 
 -- the answer where they are written
 written : (c : After-head_at-head) →
     let s = c.args in
     reply 0 c.head_at-head.result.number c.fields-written.result.place ≡ decode_reply s.list.now s.fields.now
 written c =
-    decode-written _ _ _ c.decode-decoded.ensures _ c.decoded-1.given.1 _ c.fields-written.ensures.0 c.if-written-ne0.false _
+    decode-written _ _ _ c.decode-decoded.ensures _ c.in-Whole.is _ c.fields-written.ensures.answer c.if-written-ne0.false _
     (ap (λ h. h.number) c.head_at-head.ensures)
 
 -- the fields after it
 output : (c : After-fields-written) →
     let s = c.args in
-    c.fields-written.new.1.0 ≡ decode_fields s.list.now s.fields.now
+    c.fields-written.new.out ≡ decode_fields s.list.now s.fields.now
 output c =
-    c.fields-written.ensures.1 ∙ decode-fields _ _ _ c.decode-decoded.ensures _ c.decoded-1.given.1
+    c.fields-written.ensures.output ∙ decode-fields _ _ _ c.decode-decoded.ensures _ c.in-Whole.is
 
 -- the answer where the first command's words are not all there
 cut : (c : In-Refused-2) →
     let s = c.args in
     plain c.decoded-in-Refused-1.given.0.0 ≡ decode_reply s.list.now s.fields.now
-cut c = decode-cut _ _ _ c.decode-decoded.ensures _ c.decoded-in-Refused-1.given.1
+cut c = decode-cut _ _ _ c.decode-decoded.ensures _ c.in-Refused.is
 
 pub pack-requires : goal.pack-requires
 pack-requires c = let p = packs _ (no_room c) (of_decode _ _) in omega (arith, p.0, p.1)
@@ -53,4 +53,4 @@ pack-requires-in-Refused c = let p = packs _ (cut (goal.at.pack-requires-in-Refu
 
 pub returns-in-Refused : goal.returns-in-Refused
 returns-in-Refused c =
-    record { reply = c.pack-in-Refused.ensures ∙ ap packed (cut (goal.at.returns-in-Refused c).In-Refused-2); fields = decode-cut-fields _ _ _ c.decode-decoded.ensures _ c.decoded-in-Refused-1.given.1 }
+    record { reply = c.pack-in-Refused.ensures ∙ ap packed (cut (goal.at.returns-in-Refused c).In-Refused-2); fields = decode-cut-fields _ _ _ c.decode-decoded.ensures _ c.in-Refused.is }

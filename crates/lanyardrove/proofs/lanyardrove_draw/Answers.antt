@@ -11,11 +11,11 @@ use Rattle.lanyardrove.proofs.lanyardrove_draw.Goals as goal
 answers : (c : After-draw-answer) →
     let s = c.args in
     plain c.draw-answer.result ≡ draw_reply s.list.now s.start (length s.memory.now) (length s.texture.now)
-answers c = ap plain c.draw-answer.ensures.0
+answers c = ap plain c.draw-answer.ensures.answer
 
 pub pack-requires : goal.pack-requires
 pack-requires c = let p = packs _ (answers (goal.at.pack-requires c).After-draw-answer) (of_draw _ _ _ _) in omega (arith, p.0, p.1)
 
 pub returns : goal.returns
 returns c =
-    (c.pack.ensures ∙ ap packed (answers (goal.at.returns c).After-draw-answer), c.draw-answer.ensures.1)
+    (c.pack.ensures ∙ ap packed (answers (goal.at.returns c).After-draw-answer), c.draw-answer.ensures.memory)

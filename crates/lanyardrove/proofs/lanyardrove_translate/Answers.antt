@@ -25,7 +25,7 @@ answers c =
     let s = c.args in
     let end = c.lent_length-end in
     ap translated_reply
-    (c.translate-translated.ensures.0 ∙
+    (c.translate-translated.ensures.answer ∙
     ap (λ (l : List ℕ). translate_answer l s.start (length s.out.now)) (part s.memory.now end.result end.ensures))
 
 fitting : (c : After-translate-translated) → Small (translated_reply c.translate-translated.result)
@@ -45,4 +45,4 @@ pack-requires c = let b = fitting (goal.at.pack-requires c).After-translate-tran
 pub returns : goal.returns
 returns c =
     let s = c.args in
-    let end = c.lent_length-end in record { reply = c.pack.ensures ∙ ap packed (answers (goal.at.returns c).After-translate-translated); output = c.translate-translated.ensures.1 ∙ ap (λ (l : List ℕ). translate_out l s.start s.out.now) (part s.memory.now end.result end.ensures) }
+    let end = c.lent_length-end in record { reply = c.pack.ensures ∙ ap packed (answers (goal.at.returns c).After-translate-translated); output = c.translate-translated.ensures.output ∙ ap (λ (l : List ℕ). translate_out l s.start s.out.now) (part s.memory.now end.result end.ensures) }

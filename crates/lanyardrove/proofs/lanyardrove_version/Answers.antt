@@ -2,6 +2,5 @@
 use mathlib.Core.Path.{refl}
 use Rattle.lanyardrove.proofs.lanyardrove_version.Goals as goal
 
--- `lanyardrove::lanyardrove_version` meets its contract. Assumes nothing.
 pub returns : goal.returns
 returns c = refl

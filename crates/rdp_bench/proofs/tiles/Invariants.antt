@@ -9,7 +9,6 @@ use Rattle.rdp_bench.specs.Mixed.{mixed_tiles}
 use Rattle.rdp_bench.proofs.TileLaws.{one_more, none_left}
 use Rattle.rdp_bench.proofs.tiles.Given as goal
 
--- `rdp_bench::tiles` meets its contract: what is mixed in so far, with the tiles still to come, is all.
 abbrev pub invariant-loop-i : goal.invariant-loop-i
 invariant-loop-i l = (l.i ≤ 8) × (mixed_tiles l.q (drop l.i l.all) ≡ mixed_tiles 0 l.all)
 

@@ -8,7 +8,6 @@ use mathlib.Core.Path.{sym, ◌∙◌}
 use borrow.Author.Rules.{rules}
 use Rattle.rdp_block.proofs.load_block.Goals as goal
 
--- `rdp_block::load_block` meets its contract. Assumes nothing.
 pub returns-then-texture-ne-TEXTURE_BYTES : goal.returns-then-texture-ne-TEXTURE_BYTES
 unfolding block_texture
 returns-then-texture-ne-TEXTURE_BYTES c =

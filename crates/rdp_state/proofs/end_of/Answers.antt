@@ -2,7 +2,6 @@
 
 use Rattle.rdp_state.proofs.end_of.Goals as goal
 
--- `rdp_check::end_of` meets its contract. Assumes nothing.
 pub returns-then-number : goal.returns-then-number
 returns-then-number c = rw c.if-number.true
 

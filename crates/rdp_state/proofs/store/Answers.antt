@@ -22,7 +22,7 @@ pub offset_bounds-file-slot : goal.offset_bounds-file-slot
 offset_bounds-file-slot c = record { fits = omega (arith, slot-fits (goal.at.offset_bounds-file-slot c).After-slot_of-slot) }
 
 pub bounds-file-slot : goal.bounds-file-slot
-bounds-file-slot c = slot-fits (goal.at.bounds-file-slot c).Else-slot-eq-NONE
+bounds-file-slot c = slot-fits (goal.at.bounds-file-slot c).After-slot_of-slot
 
 pub returns : goal.returns
 returns c = rw (← c.slot_of-slot.ensures, ne_eqb _ 31 c.if-slot-eq-NONE.false)

@@ -6,7 +6,6 @@ use borrow.Author.Tests.{lt-ltb, le-ltb}
 use Rattle.rdp_stream.proofs.HeldLaws.{damaged-by}
 use Rattle.rdp_stream.proofs.is_damaged.Goals as goal
 
--- `rdp_stream::is_damaged` meets its contract, by those of what it calls. Assumes nothing.
 pub returns-then-count-gt175 : goal.returns-then-count-gt175
 returns-then-count-gt175 c = rw (← damaged-by c.args.t1 c.args.count c.args.taken c.args.number c.args.waited, lt-ltb _ _ c.if-count-gt175.true)
 

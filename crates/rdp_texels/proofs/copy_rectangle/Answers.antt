@@ -9,7 +9,6 @@ use mathlib.Core.Path.{sym, ◌∙◌}
 use borrow.Author.Rules.{rules}
 use Rattle.rdp_texels.proofs.copy_rectangle.Goals as goal
 
--- `rdp_texels::copy_rectangle` meets its contract. Assumes nothing.
 pub returns-then-texture-ne-TEXTURE_BYTES : goal.returns-then-texture-ne-TEXTURE_BYTES
 unfolding copy_memory
 returns-then-texture-ne-TEXTURE_BYTES c =

@@ -12,7 +12,7 @@ load_row-requires c =
 pub returns-then-run_fits : goal.returns-then-run_fits
 returns-then-run_fits c =
     let a = c.args in
-    c.Load-row.ensures ∙
+    c.load_row.ensures ∙
     run-loads a.s a.d a.n a.odd a.memory.now a.texture.now (sym c.run_fits.ensures ∙ c.if-run_fits.true)
 
 pub returns : goal.returns

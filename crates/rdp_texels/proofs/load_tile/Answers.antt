@@ -9,7 +9,6 @@ use mathlib.Core.Path.{sym, ◌∙◌}
 use borrow.Author.Rules.{rules}
 use Rattle.rdp_texels.proofs.load_tile.Goals as goal
 
--- `rdp_texels::load_tile` meets its contract. Assumes nothing.
 pub returns-then-texture-ne-TEXTURE_BYTES : goal.returns-then-texture-ne-TEXTURE_BYTES
 unfolding load_texture
 returns-then-texture-ne-TEXTURE_BYTES c =

@@ -14,7 +14,6 @@ use Rattle.rdp_view.proofs.ViewLaws.{sides-fit, from-part, inside-start, inside-
 use Rattle.rdp_view.proofs.view.Goals.{After-is_outside, Start}
 use Rattle.rdp_view.proofs.view.Goals as goal
 
--- `rdp_view::view` meets its contract: the refusals one after the other, then the pixels. Assumes nothing.
 -- the image that is asked for
 abbrev framebuffer_of : Start → Framebuffer
 framebuffer_of s = record { address = s.args.address; width = s.args.width; height = s.args.height; size = s.args.size }

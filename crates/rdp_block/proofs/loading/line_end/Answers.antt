@@ -7,7 +7,6 @@ use borrow.Author.Rules.{rules}
 use Rattle.rdp_block.proofs.LineLaws.{flat_line, line-early, line-late}
 use Rattle.rdp_block.proofs.loading.line_end.Goals as goal
 
--- `rdp_block::loading::line_end` meets its contract. Assumes nothing.
 pub returns-then-dxt-eq0 : goal.returns-then-dxt-eq0
 returns-then-dxt-eq0 c = let s = c.args in flat_line s.line s.dxt s.count c.if-dxt-eq0.true
 

@@ -17,7 +17,7 @@ pub line_of-line-requires : goal.line_of-line-requires
 line_of-line-requires c = let f = c.requires.1 in (omega (arith, c.loop-k-test.true, f.small.count), f.small.dxt)
 
 pub line_end-end-requires : goal.line_end-end-requires
-line_end-end-requires c = let f = c.requires.1 in (c.Line-of.ensures.1, f.small.dxt, f.small.count)
+line_end-end-requires c = let f = c.requires.1 in (c.line_of-line.ensures.1, f.small.dxt, f.small.count)
 
 pub overflow_mul-s : goal.overflow_mul-s
 overflow_mul-s c = let f = c.requires.1 in omega (arith, c.loop-k-test.true, f.small.count)
@@ -32,7 +32,7 @@ pub overflow_add-d : goal.overflow_add-d
 overflow_add-d c = let f = c.requires.1 in omega (arith, c.loop-k-test.true, f.small.count, f.small.ahead)
 
 pub overflow_sub-n : goal.overflow_sub-n
-overflow_sub-n c = omega (arith, line-falls c.loop-k.k c.line_end-end.ensures c.Line-of.ensures.0 c.loop-k-test.true)
+overflow_sub-n c = omega (arith, line-falls c.loop-k.k c.line_end-end.ensures c.line_of-line.ensures.0 c.loop-k-test.true)
 
 pub overflow_mul-n : goal.overflow_mul-n
 overflow_mul-n c = let f = c.requires.1 in omega (arith, f.small.count, c.line_end-end.ensures.most)
@@ -40,7 +40,7 @@ overflow_mul-n c = let f = c.requires.1 in omega (arith, f.small.count, c.line_e
 pub loop-k-smaller : goal.loop-k-smaller
 loop-k-smaller c =
     let l = c.loop-k-test.true in
-    omega (arith, l, line-falls c.loop-k.k c.line_end-end.ensures c.Line-of.ensures.0 l)
+    omega (arith, l, line-falls c.loop-k.k c.line_end-end.ensures c.line_of-line.ensures.0 l)
 
 pub loop-k-preserved : goal.loop-k-preserved
 loop-k-preserved c =
@@ -50,11 +50,11 @@ loop-k-preserved c =
     let v = c.loop-k in
     let i = v.invariant in
     let ends = c.line_end-end.ensures in
-    let line = c.Line-of.ensures.0 in
+    let line = c.line_of-line.ensures.0 in
     let end = c.line_end-end.result in
     let falls = line-falls v.k ends line l in
     due-line v.k end i (omega (arith, falls)) ends.most (search rules)
-    (run-loaded s.strip s.start s.memory.now v.texture p.1 (i.long ∙ p.0) v.k (end - v.k) c.Line-of.result
+    (run-loaded s.strip s.start s.memory.now v.texture p.1 (i.long ∙ p.0) v.k (end - v.k) c.line_of-line.result
     (omega (arith, falls, ends.most)) (λ k from to. line_same v.k ends line k from (omega (arith, to, falls))) refl refl refl refl
     c.load_run.ensures)
 

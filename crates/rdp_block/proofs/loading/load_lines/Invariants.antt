@@ -7,7 +7,6 @@ use Rattle.rdp_block.proofs.LineLaws.{line-falls, line_same}
 use Rattle.rdp_block.proofs.StripLaws.{Due, due-first, due-line, due-done, run-loaded}
 use Rattle.rdp_block.proofs.loading.load_lines.Given as goal
 
--- `rdp_block::loading::load_lines` meets its contract. The loop's invariant: what is still to come of the texels gives what was promised. Assumes nothing.
 abbrev pub invariant-loop-k : goal.invariant-loop-k
 invariant-loop-k l = Due l.strip l.start l.first l.count l.memory l.initial.texture l.texture l.k
 

@@ -5,7 +5,6 @@ use mathlib.Core.Path.{refl}
 use Rattle.rdp_block.proofs.StripLaws.{strip-none}
 use Rattle.rdp_block.proofs.loading.load_short.Goals as goal
 
--- `rdp_block::loading::load_short` meets its contract. Assumes nothing.
 pub returns-then-strip-le128 : goal.returns-then-strip-le128
 returns-then-strip-le128 c =
     let s = c.args in

@@ -11,7 +11,6 @@ use Rattle.rdp_block.proofs.StripLaws.{Due, due-first, due-word, due-done, word-
 use Rattle.rdp_block.proofs.WordLaws.{four-most, four-or-none}
 use Rattle.rdp_block.proofs.loading.load_words.Given as goal
 
--- `rdp_block::loading::load_words` meets its contract. The loop's invariant: what is still to come of the whole words gives what was promised. Assumes nothing.
 abbrev pub invariant-loop-j : goal.invariant-loop-j
 invariant-loop-j l = (l.j ≤ l.words) × Due l.strip l.start 0 (4 * l.words) l.memory l.initial.texture l.texture (4 * l.j)
 

@@ -4,7 +4,6 @@ use native.Mathlib.Omega.{arith}
 use borrow.Author.Tests.{eq-eqb, ne_eqb}
 use Rattle.rdp_block.proofs.loading.near.Goals as goal
 
--- `rdp_block::loading::near` meets its contract: the bounds on the factors bound the product. Assumes nothing.
 pub overflow_mul-word : goal.overflow_mul-word
 overflow_mul-word c = omega (arith, mul-le-mul c.requires.0 c.requires.1)
 

@@ -3,7 +3,6 @@ use native.Mathlib.Omega.{arith}
 use borrow.Author.Rules.{rules}
 use Rattle.rdp_block.proofs.strips.count_of.Goals as goal
 
--- `rdp_block::strips::count_of` meets its contract. Assumes nothing.
 pub returns-then-last-first : goal.returns-then-last-first
 returns-then-last-first c = (omega (arith, c.if-last-first.true), omega arith)
 

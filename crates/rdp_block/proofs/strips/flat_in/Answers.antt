@@ -3,7 +3,6 @@ use borrow.Author.Rules.{rules}
 use Rattle.rdp_block.proofs.EndLaws.{flat-early, flat-late}
 use Rattle.rdp_block.proofs.strips.flat_in.Goals as goal
 
--- `rdp_block::strips::flat_in` meets its contract. Assumes nothing.
 pub returns-then-base-low : goal.returns-then-base-low
 returns-then-base-low c = let s = c.args in flat-early s.base s.count s.low s.size c.if-base-low.true
 

@@ -6,7 +6,6 @@ use Rattle.rdp_block.proofs.EndLaws.{strip-12, strip-18, strip-0}
 use Rattle.std.proofs.Common.{not, ap}
 use Rattle.rdp_block.proofs.strips.strip_refusal.Goals as goal
 
--- `rdp_block::strips::strip_refusal` meets its contract. Assumes nothing.
 pub flat_in-requires : goal.flat_in-requires
 flat_in-requires c = (c.requires.address, c.requires.count)
 

@@ -6,7 +6,6 @@ use native.Mathlib.Omega.{arith}
 use borrow.Author.Rules.{rules}
 use Rattle.rdp_block.proofs.strips.texel_address.Goals as goal
 
--- `rdp_block::strips::texel_address` meets its contract: the bounds on the factors bound the product. Assumes nothing.
 -- the texels before row t
 before-row : (t w : ℕ) → t < 65536 → w < 65536 → t * (w + 1) ≤ 65535 * 65536
 before-row t w h k =

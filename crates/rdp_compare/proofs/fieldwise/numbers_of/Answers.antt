@@ -13,8 +13,8 @@ decoded-is c =
 
 pub returns-in-Whole : goal.returns-in-Whole
 returns-in-Whole c =
-    whole_numbers c.args.command.now c.args.numbers.now c.requires.1 (decoded-is (goal.at.returns-in-Whole c).After-command_or-decoded) c.decoded-1.given.1 c.fields-written.ensures.0 c.fields-written.ensures.1
+    whole_numbers c.args.command.now c.args.numbers.now c.requires.1 (decoded-is (goal.at.returns-in-Whole c).After-command_or-decoded) c.in-Whole.is c.fields-written.ensures.answer c.fields-written.ensures.output
 
 pub returns-in-Refused : goal.returns-in-Refused
 returns-in-Refused c =
-    no-numbers c.args.command.now c.args.numbers.now c.requires.1 (decoded-is (goal.at.returns-in-Refused c).After-command_or-decoded) c.enum_told-1.given.1
+    no-numbers c.args.command.now c.args.numbers.now c.requires.1 (decoded-is (goal.at.returns-in-Refused c).After-command_or-decoded) c.in-Refused.is

@@ -18,7 +18,7 @@ returns-then-at-eq36 c =
     let a = e.args in
     let p = e.requires in
     copy-left a.start a.memory.now a.texture.now a.file.now a.list.now a.at.place a.at.number p.1 p.0.1 c.if-at-eq36.true _
-    c.copy_at.ensures _ c.copy_rectangle.ensures.1
+    c.copy_at.ensures _ c.copy_rectangle.ensures.memory
 
 pub returns-then-at-eq52 : goal.returns-then-at-eq52
 returns-then-at-eq52 c =
@@ -26,7 +26,7 @@ returns-then-at-eq52 c =
     let a = e.args in
     let p = e.requires in
     load-left a.start a.memory.now a.texture.now a.file.now a.list.now a.at.place a.at.number p.1 p.0.1 _
-    c.load_at-load.ensures c.if-at-eq52.true _ c.load_tile.ensures.1
+    c.load_at-load.ensures c.if-at-eq52.true _ c.load_tile.ensures.texture
 
 pub returns : goal.returns
 returns c =
@@ -34,4 +34,4 @@ returns c =
     let a = e.args in
     let p = e.requires in
     block-left a.start a.memory.now a.texture.now a.file.now a.list.now a.at.place a.at.number p.1 p.0.1 _
-    c.load_at-load.ensures c.if-at-eq54.false c.if-at-eq36.false c.if-at-eq52.false _ c.load_block.ensures.1
+    c.load_at-load.ensures c.if-at-eq54.false c.if-at-eq36.false c.if-at-eq52.false _ c.load_block.ensures.texture

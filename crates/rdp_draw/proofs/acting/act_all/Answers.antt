@@ -1,4 +1,5 @@
 -- `rdp_draw::acting::act_all` meets its contract. The loop's invariant: what the acts from here on make of the memories is what all make of them, and none of
+-- them is refused. The measure is what is left of the words. Assumes nothing.
 use mathlib.Core.Path.{refl}
 use Prim.Native.Nat.{◌-◌}
 use native.Mathlib.Omega.{arith}

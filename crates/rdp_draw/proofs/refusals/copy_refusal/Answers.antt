@@ -3,7 +3,6 @@ use borrow.Author.Rules.{rules}
 use Rattle.rdp_draw.proofs.DrawLaws.{copy-10, copy-11, copy-others}
 use Rattle.rdp_draw.proofs.refusals.copy_refusal.Goals as goal
 
--- `rdp_draw::refusals::copy_refusal` meets its contract. Assumes nothing.
 pub returns-then-copy-ne2 : goal.returns-then-copy-ne2
 returns-then-copy-ne2 c = let a = c.args in copy-10 a.start a.len a.copy c.if-copy-ne2.true
 

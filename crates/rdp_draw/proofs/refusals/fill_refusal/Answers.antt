@@ -3,7 +3,6 @@ use borrow.Author.Rules.{rules}
 use Rattle.rdp_draw.proofs.DrawLaws.{fill-10, fill-11, fill-12, fill-0}
 use Rattle.rdp_draw.proofs.refusals.fill_refusal.Goals as goal
 
--- `rdp_draw::refusals::fill_refusal` meets its contract. Assumes nothing.
 pub returns-then-fill-ne3 : goal.returns-then-fill-ne3
 returns-then-fill-ne3 c = let a = c.args in fill-10 a.start a.len a.fill c.if-fill-ne3.true
 

@@ -1,4 +1,5 @@
 -- `rdp_draw::refusals::first_refusal` meets its contract. The loop's invariant: the first refusal of the acts from here on is that of the list. The
+-- measure is what is left of the words. Assumes nothing.
 use mathlib.Core.Path.{refl}
 use Prim.Native.Nat.{◌-◌}
 use native.Mathlib.Omega.{arith}

@@ -1,4 +1,5 @@
 -- `rdp_draw::refusals::first_refusal` meets its contract. The loop's invariant: the first refusal of the acts from here on is that of the list. The
+-- measure is what is left of the words. Assumes nothing.
 use mathlib.Core.Path.{refl}
 use Prim.Native.Nat.{◌-◌}
 use native.Mathlib.Omega.{arith}
@@ -6,8 +7,6 @@ use borrow.Author.Rules.{rules}
 use Rattle.rdp_draw.proofs.DrawLaws.{Reaching, reaching-first, next, falls, Tests, tests-none, tests-refused, tests-again}
 use Rattle.rdp_draw.proofs.refusals.first_refusal.Given as goal
 
--- `rdp_draw::refusals::first_refusal` meets its contract. The loop's invariant: the first refusal of the acts from here on is that of the list. The
--- measure is what is left of the words. Assumes nothing.
 abbrev pub invariant-loop-reached : goal.invariant-loop-reached
 invariant-loop-reached l = Reaching (Tests l.list l.start l.len l.words) l.list l.words l.reached l.file
 

@@ -1,4 +1,5 @@
 -- `rdp_draw::walk::next_act` meets its contract. The loop's invariant: what was due at its start is due here. The measure is what is left of the words.
+-- Assumes nothing.
 use mathlib.Core.Path.{refl, ap}
 use Prim.Native.Nat.{◌-◌}
 use native.Mathlib.Omega.{arith}

@@ -1,4 +1,5 @@
 -- `rdp_draw::walk::next_act` meets its contract. The loop's invariant: what was due at its start is due here. The measure is what is left of the words.
+-- Assumes nothing.
 use mathlib.Core.Path.{refl, ap}
 use Prim.Native.Nat.{◌-◌}
 use native.Mathlib.Omega.{arith}
@@ -6,8 +7,6 @@ use borrow.Author.Rules.{rules}
 use Rattle.rdp_draw.proofs.SeenLaws.{Walks, walk_first, walk_none, walk-found, walk-skip, walk-load, walk-set}
 use Rattle.rdp_draw.proofs.walk.next_act.Given as goal
 
--- `rdp_draw::walk::next_act` meets its contract. The loop's invariant: what was due at its start is due here. The measure is what is left of the words.
--- Assumes nothing.
 abbrev pub invariant-loop-at : goal.invariant-loop-at
 invariant-loop-at l = Walks l.list l.from l.initial.file l.words l.file l.at
 

@@ -4,7 +4,6 @@ use lib.ListN.{length}
 use borrow.Author.Rules.{rules}
 use Rattle.rdp_drawings.proofs.show.checksum.Given as goal
 
--- Safe, and ends: the index is at most the count of whole words, and both sums are below the modulus.
 abbrev pub invariant-loop-i : goal.invariant-loop-i
 invariant-loop-i l = (l.i ≤ length l.bytes / 4) × ((l.a < 4294967295) × (l.b < 4294967295))
 

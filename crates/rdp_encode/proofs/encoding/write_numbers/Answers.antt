@@ -23,9 +23,9 @@ returns-then-numbers c =
     let out = c.args.out.now in
     let w = c.write_command.ensures in record { answer = λ command s.
           let ok = encodable-by _ _ s suffix (sym (known_is _ _ s) ∙ c.if-numbers.true) in
-          w.0 ∙ (λ i. answer_with (by_front _ _ s suffix i) (number_is _ _ s i) out) ∙ ap (λ (b : Bool). answer_with b (number_of command) out) (sym ok); output = λ command s.
+          w.answer ∙ (λ i. answer_with (by_front _ _ s suffix i) (number_is _ _ s i) out) ∙ ap (λ (b : Bool). answer_with b (number_of command) out) (sym ok); output = λ command s.
           let ok = encodable-by _ _ s suffix (sym (known_is _ _ s) ∙ c.if-numbers.true) in
-          w.1 ∙ (λ i. out_with (by_front _ _ s suffix i) (number_is _ _ s i) (bytes_with (number_is _ _ s i) (front _ _ s i) suffix) out) ∙
+          w.output ∙ (λ i. out_with (by_front _ _ s suffix i) (number_is _ _ s i) (bytes_with (number_is _ _ s i) (front _ _ s i) suffix) out) ∙
           ap (λ (b : Bool). out_with b (number_of command) (encoded_bytes command suffix) out) (sym ok) }
 
 pub returns : goal.returns

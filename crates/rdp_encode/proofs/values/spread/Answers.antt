@@ -13,7 +13,7 @@ use Rattle.rdp_encode.proofs.values.spread.Goals as goal
 pub returns-in-NoOperation : goal.returns-in-NoOperation
 unfolding layout
 returns-in-NoOperation c =
-    let n = c.command-1.given.0.0 in
+    let n = c.in-NoOperation.number in
     spread-as c.in-NoOperation.is
     (record {
       numbers = c.none.ensures;
@@ -138,7 +138,7 @@ returns-in-SetColorImage c = spread-as c.in-SetColorImage.is (record { numbers =
 pub returns-in-Unassigned : goal.returns-in-Unassigned
 unfolding layout
 returns-in-Unassigned c =
-    let n = c.command-in-Unassigned-1.given.0.0 in
+    let n = c.in-Unassigned.number in
     spread-as c.in-Unassigned.is
     (record {
       numbers = c.none-in-Unassigned.ensures ∙ ap (λ (k : Bool). numbered n k []) c.is_unassigned.ensures;

@@ -6,7 +6,6 @@ use native.Mathlib.Omega.{arith}
 use borrow.Author.Rules.{rules}
 use Rattle.rdp_fill.proofs.areas.pixel_address.Goals as goal
 
--- `rdp_fill::areas::pixel_address` meets its contract: the bounds on the factors bound the product. Assumes nothing.
 -- the pixels before row y
 before-row : (y w : ℕ) → y ≤ 16385 → w ≤ 65535 → y * (w + 1) ≤ 1073807360
 before-row y w hy hw = let more : w + 1 ≤ 65536 = omega arith in mul-le-mul hy more

@@ -9,7 +9,6 @@ use Rattle.rdp_fill.specs.Pattern.{Written}
 use Rattle.rdp_fill.proofs.PatternLaws.{written_none, written-joined}
 use Rattle.rdp_fill.proofs.run.chunks.Given as goal
 
--- `rdp_fill::run::chunks` meets its contract. The invariant: the run is written up to `at`. Assumes nothing.
 abbrev pub invariant-loop-at : goal.invariant-loop-at
 invariant-loop-at l =
     (l.from ≤ l.at) × (l.at ≤ l.to) × (length l.memory ≡ length l.initial.memory) × Written (within l.from l.at) l.pattern l.initial.memory l.memory

@@ -9,7 +9,6 @@ use Rattle.rdp_fill.specs.Pattern.{Written}
 use Rattle.rdp_fill.proofs.PatternLaws.{written_none, written-more}
 use Rattle.rdp_fill.proofs.run.copy.Given as goal
 
--- `rdp_fill::run::copy` meets its contract. The invariant: k bytes are written. Assumes nothing.
 abbrev pub invariant-loop-k : goal.invariant-loop-k
 invariant-loop-k l =
     (l.k ≤ l.n) × (length l.memory ≡ length l.initial.memory) × Written (within l.at (l.at + l.k)) l.pattern l.initial.memory l.memory

@@ -8,7 +8,6 @@ use Rattle.rdp_fill.specs.Pattern.{Repeats}
 use Rattle.rdp_fill.proofs.PatternLaws.{holds_more, written-holds}
 use Rattle.rdp_fill.proofs.run.long_pattern.Given as goal
 
--- `rdp_fill::run::long_pattern` meets its contract. The invariant: the first k bytes hold the colour. Assumes nothing.
 abbrev pub invariant-loop-k : goal.invariant-loop-k
 invariant-loop-k l = (16 ≤ l.k) × (l.k ≤ 2052) × (length l.pattern ≡ 2052) × Repeats l.color l.k l.pattern
 

@@ -4,7 +4,6 @@ use borrow.Author.Rules.{rules}
 use Rattle.rdp_fill.proofs.RunLaws.{RunsLeft, runs-all, run_inside, runs-next, runs_done}
 use Rattle.rdp_fill.proofs.run.paint_long.Given as goal
 
--- `rdp_fill::run::paint_long` meets its contract. The invariant: the runs that are left make of memory what was promised. Assumes nothing.
 abbrev pub invariant-loop-left : goal.invariant-loop-left
 invariant-loop-left l = RunsLeft l.initial.memory l.from l.size l.stride l.rows l.color l.memory l.at l.left
 

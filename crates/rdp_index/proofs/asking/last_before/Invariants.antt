@@ -7,7 +7,6 @@ use Rattle.rdp_index.specs.Index.{last_before}
 use Rattle.rdp_index.proofs.ReadLaws.{last_none, last-here, last-before}
 use Rattle.rdp_index.proofs.asking.last_before.Given as goal
 
--- `rdp_index::asking::last_before` meets its contract: of the entries before i the last that counts is that of all. Assumes nothing.
 abbrev pub invariant-loop-i : goal.invariant-loop-i
 invariant-loop-i l = (l.i ≤ l.count) × (last_before l.place l.entries l.i ≡ last_before l.place l.entries l.count)
 

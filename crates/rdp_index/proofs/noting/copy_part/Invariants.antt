@@ -5,7 +5,6 @@ use Rattle.rdp_index.proofs.CopyLaws.{Copying, first, again, ended}
 use borrow.Author.Rules.{rules}
 use Rattle.rdp_index.proofs.noting.copy_part.Given as goal
 
--- `rdp_index::noting::copy_part` meets its contract: after each turn one number more is copied. Assumes nothing.
 abbrev pub invariant-loop-i : goal.invariant-loop-i
 invariant-loop-i l = Copying l.initial.out l.src l.from l.to l.out l.i
 

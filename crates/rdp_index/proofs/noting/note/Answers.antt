@@ -1,4 +1,5 @@
 -- `rdp_index::noting::note` meets its contract. The loop's invariant: the entries noted and those to come are the entries of the list. The measure is
+-- what is left of the words. Assumes nothing.
 use mathlib.Core.Path.{sym, ◌∙◌}
 use Prim.Native.Nat.{◌-◌}
 use native.Mathlib.Omega.{arith}

@@ -1,4 +1,5 @@
 -- `rdp_index::noting::note` meets its contract. The loop's invariant: the entries noted and those to come are the entries of the list. The measure is
+-- what is left of the words. Assumes nothing.
 use mathlib.Core.Path.{sym, ◌∙◌}
 use Prim.Native.Nat.{◌-◌}
 use native.Mathlib.Omega.{arith}
@@ -9,8 +10,6 @@ use Rattle.rdp_index.proofs.NoteLaws.{Noting, first, few-entries, ended, cut, fa
 use borrow.Author.Rules.{rules}
 use Rattle.rdp_index.proofs.noting.note.Given as goal
 
--- `rdp_index::noting::note` meets its contract. The loop's invariant: the entries noted and those to come are the entries of the list. The measure is
--- what is left of the words. Assumes nothing.
 abbrev pub invariant-loop-at : goal.invariant-loop-at
 invariant-loop-at l = Noting l.list l.words l.made l.at l.hazards l.left l.entries
 

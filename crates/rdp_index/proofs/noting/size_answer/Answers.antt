@@ -3,7 +3,6 @@ use borrow.Author.Tests.{le-ltb, lt-ltb, eq-eqb, ne_eqb}
 use borrow.Author.Rules.{rules}
 use Rattle.rdp_index.proofs.noting.size_answer.Goals as goal
 
--- `rdp_index::noting::size_answer` meets its contract, by its two tests. Assumes nothing.
 pub returns-then-len-gt-MOST_BYTES : goal.returns-then-len-gt-MOST_BYTES
 returns-then-len-gt-MOST_BYTES c = rw (lt-ltb _ _ c.if-len-gt-MOST_BYTES.true)
 

@@ -19,6 +19,6 @@ returns c =
     let words = c.whole_words-count.ensures in
     let all : count - 0 ≡ count = omega arith in
     let long : length (take (count - 0) new) ≡ count = ap (λ (k : ℕ). length (take k new)) all ∙ length-take-le count new words.1 in
-    part-copied (take (count - 0) new) list c.copy.new.0 at (at + count) (omega (arith, long)) (omega (arith, words.0, c.requires))
+    part-copied (take (count - 0) new) list c.copy.new.out at (at + count) (omega (arith, long)) (omega (arith, words.0, c.requires))
     c.copy.ensures ∙
     ap (λ (k : ℕ). pasted at (take k new) list) (all ∙ ap (λ (n : ℕ). 8 * n) words.0)

@@ -1,4 +1,5 @@
 -- `rdp_index::replacing::starts_at` meets its contract. The loop's invariant: whether a command left starts at the place is whether one does. The measure
+-- is what is left of the words. Assumes nothing.
 use mathlib.Core.Path.{refl}
 use Prim.Native.Nat.{◌-◌}
 use native.Mathlib.Omega.{arith}

@@ -1,4 +1,5 @@
 -- `rdp_index::replacing::starts_at` meets its contract. The loop's invariant: whether a command left starts at the place is whether one does. The measure
+-- is what is left of the words. Assumes nothing.
 use mathlib.Core.Path.{refl}
 use Prim.Native.Nat.{◌-◌}
 use native.Mathlib.Omega.{arith}
@@ -6,8 +7,6 @@ use Rattle.rdp_index.proofs.StartLaws.{Starting, first, ended, few, past, falls,
 use borrow.Author.Rules.{rules}
 use Rattle.rdp_index.proofs.replacing.starts_at.Given as goal
 
--- `rdp_index::replacing::starts_at` meets its contract. The loop's invariant: whether a command left starts at the place is whether one does. The measure
--- is what is left of the words. Assumes nothing.
 abbrev pub invariant-loop-at : goal.invariant-loop-at
 invariant-loop-at l = Starting l.list l.place l.words l.at
 

@@ -4,7 +4,6 @@ use lib.ListN.{length}
 use borrow.Author.Rules.{rules}
 use Rattle.rdp_registers.proofs.digest.fold.Given as goal
 
--- Safe, and ends: the index is within the values.
 abbrev pub invariant-loop-i : goal.invariant-loop-i
 invariant-loop-i l = l.i ≤ length l.values
 

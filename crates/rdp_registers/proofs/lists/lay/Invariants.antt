@@ -5,7 +5,6 @@ use lib.ListN.{length}
 use borrow.Author.Rules.{rules}
 use Rattle.rdp_registers.proofs.lists.lay.Given as goal
 
--- Safe, and ends: the place goes up to the count of words, and the output keeps its length.
 abbrev pub invariant-loop-place : goal.invariant-loop-place
 invariant-loop-place l = (l.place ≤ l.words) × (length l.out ≡ length l.initial.out)
 

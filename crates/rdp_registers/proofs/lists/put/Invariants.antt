@@ -5,7 +5,6 @@ use lib.ListN.{length}
 use borrow.Author.Rules.{rules}
 use Rattle.rdp_registers.proofs.lists.put.Given as goal
 
--- Safe, and ends: the count goes up to 8, and the output keeps its length.
 abbrev pub invariant-loop-k : goal.invariant-loop-k
 invariant-loop-k l = (l.k ≤ 8) × (length l.out ≡ length l.initial.out)
 

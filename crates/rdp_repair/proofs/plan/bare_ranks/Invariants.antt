@@ -9,7 +9,6 @@ use Rattle.rdp_repair.proofs.RankLaws.{bare-is}
 use Rattle.rdp_repair.proofs.TabulateLaws.{Holds, holds_more, holds-all}
 use Rattle.rdp_repair.proofs.plan.bare_ranks.Given as goal
 
--- `rdp_repair::plan::bare_ranks` meets its contract: after m turns the first m ranks stand. Assumes nothing.
 abbrev pub invariant-loop-m : goal.invariant-loop-m
 invariant-loop-m l = (l.m ≤ 16) × (length l.ranks ≡ 16) × Holds l.ranks (bare_rank l.number (λ k. get_or l.after k 0)) l.m
 

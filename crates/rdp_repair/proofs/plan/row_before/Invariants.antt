@@ -10,7 +10,6 @@ use Rattle.rdp_repair.proofs.RankLaws.{rank_of, least-held, total_of, choice-of,
 use Rattle.rdp_repair.proofs.TabulateLaws.{Holds, holds_more, holds-all, tabulate-same, tabulate-most}
 use Rattle.rdp_repair.proofs.plan.row_before.Given as goal
 
--- `rdp_repair::plan::row_before` meets its contract: after m turns the first m totals and choices stand. Assumes nothing.
 abbrev pub invariant-loop-m : goal.invariant-loop-m
 invariant-loop-m l =
     let r : ℕ → ℕ = λ j. min (get_or l.ranks j 0) (get_or l.synced (j % 4) 0) in

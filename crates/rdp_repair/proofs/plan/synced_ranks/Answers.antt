@@ -4,7 +4,6 @@ use native.Mathlib.Omega.{arith}
 use Rattle.rdp_repair.specs.Work.{tabulate}
 use Rattle.rdp_repair.proofs.plan.synced_ranks.Goals as goal
 
--- `rdp_repair::plan::synced_ranks` meets its contract, by that of `synced_rank`. Assumes nothing.
 pub synced_rank-none-requires : goal.synced_rank-none-requires
 synced_rank-none-requires c = (omega arith, c.requires)
 

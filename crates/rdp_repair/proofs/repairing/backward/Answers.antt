@@ -74,7 +74,7 @@ pub loop-i-preserved : goal.loop-i-preserved
 loop-i-preserved c =
     let at : ℕ = 16 * index (goal.at.loop-i-preserved c).In-loop-i in (
       omega arith,
-      part-copied c.row_before-row.result.choices c.loop-i.work c.copy.new.0 at (at + 16) (omega (arith, sixteen (goal.at.loop-i-preserved c).After-row_before-row))
+      part-copied c.row_before-row.result.choices c.loop-i.work c.copy.new.out at (at + 16) (omega (arith, sixteen (goal.at.loop-i-preserved c).After-row_before-row))
           (omega (arith, length-now (goal.at.loop-i-preserved c).In-loop-i, room (goal.at.loop-i-preserved c).In-loop-i)) c.copy.ensures ∙
           turn-work (first-work (goal.at.loop-i-preserved c).In-loop-i) (count (goal.at.loop-i-preserved c).In-loop-i) (room (goal.at.loop-i-preserved c).In-loop-i) (index (goal.at.loop-i-preserved c).In-loop-i) (in-range (goal.at.loop-i-preserved c).In-loop-i) _ (is-now (goal.at.loop-i-preserved c).In-loop-i) _ (are-totals (goal.at.loop-i-preserved c).In-loop-i) _ refl _ c.row_before-row.ensures.choices-are,
       turn-totals (first-work (goal.at.loop-i-preserved c).In-loop-i) (count (goal.at.loop-i-preserved c).In-loop-i) (room (goal.at.loop-i-preserved c).In-loop-i) (index (goal.at.loop-i-preserved c).In-loop-i) (in-range (goal.at.loop-i-preserved c).In-loop-i) _ (is-now (goal.at.loop-i-preserved c).In-loop-i) _ (are-totals (goal.at.loop-i-preserved c).In-loop-i) _ refl _ c.row_before-row.ensures.totals-are,

@@ -10,7 +10,6 @@ use Rattle.rdp_repair.specs.Work.{tabulate, noted_in}
 use Rattle.rdp_repair.proofs.BackLaws.{back_to, back_start, back_end, no-numbers-left, length_back, length-choices, number-below, totals-bounded, turn-totals, turn-work}
 use Rattle.rdp_repair.proofs.repairing.backward.Given as goal
 
--- `rdp_repair::repairing::backward` meets its contract: the choices stand from command i on, and the totals are those from i on. Assumes nothing.
 abbrev pub invariant-loop-i : goal.invariant-loop-i
 invariant-loop-i l =
     (l.i ≤ l.commands) × (l.work ≡ back_to l.initial.work l.commands l.i) × (l.totals ≡ tabulate 16 (best (drop l.i (noted_in l.initial.work l.commands))))

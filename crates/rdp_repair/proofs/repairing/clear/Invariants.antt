@@ -8,7 +8,6 @@ use lib.ListN.{length, set, drop, replicate, length-set, length-replicate}
 use Rattle.rdp_words.proofs.OverwriteLaws.{overwrite-is}
 use Rattle.rdp_repair.proofs.repairing.clear.Given as goal
 
--- `rdp_repair::repairing::clear` meets its contract: after i turns the first i bytes are 0. Assumes nothing.
 abbrev pub invariant-loop-i : goal.invariant-loop-i
 invariant-loop-i l = (l.i ≤ l.n) × (l.work ≡ replicate l.i 0 ++ drop l.i l.initial.work) × (length l.work ≡ length l.initial.work)
 

@@ -6,7 +6,6 @@ use Rattle.rdp_check.proofs.LeftLaws.{inside, falls}
 use Rattle.rdp_repair.proofs.PassLaws.{Reached, reached-first, reached-next, count-few, all-passed, one_more}
 use Rattle.rdp_repair.proofs.repairing.count_commands.Given as goal
 
--- `rdp_repair::repairing::count_commands` meets its contract: the commands passed and those left are all. Assumes nothing.
 abbrev pub invariant-loop-at : goal.invariant-loop-at
 invariant-loop-at l = Reached l.list l.words l.at l.count
 

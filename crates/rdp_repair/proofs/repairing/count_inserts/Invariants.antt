@@ -10,7 +10,6 @@ use Rattle.rdp_repair.specs.Work.{options_in, inserts_of}
 use Rattle.rdp_repair.proofs.ForwardLaws.{inserts-at, inserts-end}
 use Rattle.rdp_repair.proofs.repairing.count_inserts.Given as goal
 
--- `rdp_repair::repairing::count_inserts` meets its contract: what is counted and what is left to count make the whole. Assumes nothing.
 abbrev pub invariant-loop-i : goal.invariant-loop-i
 invariant-loop-i l =
     (l.i ≤ l.commands) × (l.hazards < 16) × (l.count ≤ l.i) × (l.count + inserts_of (options_in (l.commands - l.i) (drop (16 * l.i) l.work) l.hazards) ≡ inserts_of (options_in l.commands l.work 0))

@@ -1,4 +1,5 @@
 -- `rdp_repair::repairing::note_numbers` meets its contract: the numbers noted and those of the commands left are the numbers of all, and so are the words
+-- that are kept. Assumes nothing.
 use Prim.Native.Nat.{◌-◌}
 use native.Mathlib.Omega.{arith}
 use borrow.Author.Rules.{rules}

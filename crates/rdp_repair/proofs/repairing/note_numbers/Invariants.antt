@@ -1,4 +1,5 @@
 -- `rdp_repair::repairing::note_numbers` meets its contract: the numbers noted and those of the commands left are the numbers of all, and so are the words
+-- that are kept. Assumes nothing.
 use Prim.Native.Nat.{◌-◌}
 use native.Mathlib.Omega.{arith}
 use borrow.Author.Rules.{rules}
@@ -6,8 +7,6 @@ use Rattle.rdp_check.proofs.LeftLaws.{inside, falls}
 use Rattle.rdp_repair.proofs.PassLaws.{count-few, Noting, noting-first, noting-next, note-room, kept-few, noted-all}
 use Rattle.rdp_repair.proofs.repairing.note_numbers.Given as goal
 
--- `rdp_repair::repairing::note_numbers` meets its contract: the numbers noted and those of the commands left are the numbers of all, and so are the words
--- that are kept. Assumes nothing.
 abbrev pub invariant-loop-at : goal.invariant-loop-at
 invariant-loop-at l = Noting l.afresh l.list l.words l.initial.work l.work l.at l.i l.kept
 

@@ -55,7 +55,6 @@ module _ (b : After-backward-cycles) where
   inserts-are inserts e =
       e ∙ ap (λ (k : ℕ). inserts_of (options_in k held 0)) noted.counted ∙ ap inserts_of (plan-held afresh list work held held-is)
 
--- `rdp_repair::repairing::plan_list` meets its contract: the passes one after the other, by `RepairLaws`. Assumes nothing.
 pub note_numbers-noted-requires : goal.note_numbers-noted-requires
 note_numbers-noted-requires c = c.requires
 
@@ -64,23 +63,23 @@ backward-cycles-requires c =
     let w = c.requires.0 in (
       c.step_table-table.ensures,
       omega (arith, c.note_numbers-noted.ensures.counted, count_most c.args.list.now w.none, w.long, w.few),
-      omega (arith, c.note_numbers-noted.ensures.counted, c.requires.1, c.note_numbers-noted.auto.1.1.0),
+      omega (arith, c.note_numbers-noted.ensures.counted, c.requires.1, c.note_numbers-noted.auto.work),
       noted-below c.args.afresh c.args.list.now c.args.work.now _ _ c.note_numbers-noted.ensures,
     )
 
 pub count_inserts-requires : goal.count_inserts-requires
 count_inserts-requires c =
-    (omega (arith, held-long (goal.at.count_inserts-requires c).After-backward-arg-1, (s (goal.at.count_inserts-requires c).After-backward-arg-1).requires.1, (noted (goal.at.count_inserts-requires c).After-backward-arg-1).counted), held_below (goal.at.count_inserts-requires c).After-backward-arg-1)
+    (omega (arith, held-long (goal.at.count_inserts-requires c).After-backward-cycles, (s (goal.at.count_inserts-requires c).After-backward-cycles).requires.1, (noted (goal.at.count_inserts-requires c).After-backward-cycles).counted), held_below (goal.at.count_inserts-requires c).After-backward-cycles)
 
 pub overflow_add-total : goal.overflow_add-total
 overflow_add-total c =
-    omega (arith, (noted (goal.at.overflow_add-total c).After-backward-arg-1).words, inserts-are (goal.at.overflow_add-total c).After-backward-arg-1 _ c.count_inserts.ensures, words-few (afresh (goal.at.overflow_add-total c).After-backward-arg-1) (list (goal.at.overflow_add-total c).After-backward-arg-1) _ (s (goal.at.overflow_add-total c).After-backward-arg-1).requires.0)
+    omega (arith, (noted (goal.at.overflow_add-total c).After-backward-cycles).words, inserts-are (goal.at.overflow_add-total c).After-backward-cycles _ c.count_inserts.ensures, words-few (afresh (goal.at.overflow_add-total c).After-backward-cycles) (list (goal.at.overflow_add-total c).After-backward-cycles) _ (s (goal.at.overflow_add-total c).After-backward-cycles).requires.0)
 
 pub returns : goal.returns
 returns c =
     record {
-      commands = (noted (goal.at.returns c).After-backward-arg-1).counted;
-      cycles = cycles-are (afresh (goal.at.returns c).After-backward-arg-1) (list (goal.at.returns c).After-backward-arg-1) (work (goal.at.returns c).After-backward-arg-1) _ _ (noted (goal.at.returns c).After-backward-arg-1) _ _ c.backward-cycles.ensures;
-      words = ap₂ (λ (x y : ℕ). x + y) (noted (goal.at.returns c).After-backward-arg-1).words (inserts-are (goal.at.returns c).After-backward-arg-1 _ c.count_inserts.ensures);
-      choices = held-is (goal.at.returns c).After-backward-arg-1;
+      commands = (noted (goal.at.returns c).After-backward-cycles).counted;
+      cycles = cycles-are (afresh (goal.at.returns c).After-backward-cycles) (list (goal.at.returns c).After-backward-cycles) (work (goal.at.returns c).After-backward-cycles) _ _ (noted (goal.at.returns c).After-backward-cycles) _ _ c.backward-cycles.ensures;
+      words = ap₂ (λ (x y : ℕ). x + y) (noted (goal.at.returns c).After-backward-cycles).words (inserts-are (goal.at.returns c).After-backward-cycles _ c.count_inserts.ensures);
+      choices = held-is (goal.at.returns c).After-backward-cycles;
     }

@@ -16,7 +16,6 @@ use Rattle.rdp_repair.proofs.repairing.put_option.Goals as goal
 is_word : (at : After-sync_of) → option_bytes at.args.option ≡ bare_word at.sync_of.result
 is_word at = option-word at.args.option at.sync_of.result at.if-option-eq0.false at.sync_of.ensures
 
--- `rdp_repair::repairing::put_option` meets its contract: the word is copied, or nothing is. Assumes nothing.
 pub returns-then-option-eq0 : goal.returns-then-option-eq0
 returns-then-option-eq0 c =
     let a = c.args in
@@ -38,6 +37,6 @@ returns c =
     record {
       after = omega (arith, ap length e);
       output =
-          part-copied (bare_word c.sync_of.result) out c.copy.new.0 to (to + 8) (omega arith) room c.copy.ensures ∙
+          part-copied (bare_word c.sync_of.result) out c.copy.new.out to (to + 8) (omega arith) room c.copy.ensures ∙
           ap (λ (b : List ℕ). pasted to b out) (sym e);
     }

@@ -62,7 +62,6 @@ module _ (p : After-plan_list-planned) where
   cleared-is : (work' : List ℕ) → work' ≡ overwrite (replicate (16 * count) 0) held → work' ≡ overwrite (replicate (16 * length (commands_of list)) 0) work
   cleared-is work' e = e ∙ work-cleared afresh list work held p.plan_list-planned.ensures.choices count p.plan_list-planned.ensures.commands
 
--- `rdp_repair::repairing::repair_whole` meets its contract: the plan, the output and the cleared work buffer, by `RepairLaws`. Assumes nothing.
 pub plan_list-planned-requires : goal.plan_list-planned-requires
 plan_list-planned-requires c =
     (whole-list c.args.list.now c.args.words c.requires.0 c.requires.1, c.requires.2)
@@ -84,17 +83,17 @@ returns-then-out-needed c =
 pub write_plan-requires : goal.write_plan-requires
 write_plan-requires c =
     (
-      whole-list (list (goal.at.write_plan-requires c).After-plan_list-arg-1) (s (goal.at.write_plan-requires c).After-plan_list-arg-1).args.words (s (goal.at.write_plan-requires c).After-plan_list-arg-1).requires.0 (s (goal.at.write_plan-requires c).After-plan_list-arg-1).requires.1,
-      omega (arith, long (goal.at.write_plan-requires c).After-plan_list-arg-1, (s (goal.at.write_plan-requires c).After-plan_list-arg-1).requires.2),
-      choices-below (afresh (goal.at.write_plan-requires c).After-plan_list-arg-1) (list (goal.at.write_plan-requires c).After-plan_list-arg-1) (work (goal.at.write_plan-requires c).After-plan_list-arg-1) (held (goal.at.write_plan-requires c).After-plan_list-arg-1) c.plan_list-planned.ensures.choices,
-      omega (arith, ap length (due-is (goal.at.write_plan-requires c).After-plan_list-arg-1), (needed (goal.at.write_plan-requires c).After-plan_list-arg-1).0, c.if-out-needed.false),
+      whole-list (list (goal.at.write_plan-requires c).After-plan_list-planned) (s (goal.at.write_plan-requires c).After-plan_list-planned).args.words (s (goal.at.write_plan-requires c).After-plan_list-planned).requires.0 (s (goal.at.write_plan-requires c).After-plan_list-planned).requires.1,
+      omega (arith, long (goal.at.write_plan-requires c).After-plan_list-planned, (s (goal.at.write_plan-requires c).After-plan_list-planned).requires.2),
+      choices-below (afresh (goal.at.write_plan-requires c).After-plan_list-planned) (list (goal.at.write_plan-requires c).After-plan_list-planned) (work (goal.at.write_plan-requires c).After-plan_list-planned) (held (goal.at.write_plan-requires c).After-plan_list-planned) c.plan_list-planned.ensures.choices,
+      omega (arith, ap length (due-is (goal.at.write_plan-requires c).After-plan_list-planned), (needed (goal.at.write_plan-requires c).After-plan_list-planned).0, c.if-out-needed.false),
     )
 
 pub clear-requires-2 : goal.clear-requires-2
-clear-requires-2 c = omega (arith, room (goal.at.clear-requires-2 c).After-plan_list-arg-1)
+clear-requires-2 c = omega (arith, room (goal.at.clear-requires-2 c).After-plan_list-planned)
 
 pub returns : goal.returns
 returns c =
-    let out : List ℕ = (s (goal.at.returns c).After-plan_list-arg-1).args.out.now in
-    repaired-is (basis (goal.at.returns c).After-plan_list-arg-1) (list (goal.at.returns c).After-plan_list-arg-1) (work (goal.at.returns c).After-plan_list-arg-1) out (s (goal.at.returns c).After-plan_list-arg-1).requires.0 (s (goal.at.returns c).After-plan_list-arg-1).requires.2 _ (needed (goal.at.returns c).After-plan_list-arg-1).0 _ (cleared-is (goal.at.returns c).After-plan_list-arg-1 _ c.clear-2.ensures)
-    c.if-out-needed.false _ (cycles-is (goal.at.returns c).After-plan_list-arg-1) _ (written_is (goal.at.returns c).After-plan_list-arg-1 out _ c.write_plan.ensures)
+    let out : List ℕ = (s (goal.at.returns c).After-plan_list-planned).args.out.now in
+    repaired-is (basis (goal.at.returns c).After-plan_list-planned) (list (goal.at.returns c).After-plan_list-planned) (work (goal.at.returns c).After-plan_list-planned) out (s (goal.at.returns c).After-plan_list-planned).requires.0 (s (goal.at.returns c).After-plan_list-planned).requires.2 _ (needed (goal.at.returns c).After-plan_list-planned).0 _ (cleared-is (goal.at.returns c).After-plan_list-planned _ c.clear-2.ensures)
+    c.if-out-needed.false _ (cycles-is (goal.at.returns c).After-plan_list-planned) _ (written_is (goal.at.returns c).After-plan_list-planned out _ c.write_plan.ensures)

@@ -6,7 +6,6 @@ use Rattle.rdp_repair.specs.Plan.{sync_at}
 use Rattle.rdp_repair.proofs.WriteLaws.{sync-other}
 use Rattle.rdp_repair.proofs.repairing.sync_of.Goals as goal
 
--- `rdp_repair::repairing::sync_of` meets its contract: each arm is a clause of `syncAt`. Assumes nothing.
 pub returns-in-1 : goal.returns-in-1
 unfolding sync_at
 returns-in-1 c = ap (λ (a : ℕ). sync_number (sync_at (pred a))) (sym c.in-1.is)

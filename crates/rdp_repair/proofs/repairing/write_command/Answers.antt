@@ -25,9 +25,9 @@ returns c =
     record {
       after = omega (arith, c.put_option-next.ensures.after, size, length-append word (take n (drop from list)));
       output =
-          part-copied (take (from + n - from) (drop from list)) c.put_option-next.new.0 c.copy.new.0 next (next + n)
-          (omega (arith, sized)) (omega (arith, c.put_option-next.ensures.after, c.put_option-next.auto.0, c.requires.1)) c.copy.ensures ∙
-          ap (λ (k : ℕ). pasted next (take k (drop from list)) c.put_option-next.new.0) part ∙
+          part-copied (take (from + n - from) (drop from list)) c.put_option-next.new.out c.copy.new.out next (next + n)
+          (omega (arith, sized)) (omega (arith, c.put_option-next.ensures.after, c.put_option-next.auto.out, c.requires.1)) c.copy.ensures ∙
+          ap (λ (k : ℕ). pasted next (take k (drop from list)) c.put_option-next.new.out) part ∙
           ap₂ (λ (k : ℕ) (l : List ℕ). pasted k (take n (drop from list)) l) c.put_option-next.ensures.after c.put_option-next.ensures.output ∙
           pasted-append to word (take n (drop from list)) out (omega (arith, c.requires.1));
     }

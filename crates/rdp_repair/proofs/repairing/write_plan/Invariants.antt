@@ -8,7 +8,6 @@ use Rattle.rdp_check.proofs.LeftLaws.{inside, falls}
 use Rattle.rdp_repair.proofs.PassLaws.{Writing, writing-first, writing-next, all-written, output-long, choice-there, turn-fits, in_list, count-few}
 use Rattle.rdp_repair.proofs.repairing.write_plan.Given as goal
 
--- `rdp_repair::repairing::write_plan` meets its contract: what is written and what is due make the whole. Assumes nothing.
 abbrev pub invariant-loop-at : goal.invariant-loop-at
 invariant-loop-at l = Writing l.afresh l.list l.words l.work l.initial.out l.out l.at l.hazards l.i l.to
 

@@ -5,7 +5,7 @@ use Rattle.rdp_command.specs.declared.RegisterFields.{RegisterFields}
 use Rattle.rdp_state.specs.RegisterWords.{registers_by}
 use borrow.Author.Rules.{rules}
 use Rattle.rdp_state.specs.Replay.{register_words}
-use Rattle.rdp_state.proofs.updates.registers_of.Goals.{After-register_fields-fields}
+use Rattle.rdp_state.proofs.updates.registers_of.Goals.{After-file-5-1, After-register_fields-fields}
 use Rattle.rdp_state.proofs.updates.registers_of.Goals as goal
 
 -- the fields are those of the words in the file
@@ -15,16 +15,16 @@ fields :
 fields c = c.register_fields-fields.ensures ∙ ap register_fields c.words_in.ensures
 
 pub colors_of-colors-requires : goal.colors_of-colors-requires
-colors_of-colors-requires c = ap (λ (r : RegisterFields). r.colors) (fields (goal.at.colors_of-colors-requires c).After-file-2-1)
+colors_of-colors-requires c = ap (λ (r : RegisterFields). r.colors) (fields (goal.at.colors_of-colors-requires c).After-register_fields-fields)
 
 pub combiner_of-combiner-requires : goal.combiner_of-combiner-requires
-combiner_of-combiner-requires c = ap (λ (r : RegisterFields). r.combiner) (fields (goal.at.combiner_of-combiner-requires c).After-colors_of-arg-1)
+combiner_of-combiner-requires c = ap (λ (r : RegisterFields). r.combiner) (fields (goal.at.combiner_of-combiner-requires c).After-register_fields-fields)
 
 pub modes_of-modes-requires : goal.modes_of-modes-requires
-modes_of-modes-requires c = ap (λ (r : RegisterFields). r.modes) (fields (goal.at.modes_of-modes-requires c).After-colors_of-colors)
+modes_of-modes-requires c = ap (λ (r : RegisterFields). r.modes) (fields (goal.at.modes_of-modes-requires c).After-register_fields-fields)
 
 pub images_of-images-requires : goal.images_of-images-requires
-images_of-images-requires c = ap (λ (r : RegisterFields). r.images) (fields (goal.at.images_of-images-requires c).After-file-3-1)
+images_of-images-requires c = ap (λ (r : RegisterFields). r.images) (fields (goal.at.images_of-images-requires c).After-register_fields-fields)
 
 pub returns : goal.returns
 unfolding registers_by

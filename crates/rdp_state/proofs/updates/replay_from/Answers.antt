@@ -1,4 +1,5 @@
 -- `rdp_state::updates::replay_from` meets its contract. The loop's invariant: the words after what is left are those after the list. The measure is what
+-- is left of the words. Assumes nothing.
 use mathlib.Core.Path.{refl, ap}
 use Prim.Native.Nat.{◌-◌, ◌<◌}
 use native.Mathlib.Omega.{arith}

@@ -3,7 +3,6 @@ use borrow.Author.Tests.{ne_eqb}
 use Rattle.rdp_state.specs.Replay.{slot_row}
 use Rattle.rdp_state.proofs.updates.slot_row.Goals as goal
 
--- `rdp_state::updates::slot_row` meets its contract: each arm is a line of `slotRow`. Assumes nothing.
 pub returns-in-5 : goal.returns-in-5
 unfolding slot_row
 returns-in-5 c = rw c.in-5.is

@@ -3,7 +3,6 @@ use borrow.Author.Tests.{ne_eqb}
 use Rattle.rdp_hazards.specs.Syncs.{command_wait}
 use Rattle.rdp_state.proofs.updates.wait_of.Goals as goal
 
--- `rdp_state::updates::wait_of` meets its contract: each arm is a line of `commandWait`. Assumes nothing.
 pub returns-in-38 : goal.returns-in-38
 unfolding command_wait
 returns-in-38 c = rw c.in-38.is

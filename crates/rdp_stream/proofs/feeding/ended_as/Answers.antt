@@ -2,7 +2,6 @@
 use borrow.Author.Tests.{eq-eqb, ne_eqb}
 use Rattle.rdp_stream.proofs.feeding.ended_as.Goals as goal
 
--- `rdp_stream::feeding::ended_as` meets its contract, by its tests. Assumes nothing.
 pub returns-then-before-eq0 : goal.returns-then-before-eq0
 returns-then-before-eq0 c = rw (c.if-ended.true, eq-eqb _ _ c.if-before-eq0.true)
 

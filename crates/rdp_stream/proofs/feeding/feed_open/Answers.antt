@@ -6,7 +6,6 @@ use borrow.Author.Rules.{rules}
 use Rattle.rdp_stream.proofs.RecordLaws.{open_more, fed-long, fed-room, fed-whole, fed-full, fed-over, part-refused, part-full}
 use Rattle.rdp_stream.proofs.feeding.feed_open.Goals as goal
 
--- `rdp_stream::feeding::feed_open` meets its contract: the bytes for which there is room, and then 1. Assumes nothing.
 fed-is : (taken len room n : ℕ) → room ≡ 32768 - taken → n ≡ min room len → n ≡ min (32768 - taken) len
 fed-is taken len room n e h = omega arith
 

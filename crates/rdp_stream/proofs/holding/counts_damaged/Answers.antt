@@ -2,7 +2,6 @@
 use borrow.Author.Tests.{lt-ltb, le-ltb}
 use Rattle.rdp_stream.proofs.holding.counts_damaged.Goals as goal
 
--- `rdp_stream::holding::counts_damaged` meets its contract, by its tests. Assumes nothing.
 pub returns-then-taken-gt-MOST_BYTES : goal.returns-then-taken-gt-MOST_BYTES
 returns-then-taken-gt-MOST_BYTES c = rw (lt-ltb _ _ c.if-taken-gt-MOST_BYTES.true)
 

@@ -9,4 +9,4 @@ use Rattle.rdp_stream.proofs.holding.put.Goals as goal
 pub returns : goal.returns
 returns c =
     let a = c.args in
-    part-copied a.bytes.now a.out.now c.copy.new.0 a.at (a.at + length a.bytes.now) (omega arith) c.requires c.copy.ensures
+    part-copied a.bytes.now a.out.now c.copy.new.out a.at (a.at + length a.bytes.now) (omega arith) c.requires c.copy.ensures

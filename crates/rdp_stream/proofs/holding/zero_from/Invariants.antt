@@ -8,7 +8,6 @@ use Rattle.rdp_stream.specs.Records.{all_zero}
 use Rattle.rdp_stream.proofs.HeldLaws.{zero-at, zero-not}
 use Rattle.rdp_stream.proofs.holding.zero_from.Given as goal
 
--- `rdp_stream::holding::zero_from` meets its contract: what is left decides. Assumes nothing.
 abbrev pub invariant-loop-i : goal.invariant-loop-i
 invariant-loop-i l = (l.i ≤ length l.bytes) × (all_zero (drop l.i l.bytes) ≡ all_zero (drop l.from l.bytes))
 

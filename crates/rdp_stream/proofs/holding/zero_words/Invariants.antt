@@ -8,7 +8,6 @@ use Rattle.rdp_stream.specs.Records.{all_zero}
 use Rattle.rdp_stream.proofs.HeldLaws.{zero-end, words-zero, words-not}
 use Rattle.rdp_stream.proofs.holding.zero_words.Given as goal
 
--- `rdp_stream::holding::zero_words` meets its contract: what is left decides. Assumes nothing.
 abbrev pub invariant-loop-k : goal.invariant-loop-k
 invariant-loop-k l = (l.words ≡ length l.bytes / 8) × (all_zero (drop (8 * l.k) l.bytes) ≡ all_zero (drop (8 * l.from) l.bytes))
 

@@ -7,7 +7,6 @@ use Rattle.rdp_texels.proofs.PartLaws.{Taken, taken_none, taken_more}
 use borrow.Author.Rules.{rules}
 use Rattle.rdp_texels.proofs.bytes.copy_even.Given as goal
 
--- `rdp_texels::bytes::copy_even` meets its contract. The invariant stands first. Assumes nothing.
 abbrev pub invariant-loop-k : goal.invariant-loop-k
 invariant-loop-k l = (l.k ≤ l.n) × Taken false false l.s l.d 0 l.k l.from l.initial.to l.to
 

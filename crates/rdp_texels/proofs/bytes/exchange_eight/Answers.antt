@@ -12,7 +12,6 @@ use Rattle.rdp_texels.proofs.ExchangeLaws.{stored, length-stored, eight, exchang
 use Rattle.rdp_texels.proofs.bytes.exchange_eight.Goals.{Start}
 use Rattle.rdp_texels.proofs.bytes.exchange_eight.Goals as goal
 
--- `rdp_texels::bytes::exchange_eight` meets its contract. Assumes nothing.
 -- the indices of eight bytes
 among : (p n : ℕ) → p + 8 ≤ n → (i : ℕ) → i < 8 → p + i < n
 among p n h i l = omega arith

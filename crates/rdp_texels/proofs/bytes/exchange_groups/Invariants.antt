@@ -5,7 +5,6 @@ use Rattle.rdp_texels.proofs.ExchangeLaws.{Exchanged, exchanged-none, exchanged-
 use borrow.Author.Rules.{rules}
 use Rattle.rdp_texels.proofs.bytes.exchange_groups.Given as goal
 
--- `rdp_texels::bytes::exchange_groups` meets its contract. The invariant stands first. Assumes nothing.
 abbrev pub invariant-loop-k : goal.invariant-loop-k
 invariant-loop-k l = (l.k ≤ l.b) × Exchanged l.s l.d l.a l.k l.from l.initial.to l.to
 

@@ -4,7 +4,6 @@ use Rattle.rdp_texels.proofs.ExchangeLaws.{odd-three}
 use borrow.Author.Rules.{rules}
 use Rattle.rdp_texels.proofs.bytes.move_odd.Goals as goal
 
--- `rdp_texels::bytes::move_odd` meets its contract. Assumes nothing.
 pub move_turned-requires : goal.move_turned-requires
 move_turned-requires c = let p = c.requires in (omega arith, omega arith, omega arith, p.1.2)
 

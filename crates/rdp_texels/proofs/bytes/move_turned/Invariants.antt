@@ -9,7 +9,6 @@ use Rattle.rdp_texels.proofs.PartLaws.{Taken, taken_none, taken_more}
 use borrow.Author.Rules.{rules}
 use Rattle.rdp_texels.proofs.bytes.move_turned.Given as goal
 
--- `rdp_texels::bytes::move_turned` meets its contract. The invariant stands first. Assumes nothing.
 abbrev pub invariant-loop-k : goal.invariant-loop-k
 invariant-loop-k l = (l.a ≤ l.k) × (l.k ≤ l.b) × Taken l.into (not l.into) l.s l.d l.a l.k l.from l.initial.to l.to
 

@@ -11,7 +11,6 @@ use native.Mathlib.Omega.{arith}
 use mathlib.Core.Path.{ap, sym, subst}
 use Rattle.rdp_texels.proofs.grids.ahead.Goals as goal
 
--- `rdp_texels::grids::ahead` meets its contract. Assumes nothing.
 pub overflow_cast-excess : goal.overflow_cast-excess
 overflow_cast-excess c = subst (λ (y : ℤ). SFits w32 y) (sym (to_z-of_z c.ranges.z)) (sfits_widen tt c.ranges.z)
 

@@ -12,7 +12,6 @@ use mathlib.Core.Path.{ap, sym, subst}
 use borrow.Author.Rules.{rules}
 use Rattle.rdp_texels.proofs.grids.behind.Goals as goal
 
--- `rdp_texels::grids::behind` meets its contract. Assumes nothing.
 pub overflow_cast-excess : goal.overflow_cast-excess
 overflow_cast-excess c = subst (λ (y : ℤ). SFits w32 y) (sym (to_z-of_z c.ranges.z)) (sfits_widen tt c.ranges.z)
 

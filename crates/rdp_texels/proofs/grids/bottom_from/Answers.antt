@@ -6,7 +6,6 @@ use mathlib.Core.Path.{sym, ◌∙◌}
 use borrow.Author.Rules.{rules}
 use Rattle.rdp_texels.proofs.grids.bottom_from.Goals as goal
 
--- `rdp_texels::grids::bottom_from` meets its contract. Assumes nothing.
 pub returns-then-y-eq0 : goal.returns-then-y-eq0
 returns-then-y-eq0 c = (rw c.if-y-eq0.true (bottom-zero c.args.«field» c.args.odd), omega arith)
 

@@ -12,7 +12,7 @@ unfolding copy_span
 returns c =
     let s = c.args.copy.scissor in
     let left = c.first_kept.ensures in
-    let right = c.End-kept.ensures in
+    let right = c.end_kept.ensures in
     let top = c.first_kept_row.ensures in
     let end = c.end_kept-2.ensures in
     let bottom = c.bottom_from.ensures in (

@@ -2,7 +2,6 @@
 use Rattle.rdp_texels.proofs.ActLaws.{holds_not, holds_by}
 use Rattle.rdp_texels.proofs.grids.holds.Goals as goal
 
--- `rdp_texels::grids::holds` meets its contract. Assumes nothing.
 pub returns-then-size-first : goal.returns-then-size-first
 returns-then-size-first c = let s = c.args in holds_not s.size s.first s.n c.if-size-first.true
 

@@ -5,7 +5,6 @@ use mathlib.Core.Path.{refl}
 use borrow.Author.Rules.{rules}
 use Rattle.rdp_texels.proofs.grids.place.Goals as goal
 
--- `rdp_texels::grids::place` meets its contract. Assumes nothing.
 pub overflow_mul-result : goal.overflow_mul-result
 overflow_mul-result c = omega (arith, mul-le-mul c.requires.3 c.requires.1)
 

@@ -6,7 +6,6 @@ use Prim.Native.Nat.{ℕ, ◌≤◌, ◌<◌}
 use borrow.Author.Rules.{rules}
 use Rattle.rdp_texels.proofs.grids.texture_bytes.Goals as goal
 
--- `rdp_texels::grids::texture_bytes` meets its contract. Assumes nothing.
 lines : (l : ℕ) → l < 65536 → l ≤ 65535
 lines l h = omega arith
 

@@ -10,7 +10,6 @@ use Rattle.rdp_texels.proofs.rows.copy_grid_row.Goals as goal
 row : (y bottom : ℕ) → y < bottom → bottom ≤ 16384 → y ≤ 16384
 row y bottom h k = omega arith
 
--- `rdp_texels::rows::copy_grid_row` meets its contract. Assumes nothing.
 pub place-requires : goal.place-requires
 place-requires c =
     let r = c.requires.1 in

@@ -6,7 +6,6 @@ use Prim.Native.Nat.{◌-◌}
 use borrow.Author.Rules.{rules}
 use Rattle.rdp_texels.proofs.rows.copy_rows.Given as goal
 
--- `rdp_texels::rows::copy_rows` meets its contract. The invariant stands first. Assumes nothing.
 abbrev pub invariant-loop-y : goal.invariant-loop-y
 invariant-loop-y l = CopyDue (row_kept l.scissor) l.grid l.span l.start l.texture l.initial.memory l.memory l.y
 

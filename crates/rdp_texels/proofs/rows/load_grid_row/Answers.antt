@@ -10,7 +10,6 @@ use Rattle.rdp_texels.proofs.rows.load_grid_row.Goals as goal
 row : (y bottom : ℕ) → y < bottom → bottom ≤ 16384 → y ≤ 16384
 row y bottom h k = omega arith
 
--- `rdp_texels::rows::load_grid_row` meets its contract. Assumes nothing.
 pub place-requires : goal.place-requires
 place-requires c =
     let r = c.requires.1 in
@@ -56,4 +55,4 @@ returns c =
     let t = c.place.ensures.0 in
     let m = c.place-2.ensures.0 in
     loaded-row-is s.texture.now s.memory.now p.1 s.y p.2 p.3 (ap (λ (n : ℕ). n - s.grid.behind) t)
-    (ap (λ (n : ℕ). n - s.start) m) refl c.is_turned-odd.ensures p.0 c.Load-row.ensures
+    (ap (λ (n : ℕ). n - s.start) m) refl c.is_turned-odd.ensures p.0 c.load_row.ensures

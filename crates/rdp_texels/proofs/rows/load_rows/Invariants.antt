@@ -7,7 +7,6 @@ use Prim.Native.Nat.{◌-◌}
 use borrow.Author.Rules.{rules}
 use Rattle.rdp_texels.proofs.rows.load_rows.Given as goal
 
--- `rdp_texels::rows::load_rows` meets its contract. The invariant stands first. Assumes nothing.
 abbrev pub invariant-loop-y : goal.invariant-loop-y
 invariant-loop-y l = LoadDue (λ _. true) l.grid l.span l.start l.memory l.initial.texture l.texture l.y
 

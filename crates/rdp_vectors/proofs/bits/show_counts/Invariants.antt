@@ -3,7 +3,6 @@ use Prim.Native.Nat.{◌≤◌, ◌-◌}
 use borrow.Author.Rules.{rules}
 use Rattle.rdp_vectors.proofs.bits.show_counts.Given as goal
 
--- Safe, and ends: the number goes up to 255.
 abbrev pub invariant-loop-number : goal.invariant-loop-number
 invariant-loop-number l = number ≤ 255
 

@@ -3,7 +3,6 @@ use Prim.Native.Nat.{◌≤◌, ◌-◌}
 use borrow.Author.Rules.{rules}
 use Rattle.rdp_vectors.proofs.bits.show_fills.Given as goal
 
--- Safe, and ends: the bit goes up to 64.
 abbrev pub invariant-loop-bit : goal.invariant-loop-bit
 invariant-loop-bit l = bit ≤ 64
 

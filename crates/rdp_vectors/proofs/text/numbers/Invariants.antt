@@ -4,7 +4,6 @@ use lib.ListN.{length}
 use borrow.Author.Rules.{rules}
 use Rattle.rdp_vectors.proofs.text.numbers.Given as goal
 
--- Safe, and ends: the index is within the numbers.
 abbrev pub invariant-loop-i : goal.invariant-loop-i
 invariant-loop-i l = l.i ≤ length l.all
 

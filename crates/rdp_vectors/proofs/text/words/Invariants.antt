@@ -4,7 +4,6 @@ use lib.ListN.{length}
 use borrow.Author.Rules.{rules}
 use Rattle.rdp_vectors.proofs.text.words.Given as goal
 
--- Safe, and ends: the place is at most the count of whole words.
 abbrev pub invariant-loop-place : goal.invariant-loop-place
 invariant-loop-place l = l.place ≤ length l.bytes / 8
 

@@ -5,7 +5,6 @@ use borrow.Author.Rules.{rules}
 use Rattle.rdp_view.proofs.PixelLaws.{bytes-some, bytes-more, bytes-four, eight-at, sixteen-at, copied_at}
 use Rattle.rdp_view.proofs.pixels.pixel_at.Goals as goal
 
--- `rdp_view::pixels::pixel_at` meets its contract: by the size number, whose bytes are in the image. Assumes nothing.
 pub bounds-image-at : goal.bounds-image-at
 bounds-image-at c = omega (arith, c.requires, bytes-some c.args.size)
 

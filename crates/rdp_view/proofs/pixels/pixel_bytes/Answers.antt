@@ -3,7 +3,6 @@ use mathlib.Core.Path.{sym}
 use Rattle.rdp_view.proofs.PixelLaws.{bytes_one, bytes-two, bytes-four}
 use Rattle.rdp_view.proofs.pixels.pixel_bytes.Goals as goal
 
--- `rdp_view::pixels::pixel_bytes` meets its contract: by the size number. Assumes nothing.
 pub returns-then-size-eq1 : goal.returns-then-size-eq1
 returns-then-size-eq1 c = sym (bytes_one _ c.if-size-eq1.true)
 

@@ -9,7 +9,6 @@ use Rattle.rdp_words.proofs.OverwriteLaws.{part-copied}
 use Rattle.rdp_view.proofs.PixelLaws.{length-rgba, Viewing, viewing-first, viewing-next, pixel-inside, pixel-room, same-long, all-written}
 use Rattle.rdp_view.proofs.pixels.write.Given as goal
 
--- `rdp_view::pixels::write` meets its contract: what is written and what is due make the whole. Assumes nothing.
 abbrev pub invariant-loop-left : goal.invariant-loop-left
 invariant-loop-left l = Viewing l.size l.count l.step l.image l.initial.out l.out l.left l.at l.to
 

@@ -6,7 +6,6 @@ use borrow.Author.Rules.{rules}
 use Rattle.rdp_view.proofs.PixelLaws.{bytes_one, bytes-two, bytes-four}
 use Rattle.rdp_view.proofs.tests.image_bytes.Goals as goal
 
--- `rdp_view::tests::image_bytes` meets its contract: by the size number. Assumes nothing.
 pub returns-then-size-eq1 : goal.returns-then-size-eq1
 returns-then-size-eq1 c = let a = c.args in sym (ap (λ (k : ℕ). a.count * k) (bytes_one a.size c.if-size-eq1.true) ∙ mul-one a.count)
 

@@ -4,7 +4,6 @@ use native.Mathlib.Omega.{arith}
 use Rattle.rdp_view.proofs.ViewLaws.{area-most}
 use Rattle.rdp_view.proofs.tests.pixel_count.Goals as goal
 
--- `rdp_view::tests::pixel_count` meets its contract: 1,024 by 1,024 at most. Assumes nothing.
 pub overflow_mul-result : goal.overflow_mul-result
 overflow_mul-result c = omega (arith, area-most c.args.width c.args.height c.requires.0 c.requires.1)
 
