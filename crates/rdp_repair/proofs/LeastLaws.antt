@@ -230,10 +230,28 @@ single-from m (insert y (insert z {cs = cs} {ds = ds} {k = k} s)) h e =
 pub least-single : {cs ds : List (List ℕ)} {k : ℕ} → Inserted cs ds k → Passes 0 ds → k ≡ best (map first_number cs) 0 → Single cs ds k
 least-single = single-from 0
 
+-- of two plans that tie so with two that are equal to them the other way round: they are equal
+both-first : {p q r s : List ℕ} → TiesFirst p q → TiesFirst r s → q ≡ r → p ≡ s → p ≡ q
+both-first same g e f = refl
+both-first (next {a = a} {p = p} {q = q} x) same e f = f ∙ sym e
+both-first (next {a = a} {p = p} {q = q} x) (next {a = b} {p = r} {q = s} y) e f =
+    let u : q ≡ r = cc in
+    let v : p ≡ s = cc in
+    ap (λ (l : List ℕ). a ∷ l) (both-first x y u v)
+both-first (next {a = a} x) (less {a = b} {b = d} h) e f =
+    let u : a ≡ b = cc in
+    let v : a ≡ d = cc in
+    absurd (omega arith)
+both-first (less {a = a} {b = b} h) same e f = f ∙ sym e
+both-first (less {a = a} {b = b} h) (next {a = c} y) e f =
+    let u : b ≡ c = cc in
+    let v : a ≡ c = cc in
+    absurd (omega arith)
+both-first (less {a = a} {b = b} h) (less {a = c} {b = d} k) e f =
+    let u : b ≡ c = cc in
+    let v : a ≡ d = cc in
+    absurd (omega arith)
+
 -- only one plan is first: two that each stand before the other or are equal are equal
 pub first-unique : {p q : List ℕ} → TiesFirst p q → TiesFirst q p → p ≡ q
-first-unique same same = refl
-first-unique (next {a = a} f) (next g) = ap (λ (l : List ℕ). a ∷ l) (first-unique f g)
-first-unique (next f) (less h) = absurd (omega arith)
-first-unique (less h) (next g) = absurd (omega arith)
-first-unique (less h) (less k) = absurd (omega arith)
+first-unique f g = both-first f g refl refl

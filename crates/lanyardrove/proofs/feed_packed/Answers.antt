@@ -11,8 +11,8 @@ use Rattle.lanyardrove.proofs.feed_packed.Goals as goal
 pub pack-answer-requires : goal.pack-answer-requires
 pack-answer-requires c =
     let r = c.args.before in
-    let long : length r.held ≡ 176 = search (rules, c.well-formed.0.1.1.1.0) in
-    let near : r.place < 2 ^ 32 = search (rules, c.well-formed.0.1.1.1.1.1.1.1.0) in
+    let long : length r.held ≡ 176 = search (rules, c.well_formed.0.1.1.1.0) in
+    let near : r.place < 2 ^ 32 = search (rules, c.well_formed.0.1.1.1.1.1.1.1.0) in
     let e = told _ _ _ c.third_of_record-third.ensures c.feed_value-fed.ensures in
     let p = packs _ e (of_feed r long near c.args.portion.now) in
     omega (arith, p.0, p.1)

@@ -18,4 +18,5 @@ pack-requires c = let p = packs _ (answers (goal.at.pack-requires c).After-draw-
 
 pub returns : goal.returns
 returns c =
-    (c.pack.ensures ∙ ap packed (answers (goal.at.returns c).After-draw-answer), c.draw-answer.ensures.memory)
+    let all = ((c.pack.ensures ∙ ap packed (answers (goal.at.returns c).After-draw-answer), c.draw-answer.ensures.memory)) in
+    record { reply = all.0; memory = all.1.0; texture = all.1.1 }

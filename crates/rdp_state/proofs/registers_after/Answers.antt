@@ -11,7 +11,7 @@ returns c =
     let list = c.args.list.now in
     let registers =
     c.registers_of-registers.ensures ∙
-    registers-final list c.end_of_lem.result c.replay_from-replay.result.words c.replay_from-replay.ensures.0 ∙
-    ap (final list) (c.end_of_lem.ensures ∙ (λ i. end_of (e i).number (e i).place)) ∙
+    registers-final list c.end_of-end.result c.replay_from-replay.result.words c.replay_from-replay.ensures.0 ∙
+    ap (final list) (c.end_of-end.ensures ∙ (λ i. end_of (e i).number (e i).place)) ∙
     outcome-registers 4096 list in
     λ i. record { number = (e i).number; place = (e i).place; hazards = (e i).hazards; registers = registers i }

@@ -13,11 +13,11 @@ returns-then-is_damaged c =
 pub returns-then-number-ne0 : goal.returns-then-number-ne0
 returns-then-number-ne0 c =
     let r = c.args.before in
-    let long : length r.held ≡ 176 = search (rules, c.well-formed.0.1.1.1.0) in
+    let long : length r.held ≡ 176 = search (rules, c.well_formed.0.1.1.1.0) in
     c.answer_with-then-number-ne0.ensures ∙ closed-repeats r (sym c.is_damaged.ensures ∙ c.if-is_damaged.false) long c.if-number-ne0.true
 
 pub returns : goal.returns
 returns c =
     let r = c.args.before in
-    let long : length r.held ≡ 176 = search (rules, c.well-formed.0.1.1.1.0) in
+    let long : length r.held ≡ 176 = search (rules, c.well_formed.0.1.1.1.0) in
     c.close_open.ensures ∙ closing-is r (sym c.is_damaged.ensures ∙ c.if-is_damaged.false) long c.if-number-ne0.false

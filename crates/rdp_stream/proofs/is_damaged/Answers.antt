@@ -7,16 +7,16 @@ use Rattle.rdp_stream.proofs.HeldLaws.{damaged-by}
 use Rattle.rdp_stream.proofs.is_damaged.Goals as goal
 
 pub returns-then-count-gt175 : goal.returns-then-count-gt175
-returns-then-count-gt175 c = rw (← damaged-by c.args.t1 c.args.count c.args.taken c.args.number c.args.waited, lt-ltb _ _ c.if-count-gt175.true)
+returns-then-count-gt175 c = rw (← damaged-by c.args.held c.args.count c.args.taken c.args.number c.args.waited, lt-ltb _ _ c.if-count-gt175.true)
 
 pub slice_bounds-bytes_damaged-end : goal.slice_bounds-bytes_damaged-end
 slice_bounds-bytes_damaged-end c =
-    let long : length c.args.t1 ≡ 176 = search rules in
+    let long : length c.args.held ≡ 176 = search rules in
     sym long
 
 pub bytes_damaged-requires : goal.bytes_damaged-requires
 bytes_damaged-requires c =
-    let long : length c.args.t1 ≡ 176 = search rules in
+    let long : length c.args.held ≡ 176 = search rules in
     (long, c.if-count-gt175.false)
 
 pub returns-then-bytes_damaged : goal.returns-then-bytes_damaged

@@ -13,8 +13,10 @@ decoded-is c =
 
 pub returns-in-Whole : goal.returns-in-Whole
 returns-in-Whole c =
-    whole_numbers c.args.command.now c.args.numbers.now c.requires.1 (decoded-is (goal.at.returns-in-Whole c).After-command_or-decoded) c.in-Whole.is c.fields-written.ensures.answer c.fields-written.ensures.output
+    let all = (whole_numbers c.args.command.now c.args.numbers.now c.requires.1 (decoded-is (goal.at.returns-in-Whole c).After-command_or-decoded) c.in-Whole.is c.fields-written.ensures.answer c.fields-written.ensures.output) in
+    record { count = all.0; numbers = all.1 }
 
 pub returns-in-Refused : goal.returns-in-Refused
 returns-in-Refused c =
-    no-numbers c.args.command.now c.args.numbers.now c.requires.1 (decoded-is (goal.at.returns-in-Refused c).After-command_or-decoded) c.in-Refused.is
+    let all = (no-numbers c.args.command.now c.args.numbers.now c.requires.1 (decoded-is (goal.at.returns-in-Refused c).After-command_or-decoded) c.in-Refused.is) in
+    record { count = all.0; numbers = all.1 }

@@ -16,7 +16,7 @@ bare_ranks-ranks-requires c = c.requires
 pub synced_ranks-synced-requires : goal.synced_ranks-synced-requires
 synced_ranks-synced-requires c =
     subst (Bounded 0x2000000) (sym c.bare_ranks-ranks.ensures)
-    (tabulate-most 16 _ _ (bare-most c.args.number (λ k. get_or c.args.t3 k 0) c.requires.2 0))
+    (tabulate-most 16 _ _ (bare-most c.args.number (λ k. get_or c.args.after k 0) c.requires.2 0))
 
 pub loop-m-init : goal.loop-m-init
 loop-m-init c = (omega arith, refl, refl, (λ k h. absurd (omega arith)), (λ k h. absurd (omega arith)))
@@ -38,7 +38,7 @@ pub returns : goal.returns
 unfolding totals_of choices_of
 returns c =
     let n : ℕ = c.args.number in
-    let f : ℕ → ℕ = λ k. get_or c.args.t3 k 0 in
+    let f : ℕ → ℕ = λ k. get_or c.args.after k 0 in
     let r : ℕ → ℕ = λ j. min (get_or c.bare_ranks-ranks.result j 0) (get_or c.synced_ranks-synced.result (j % 4) 0) in
     let rank : (j : ℕ) → j < 16 → r j ≡ rank_of (chosen n f j) =
     λ j h. least-held n f c.requires.2 j _ _ c.bare_ranks-ranks.ensures c.synced_ranks-synced.ensures h in

@@ -13,22 +13,19 @@ use Rattle.rdp_repair.specs.declared.repairing.Noted.{Noted}
 use Rattle.rdp_words.specs.Words.{overwrite}
 use Rattle.rdp_repair.proofs.RepairedLaws.{count_most}
 use Rattle.rdp_repair.proofs.RepairLaws.{words-few, noted-below, cycles-are, choices-are, choices-below, plan-held}
-use Rattle.rdp_repair.proofs.repairing.plan_list.Goals.{After-backward-cycles, Start}
+use Rattle.rdp_repair.proofs.repairing.plan_list.Goals.{After-backward-cycles}
 use Rattle.rdp_repair.proofs.repairing.plan_list.Goals as goal
 
 -- after the backward pass
 module _ (b : After-backward-cycles) where
-  abbrev s : Start
-  s = b.before.before.before.before.before.before.before.before.before.before
-
   abbrev afresh : Bool
-  afresh = s.args.afresh
+  afresh = b.args.afresh
 
   abbrev list : List ℕ
-  list = s.args.list.now
+  list = b.args.list.now
 
   abbrev work : List ℕ
-  work = s.args.work.now
+  work = b.args.work.now
 
   abbrev result : Noted
   result = b.note_numbers-noted.result
@@ -36,17 +33,17 @@ module _ (b : After-backward-cycles) where
   abbrev count : ℕ
   count = result.commands
 
-  abbrev noted : NotedIs afresh list work result b.note_numbers-noted.last.1.1.0
+  abbrev noted : NotedIs afresh list work result b.note_numbers-noted.new.work
   noted = b.note_numbers-noted.ensures
 
   abbrev held : List ℕ
-  held = b.backward-cycles.last.1.0
+  held = b.backward-cycles.new.work
 
   held-is : held ≡ overwrite (work_of (noted_of afresh (commands_of list))) work
   held-is = choices-are afresh list work _ _ noted _ _ b.backward-cycles.ensures
 
   held-long : length held ≡ length work
-  held-long = b.backward-cycles.kept.1.0 ∙ b.note_numbers-noted.kept.1.1.0
+  held-long = b.backward-cycles.auto.work ∙ b.note_numbers-noted.auto.work
 
   held_below : Below 64 held (16 * count)
   held_below = subst (λ (k : ℕ). Below 64 held (16 * k)) (sym noted.counted) (choices-below afresh list work held held-is)
@@ -69,11 +66,11 @@ backward-cycles-requires c =
 
 pub count_inserts-requires : goal.count_inserts-requires
 count_inserts-requires c =
-    (omega (arith, held-long (goal.at.count_inserts-requires c).After-backward-cycles, (s (goal.at.count_inserts-requires c).After-backward-cycles).requires.1, (noted (goal.at.count_inserts-requires c).After-backward-cycles).counted), held_below (goal.at.count_inserts-requires c).After-backward-cycles)
+    (omega (arith, held-long (goal.at.count_inserts-requires c).After-backward-cycles, c.requires.1, (noted (goal.at.count_inserts-requires c).After-backward-cycles).counted), held_below (goal.at.count_inserts-requires c).After-backward-cycles)
 
 pub overflow_add-total : goal.overflow_add-total
 overflow_add-total c =
-    omega (arith, (noted (goal.at.overflow_add-total c).After-backward-cycles).words, inserts-are (goal.at.overflow_add-total c).After-backward-cycles _ c.count_inserts.ensures, words-few (afresh (goal.at.overflow_add-total c).After-backward-cycles) (list (goal.at.overflow_add-total c).After-backward-cycles) _ (s (goal.at.overflow_add-total c).After-backward-cycles).requires.0)
+    omega (arith, (noted (goal.at.overflow_add-total c).After-backward-cycles).words, inserts-are (goal.at.overflow_add-total c).After-backward-cycles _ c.count_inserts.ensures, words-few (afresh (goal.at.overflow_add-total c).After-backward-cycles) (list (goal.at.overflow_add-total c).After-backward-cycles) _ c.requires.0)
 
 pub returns : goal.returns
 returns c =

@@ -12,43 +12,40 @@ use Rattle.rdp_repair.specs.Best.{repaired_bytes, least_cycles}
 use Rattle.rdp_repair.specs.Work.{basis_of, due_bytes}
 use Rattle.rdp_repair.proofs.DropLaws.{best-basis}
 use Rattle.rdp_repair.proofs.RepairLaws.{whole-list, commands-few, words-needed, choices-below, due-held, work-cleared, refused-out, repaired-is}
-use Rattle.rdp_repair.proofs.repairing.repair_whole.Goals.{After-plan_list-planned, Start}
+use Rattle.rdp_repair.proofs.repairing.repair_whole.Goals.{After-plan_list-planned}
 use Rattle.rdp_repair.proofs.repairing.repair_whole.Goals as goal
 
 -- after the plan is made
 module _ (p : After-plan_list-planned) where
-  abbrev s : Start
-  s = p.before.before.before.before.before
-
   abbrev afresh : Bool
-  afresh = s.args.afresh
+  afresh = p.args.afresh
 
   abbrev list : List ℕ
-  list = s.args.list.now
+  list = p.args.list.now
 
   abbrev basis : List ℕ
   basis = basis_of afresh list
 
   abbrev work : List ℕ
-  work = s.args.work.now
+  work = p.args.work.now
 
   abbrev held : List ℕ
-  held = p.plan_list-planned.last.1.1.0
+  held = p.plan_list-planned.new.work
 
   abbrev count : ℕ
   count = p.plan_list-planned.result.commands
 
   long : length held ≡ length work
-  long = p.plan_list-planned.kept.1.1.0
+  long = p.plan_list-planned.auto.work
 
   needed : (length (repaired_bytes basis) ≡ 8 * p.plan_list-planned.result.words) × (p.plan_list-planned.result.words ≤ 4096)
-  needed = words-needed afresh list s.pre.0 _ p.plan_list-planned.ensures.words
+  needed = words-needed afresh list p.requires.0 _ p.plan_list-planned.ensures.words
 
   few : count ≤ 2048
-  few = omega (arith, p.plan_list-planned.ensures.commands, commands-few list s.pre.0)
+  few = omega (arith, p.plan_list-planned.ensures.commands, commands-few list p.requires.0)
 
   room : 16 * count ≤ length held
-  room = omega (arith, p.plan_list-planned.ensures.commands, s.pre.2, long)
+  room = omega (arith, p.plan_list-planned.ensures.commands, p.requires.2, long)
 
   due-is : due_bytes afresh list held ≡ repaired_bytes basis
   due-is = due-held afresh list work held p.plan_list-planned.ensures.choices
@@ -77,14 +74,14 @@ clear-requires c = omega (arith, room (goal.at.clear-requires c).After-plan_list
 
 pub returns-then-out-needed : goal.returns-then-out-needed
 returns-then-out-needed c =
-    refused-out (basis (goal.at.returns-then-out-needed c).After-plan_list-planned) (list (goal.at.returns-then-out-needed c).After-plan_list-planned) (work (goal.at.returns-then-out-needed c).After-plan_list-planned) (s (goal.at.returns-then-out-needed c).After-plan_list-planned).args.out.now (s (goal.at.returns-then-out-needed c).After-plan_list-planned).requires.0 (s (goal.at.returns-then-out-needed c).After-plan_list-planned).requires.2 _ (needed (goal.at.returns-then-out-needed c).After-plan_list-planned).0 _ (cleared-is (goal.at.returns-then-out-needed c).After-plan_list-planned _ c.clear.ensures)
+    refused-out (basis (goal.at.returns-then-out-needed c).After-plan_list-planned) (list (goal.at.returns-then-out-needed c).After-plan_list-planned) (work (goal.at.returns-then-out-needed c).After-plan_list-planned) c.args.out.now c.requires.0 c.requires.2 _ (needed (goal.at.returns-then-out-needed c).After-plan_list-planned).0 _ (cleared-is (goal.at.returns-then-out-needed c).After-plan_list-planned _ c.clear.ensures)
     c.if-out-needed.true
 
 pub write_plan-requires : goal.write_plan-requires
 write_plan-requires c =
     (
-      whole-list (list (goal.at.write_plan-requires c).After-plan_list-planned) (s (goal.at.write_plan-requires c).After-plan_list-planned).args.words (s (goal.at.write_plan-requires c).After-plan_list-planned).requires.0 (s (goal.at.write_plan-requires c).After-plan_list-planned).requires.1,
-      omega (arith, long (goal.at.write_plan-requires c).After-plan_list-planned, (s (goal.at.write_plan-requires c).After-plan_list-planned).requires.2),
+      whole-list (list (goal.at.write_plan-requires c).After-plan_list-planned) c.args.words c.requires.0 c.requires.1,
+      omega (arith, long (goal.at.write_plan-requires c).After-plan_list-planned, c.requires.2),
       choices-below (afresh (goal.at.write_plan-requires c).After-plan_list-planned) (list (goal.at.write_plan-requires c).After-plan_list-planned) (work (goal.at.write_plan-requires c).After-plan_list-planned) (held (goal.at.write_plan-requires c).After-plan_list-planned) c.plan_list-planned.ensures.choices,
       omega (arith, ap length (due-is (goal.at.write_plan-requires c).After-plan_list-planned), (needed (goal.at.write_plan-requires c).After-plan_list-planned).0, c.if-out-needed.false),
     )
@@ -94,6 +91,6 @@ clear-requires-2 c = omega (arith, room (goal.at.clear-requires-2 c).After-plan_
 
 pub returns : goal.returns
 returns c =
-    let out : List ℕ = (s (goal.at.returns c).After-plan_list-planned).args.out.now in
-    repaired-is (basis (goal.at.returns c).After-plan_list-planned) (list (goal.at.returns c).After-plan_list-planned) (work (goal.at.returns c).After-plan_list-planned) out (s (goal.at.returns c).After-plan_list-planned).requires.0 (s (goal.at.returns c).After-plan_list-planned).requires.2 _ (needed (goal.at.returns c).After-plan_list-planned).0 _ (cleared-is (goal.at.returns c).After-plan_list-planned _ c.clear-2.ensures)
+    let out : List ℕ = c.args.out.now in
+    repaired-is (basis (goal.at.returns c).After-plan_list-planned) (list (goal.at.returns c).After-plan_list-planned) (work (goal.at.returns c).After-plan_list-planned) out c.requires.0 c.requires.2 _ (needed (goal.at.returns c).After-plan_list-planned).0 _ (cleared-is (goal.at.returns c).After-plan_list-planned _ c.clear-2.ensures)
     c.if-out-needed.false _ (cycles-is (goal.at.returns c).After-plan_list-planned) _ (written_is (goal.at.returns c).After-plan_list-planned out _ c.write_plan.ensures)

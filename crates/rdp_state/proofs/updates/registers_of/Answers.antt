@@ -11,7 +11,7 @@ use Rattle.rdp_state.proofs.updates.registers_of.Goals as goal
 -- the fields are those of the words in the file
 fields :
     (c : After-register_fields-fields) →
-    c.register_fields-fields.result ≡ register_fields (register_words c.args.t1)
+    c.register_fields-fields.result ≡ register_fields (register_words c.args.file)
 fields c = c.register_fields-fields.ensures ∙ ap register_fields c.words_in.ensures
 
 pub colors_of-colors-requires : goal.colors_of-colors-requires
@@ -32,7 +32,7 @@ returns c =
     λ i. record {
       colors = c.colors_of-colors.ensures i;
       combiner = c.combiner_of-combiner.ensures i;
-      (goal.at.returns c).After-file-5-1 = c.modes_of-modes.ensures i;
+      modes = c.modes_of-modes.ensures i;
       images = c.images_of-images.ensures i;
       tiles = c.tiles_of-tiles.ensures i;
     }

@@ -7,7 +7,7 @@ use Rattle.rdp_texels.proofs.bytes.copy_row.Goals as goal
 pub move_odd-requires : goal.move_odd-requires
 move_odd-requires c =
     let h = c.head.ensures in
-    ((h.0, h.1.0), (omega arith, omega arith, (λ e. absurd (false≢true e), λ _. c.requires.0)))
+    record { first_le_n = (h.0, h.1.0); n_in_bounds = (omega arith, omega arith, (λ e. absurd (false≢true e), λ _. c.requires.0)) }
 
 pub returns-then-odd : goal.returns-then-odd
 returns-then-odd c = rw c.if-odd.true c.move_odd.ensures

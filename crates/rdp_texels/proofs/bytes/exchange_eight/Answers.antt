@@ -27,13 +27,13 @@ module _ (c : Start) where
   read = among c.args.s (length c.args.from.now) c.requires.0
 
   sum : (i : ℕ) → i < 8 → Fits w64 (c.args.s + i)
-  sum i h = record { fits = lt_trans (read i h) c.well-formed.0.0 }
+  sum i h = record { fits = lt_trans (read i h) c.well_formed.0.0 }
 
   write-first : c.args.d < length c.args.to.now
   write-first = first c.args.d (length c.args.to.now) c.requires.1
 
   sum_to : (i : ℕ) → i < 8 → Fits w64 (c.args.d + i)
-  sum_to i h = record { fits = lt_trans (among c.args.d (length c.args.to.now) c.requires.1 i h) c.well-formed.1.1.0.0 }
+  sum_to i h = record { fits = lt_trans (among c.args.d (length c.args.to.now) c.requires.1 i h) c.well_formed.1.1.0.0 }
 
   -- after the first k stores
   abbrev after : ℕ → List ℕ

@@ -6,16 +6,16 @@ use borrow.Author.Rules.{rules}
 use Rattle.rdp_texels.proofs.grids.copy_grid.Goals as goal
 
 pub below-up-requires : goal.below-up-requires
-below-up-requires c = c.step_of_lem.ensures.1.up
+below-up-requires c = c.step_of-step.ensures.1.up
 
 pub below-left-requires : goal.below-left-requires
-below-left-requires c = c.step_of_lem.ensures.1.left
+below-left-requires c = c.step_of-step.ensures.1.left
 
 pub whole-down-requires : goal.whole-down-requires
-whole-down-requires c = c.step_of_lem.ensures.1.down
+whole-down-requires c = c.step_of-step.ensures.1.down
 
 pub whole-right-requires : goal.whole-right-requires
-whole-right-requires c = c.step_of_lem.ensures.1.right
+whole-right-requires c = c.step_of-step.ensures.1.right
 
 pub grid_of-requires : goal.grid_of-requires
 grid_of-requires c =
@@ -25,7 +25,7 @@ pub returns : goal.returns
 unfolding copy_grid
 returns c =
     let p = c.args.copy in
-    let step = c.step_of_lem.ensures.0 in
+    let step = c.step_of-step.ensures.0 in
     let up = c.below-up.ensures.0 in
     let left = c.below-left.ensures.0 in
     let down = c.whole-down.ensures.0 in

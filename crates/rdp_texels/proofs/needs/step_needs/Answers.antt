@@ -5,4 +5,4 @@ use Rattle.rdp_texels.proofs.needs.step_needs.Goals as goal
 
 pub returns : goal.returns
 unfolding step_needs
-returns c = rw c.step_of_lem.ensures.0
+returns c = rw c.step_of-p.ensures.0
