@@ -6,6 +6,3 @@ pub mod ArrivedLaws
 pub mod FitLaws
 pub mod WaitLaws
 pub mod StreamLaws
-pub mod Lent
-pub mod Alone
-pub mod LentRecords

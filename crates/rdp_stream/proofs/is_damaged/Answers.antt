@@ -22,10 +22,10 @@ bytes_damaged-requires c =
 pub returns-then-bytes_damaged : goal.returns-then-bytes_damaged
 returns-then-bytes_damaged c =
     let a = c.args in
-    rw (← damaged-by a.t1 a.count a.taken a.number a.waited, le-ltb _ _ c.if-count-gt175.false, ← c.bytes_damaged.ensures, c.if-bytes_damaged.true)
+    rw (← damaged-by a.held a.count a.taken a.number a.waited, le-ltb _ _ c.if-count-gt175.false, ← c.bytes_damaged.ensures, c.if-bytes_damaged.true)
 
 pub returns : goal.returns
 returns c =
     let a = c.args in
-    rw (← damaged-by a.t1 a.count a.taken a.number a.waited, le-ltb _ _ c.if-count-gt175.false, ← c.bytes_damaged.ensures, c.if-bytes_damaged.false)
+    rw (← damaged-by a.held a.count a.taken a.number a.waited, le-ltb _ _ c.if-count-gt175.false, ← c.bytes_damaged.ensures, c.if-bytes_damaged.false)
     c.counts_damaged.ensures
