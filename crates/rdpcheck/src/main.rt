@@ -1,15 +1,15 @@
 // Reads a command list from standard input and prints the check's number and place.
 #![tactic(auto)]
 
-use libc::{STDIN_FILENO, STDOUT_FILENO};
+use std::io;
+use std::io::Read;
 
-fn main() {
+fn main(rt: HostRuntime) -> io::Result<()> {
+    let mut list = Vec::new(rt.alloc());
     // One byte more than the longest list, so that a longer one is told from it.
-    let mut buffer = [0u8; 32769];
-    let n = io::read_full(STDIN_FILENO, &mut buffer);
-    let r = rdp_check::check(&buffer[..n]);
-    io::print_decimal(STDOUT_FILENO, r.number as u64);
-    io::write_all(STDOUT_FILENO, b" ");
-    io::print_decimal(STDOUT_FILENO, r.place as u64);
-    io::write_all(STDOUT_FILENO, b"\n");
+    rt.reader().take(32769).read_to_end(&mut list)?;
+    let r = rdp_check::check(&list);
+    let number = r.number;
+    let place = r.place;
+    println!(rt; "{number} {place}")
 }
