@@ -14,22 +14,30 @@ mod refusals;
 mod show;
 mod text;
 
+use std::io;
+use std::io::{BufWriter, Write};
+
 // A list for each command number, all other bits 0 and all other bits set, long enough for every command; then its single bits.
-fn show_every_number() {
-    let mut number = 0u8;
-    while number < 64 {
-        show::show_words(&[(number as u64) << 56], 192);
-        show::show_ones(number);
-        bits::show_base(number);
-        number += 1;
+fn show_every_number(out: &mut impl Write) -> io::Result<()> {
+    for number in 0..64u8 {
+        show::show_words(out, &[(number as u64) << 56], 192)?;
+        show::show_ones(out, number)?;
+        bits::show_base(out, number)?;
     }
+    Ok(())
 }
 
-fn main() {
-    lists::show_lists();
-    show_every_number();
-    refusals::show_refusals();
-    bits::show_heads();
-    bits::show_fills();
-    bits::show_counts();
+fn show_all(out: &mut impl Write) -> io::Result<()> {
+    lists::show_lists(out)?;
+    show_every_number(out)?;
+    refusals::show_refusals(out)?;
+    bits::show_heads(out)?;
+    bits::show_fills(out)?;
+    bits::show_counts(out)
+}
+
+fn main(rt: HostRuntime) -> io::Result<()> {
+    let mut out = BufWriter::new(rt.alloc(), io::writer(&rt))?;
+    show_all(&mut out)?;
+    out.flush()
 }

@@ -1,6 +1,8 @@
 // A list, decoded and encoded.
 use crate::text;
 use rdp_command::*;
+use std::io;
+use std::io::Write;
 
 // Byte i of words, most significant byte first; 0 beyond them.
 fn byte_of(words: &[u64], i: usize) -> u8 {
@@ -51,17 +53,17 @@ fn same(a: &[u8], b: &[u8]) -> bool {
 }
 
 // Shows the list of the first length bytes of words.
-pub fn show_words(words: &[u64], length: usize) {
+pub fn show_words(out: &mut impl Write, words: &[u64], length: usize) -> io::Result<()> {
     let mut list = [0u8; 192];
     fill(words, &mut list);
-    show(front(&list, length));
+    show(out, front(&list, length))
 }
 
 // Shows the list of a command number with all other bits set.
-pub fn show_ones(number: u8) {
+pub fn show_ones(out: &mut impl Write, number: u8) -> io::Result<()> {
     let mut list = [255u8; 192];
     list[0] = 0xC0 | number;
-    show(&list);
+    show(out, &list)
 }
 
 // The fields of the first command of a list, and their count; or the refusal.
@@ -88,46 +90,50 @@ fn encode_made(number: u8, numbers: &[u64], suffix: &[u8], out: &mut [u8]) -> An
     }
 }
 
-fn show(list: &[u8]) {
+fn show(out: &mut impl Write, list: &[u8]) -> io::Result<()> {
     let mut numbers = [0u64; 37];
     let read = fields_in(list, &mut numbers);
     if read.number != 0 {
-        text::print(b"refused");
+        text::print(out, b"refused")?;
         // A list that is refused has no suffix, so that this prints nothing.
-        text::words(rdp_words::suffix(list));
-        text::print(b" ");
-        text::answer(read);
-        return;
+        text::words(out, rdp_words::suffix(list))?;
+        text::print(out, b" ")?;
+        return text::answer(out, read);
     }
-    show_numbers(list, front_numbers(&numbers, read.place as usize));
+    show_numbers(out, list, front_numbers(&numbers, read.place as usize))
 }
 
 // The number and the fields, the words with the one after them, and whether the fields give the words back. The output starts with all bits set: it
 // shows that unused bits are cleared and that what follows the command is left.
-fn show_numbers(list: &[u8], numbers: &[u64]) {
+fn show_numbers(out: &mut impl Write, list: &[u8], numbers: &[u64]) -> io::Result<()> {
     let head = rdp_command::head_at(list, 0);
     let number = head.number;
-    text::hex(number as u64, 2);
-    text::numbers(numbers);
-    let mut out = [255u8; 184];
-    let answer = encode_again(list, &mut out);
+    text::hex(out, number as u64, 2)?;
+    text::numbers(out, numbers)?;
+    let mut encoded = [255u8; 184];
+    let answer = encode_again(list, &mut encoded);
     if answer.number != 0 {
-        text::print(b" refused ");
-        text::answer(answer);
-        return;
+        text::print(out, b" refused ")?;
+        return text::answer(out, answer);
     }
-    text::print(b" =");
-    text::words(front(&out, 8 * (answer.place as usize) + 8));
-    show_same(number, numbers, rdp_words::suffix(list), &out);
+    text::print(out, b" =")?;
+    text::words(out, front(&encoded, 8 * (answer.place as usize) + 8))?;
+    show_same(out, number, numbers, rdp_words::suffix(list), &encoded)
 }
 
 // Whether the command of a number and its fields is encoded to the same bytes.
-fn show_same(number: u8, numbers: &[u64], suffix: &[u8], out: &[u8]) {
+fn show_same(
+    out: &mut impl Write,
+    number: u8,
+    numbers: &[u64],
+    suffix: &[u8],
+    encoded: &[u8],
+) -> io::Result<()> {
     let mut again = [255u8; 184];
     let answer = encode_made(number, numbers, suffix, &mut again);
-    if (answer.number == 0) & same(out, &again) {
-        text::print(b" same\n");
+    if (answer.number == 0) & same(encoded, &again) {
+        text::print(out, b" same\n")
     } else {
-        text::print(b" other\n");
+        text::print(out, b" other\n")
     }
 }

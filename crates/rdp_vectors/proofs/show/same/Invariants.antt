@@ -1,7 +1,6 @@
 -- Safe, and ends: the index is within both lists.
 use Prim.Native.Nat.{◌≤◌, ◌-◌}
 use lib.ListN.{length}
-use borrow.Author.Rules.{rules}
 use Rattle.rdp_vectors.proofs.show.same.Given as goal
 
 abbrev pub invariant-loop-i : goal.invariant-loop-i
