@@ -11,33 +11,37 @@ mod digest;
 mod lists;
 mod show;
 
+use std::io;
+use std::io::{BufWriter, Write};
+
 // Lays list n into the zeros that are lent.
-fn show_made(n: u64, list: &mut [u8]) {
+fn show_made(out: &mut impl Write, n: u64, list: &mut [u8]) -> io::Result<()> {
     lists::lay(n, list);
-    show::show(list);
+    show::show(out, list)
 }
 
-fn show_list(n: u64) {
+fn show_list(out: &mut impl Write, n: u64) -> io::Result<()> {
     let mut bytes = [0u8; 392];
     let length = lists::bytes_of(n);
-    show_made(n, &mut bytes[0..length]);
+    show_made(out, n, &mut bytes[0..length])
 }
 
 // `rt try` gives a program ten million steps, of which these lists take nine and a half.
-fn show_lists() {
-    let mut n = 0u64;
-    while n < 245 {
-        show_list(n);
-        n += 1;
+fn show_lists(out: &mut impl Write) -> io::Result<()> {
+    for n in 0..245u64 {
+        show_list(out, n)?;
     }
+    Ok(())
 }
 
-fn show_long() {
+fn show_long(out: &mut impl Write) -> io::Result<()> {
     let mut bytes = [0u8; 32776];
-    show_made(0, &mut bytes);
+    show_made(out, 0, &mut bytes)
 }
 
-fn main() {
-    show_lists();
-    show_long();
+fn main(rt: HostRuntime) -> io::Result<()> {
+    let mut out = BufWriter::new(rt.alloc(), io::writer(&rt))?;
+    show_lists(&mut out)?;
+    show_long(&mut out)?;
+    out.flush()
 }

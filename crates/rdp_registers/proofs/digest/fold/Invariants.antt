@@ -1,7 +1,6 @@
 -- Safe, and ends: the index is within the values.
 use Prim.Native.Nat.{◌≤◌, ◌-◌}
 use lib.ListN.{length}
-use borrow.Author.Rules.{rules}
 use Rattle.rdp_registers.proofs.digest.fold.Given as goal
 
 abbrev pub invariant-loop-i : goal.invariant-loop-i

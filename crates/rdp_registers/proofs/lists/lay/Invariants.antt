@@ -2,7 +2,6 @@
 use mathlib.Core.Path.{◌≡◌}
 use Prim.Native.Nat.{◌≤◌, ◌-◌}
 use lib.ListN.{length}
-use borrow.Author.Rules.{rules}
 use Rattle.rdp_registers.proofs.lists.lay.Given as goal
 
 abbrev pub invariant-loop-place : goal.invariant-loop-place
