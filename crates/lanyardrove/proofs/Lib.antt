@@ -1,4 +1,3 @@
 pub mod PackLaws
 pub mod BoundLaws
-pub mod PackedRecords
 pub mod ReplyLaws

@@ -5,7 +5,7 @@ use borrow.Author.Rules.{rules}
 use Rattle.lanyardrove.specs.Replies.{reply, packed, plain, decode_reply, decode_fields, of_decode}
 use Rattle.lanyardrove.proofs.BoundLaws.{packs}
 use Rattle.lanyardrove.proofs.ReplyLaws.{decode-no-room, decode-written, decode-fields, decode-cut, decode-cut-fields}
-use Rattle.lanyardrove.proofs.lanyardrove_decode.Goals.{After-fields-written, After-head_at-head, In-Refused-2, Then-written-ne0}
+use Rattle.lanyardrove.proofs.lanyardrove_decode.Goals.{After-fields-written, After-head_at-head, In-Refused, Then-written-ne0}
 use Rattle.lanyardrove.proofs.lanyardrove_decode.Goals as goal
 
 -- the answer where the fields have no room
@@ -31,9 +31,9 @@ output c =
     c.fields-written.ensures.output ∙ decode-fields _ _ _ c.decode-decoded.ensures _ c.in-Whole.is
 
 -- the answer where the first command's words are not all there
-cut : (c : In-Refused-2) →
+cut : (c : In-Refused) →
     let s = c.args in
-    plain c.decoded-in-Refused-1.given.0.0 ≡ decode_reply s.list.now s.fields.now
+    plain c.in-Refused.cut ≡ decode_reply s.list.now s.fields.now
 cut c = decode-cut _ _ _ c.decode-decoded.ensures _ c.in-Refused.is
 
 pub pack-requires : goal.pack-requires
@@ -49,8 +49,8 @@ pub returns-in-Whole : goal.returns-in-Whole
 returns-in-Whole c = record { reply = c.pack-in-Whole.ensures ∙ ap packed (written (goal.at.returns-in-Whole c).After-head_at-head); fields = output (goal.at.returns-in-Whole c).After-fields-written }
 
 pub pack-requires-in-Refused : goal.pack-requires-in-Refused
-pack-requires-in-Refused c = let p = packs _ (cut (goal.at.pack-requires-in-Refused c).In-Refused-2) (of_decode _ _) in omega (arith, p.0, p.1)
+pack-requires-in-Refused c = let p = packs _ (cut c) (of_decode _ _) in omega (arith, p.0, p.1)
 
 pub returns-in-Refused : goal.returns-in-Refused
 returns-in-Refused c =
-    record { reply = c.pack-in-Refused.ensures ∙ ap packed (cut (goal.at.returns-in-Refused c).In-Refused-2); fields = decode-cut-fields _ _ _ c.decode-decoded.ensures _ c.in-Refused.is }
+    record { reply = c.pack-in-Refused.ensures ∙ ap packed (cut (goal.at.returns-in-Refused c).In-Refused); fields = decode-cut-fields _ _ _ c.decode-decoded.ensures _ c.in-Refused.is }

@@ -18,5 +18,8 @@ pack-requires c = let p = packs _ (answers (goal.at.pack-requires c).After-draw-
 
 pub returns : goal.returns
 returns c =
-    let all = ((c.pack.ensures ∙ ap packed (answers (goal.at.returns c).After-draw-answer), c.draw-answer.ensures.memory)) in
-    record { reply = all.0; memory = all.1.0; texture = all.1.1 }
+    record {
+      reply = c.pack.ensures ∙ ap packed (answers (goal.at.returns c).After-draw-answer);
+      memory = c.draw-answer.ensures.memory;
+      texture = c.draw-answer.ensures.texture;
+    }

@@ -5,7 +5,7 @@ use borrow.Author.Rules.{rules}
 use Rattle.lanyardrove.specs.Replies.{packed, plain, encode_reply, of_encode}
 use Rattle.lanyardrove.proofs.BoundLaws.{packs}
 use Rattle.lanyardrove.proofs.ReplyLaws.{encode-made, encode-made-bytes, encode-refused, encode-refused-bytes}
-use Rattle.lanyardrove.proofs.lanyardrove_encode.Goals.{After-encode-encoded, In-Refused-2}
+use Rattle.lanyardrove.proofs.lanyardrove_encode.Goals.{After-encode-encoded, In-Refused}
 use Rattle.lanyardrove.proofs.lanyardrove_encode.Goals as goal
 
 -- the answer where the number and the fields make a command
@@ -16,9 +16,9 @@ made c =
     encode-made _ _ _ _ _ c.from_fields-made.ensures _ c.in-Whole.is _ c.encode-encoded.ensures.answer
 
 -- the answer where they do not
-unmade : (c : In-Refused-2) →
+unmade : (c : In-Refused) →
     let s = c.args in
-    plain c.made-in-Refused-1.given.0.0 ≡ encode_reply s.number s.fields.now s.suffix.now s.out.now
+    plain c.in-Refused.unmade ≡ encode_reply s.number s.fields.now s.suffix.now s.out.now
 unmade c = encode-refused _ _ _ _ _ c.from_fields-made.ensures _ c.in-Refused.is
 
 pub pack-requires : goal.pack-requires
@@ -29,8 +29,8 @@ returns-in-Whole c =
     record { reply = c.pack.ensures ∙ ap packed (made (goal.at.returns-in-Whole c).After-encode-encoded); output = c.encode-encoded.ensures.output ∙ encode-made-bytes _ _ _ _ _ c.from_fields-made.ensures _ c.in-Whole.is }
 
 pub pack-requires-in-Refused : goal.pack-requires-in-Refused
-pack-requires-in-Refused c = let p = packs _ (unmade (goal.at.pack-requires-in-Refused c).In-Refused-2) (of_encode _ _ _ _) in omega (arith, p.0, p.1)
+pack-requires-in-Refused c = let p = packs _ (unmade c) (of_encode _ _ _ _) in omega (arith, p.0, p.1)
 
 pub returns-in-Refused : goal.returns-in-Refused
 returns-in-Refused c =
-    record { reply = c.pack-in-Refused.ensures ∙ ap packed (unmade (goal.at.returns-in-Refused c).In-Refused-2); output = encode-refused-bytes _ _ _ _ _ c.from_fields-made.ensures _ c.in-Refused.is }
+    record { reply = c.pack-in-Refused.ensures ∙ ap packed (unmade (goal.at.returns-in-Refused c).In-Refused); output = encode-refused-bytes _ _ _ _ _ c.from_fields-made.ensures _ c.in-Refused.is }

@@ -47,7 +47,10 @@ pub act_all-requires : goal.act_all-requires
 act_all-requires c =
     let a = accepted _ (accepts (goal.at.act_all-requires c).Else-checked-ne0) in
     let found = ap (λ r. r.number) c.first_refusal-found.ensures in
-    ((refl, (omega (arith, a.few), a.whole)), (c.if-texture-ne-TEXTURE_BYTES.false, sym found ∙ c.if-found-ne0.false))
+    record {
+      words_value = (refl, (omega (arith, a.few), a.whole));
+      texture_len = (c.if-texture-ne-TEXTURE_BYTES.false, sym found ∙ c.if-found-ne0.false);
+    }
 
 pub returns : goal.returns
 returns c =

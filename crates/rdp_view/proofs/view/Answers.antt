@@ -11,68 +11,61 @@ use Rattle.rdp_words.specs.Words.{overwrite}
 use Rattle.rdp_view.specs.View.{pixel_bytes, pixels, unviewable, image_outside, Framebuffer, pixel_count}
 use Rattle.rdp_view.specs.Steps.{Enough}
 use Rattle.rdp_view.proofs.ViewLaws.{sides-fit, from-part, inside-start, inside-end, refused-27, refused-12, refused-14, viewed, pixels-there}
-use Rattle.rdp_view.proofs.view.Goals.{After-is_outside, Start}
+use Rattle.rdp_view.proofs.view.Goals.{After-is_outside}
 use Rattle.rdp_view.proofs.view.Goals as goal
-
--- the image that is asked for
-abbrev framebuffer_of : Start → Framebuffer
-framebuffer_of s = record { address = s.args.address; width = s.args.width; height = s.args.height; size = s.args.size }
 
 -- after the test of memory
 module _ (o : After-is_outside) where
-  abbrev s : Start
-  s = o.before.before.before.before.before.before.before
-
   abbrev memory : List ℕ
-  memory = s.args.memory.now
+  memory = o.args.memory.now
 
   abbrev image : Framebuffer
-  image = framebuffer_of s
+  image = record { address = o.args.address; width = o.args.width; height = o.args.height; size = o.args.size }
 
-  fit : unviewable s.args.width s.args.height s.args.size ≡ false
-  fit = sym o.is_unviewable.ensures ∙ o.if-is_unviewable.left
+  fit : unviewable o.args.width o.args.height o.args.size ≡ false
+  fit = sym o.is_unviewable.ensures ∙ o.if-is_unviewable.false
 
   count-is : o.pixel_count-count.result ≡ pixel_count image
   count-is = o.pixel_count-count.ensures.0
 
-  outside-is : o.is_outside.result ≡ image_outside s.args.start (length memory) s.args.address (pixel_count image * pixel_bytes s.args.size)
+  outside-is : o.is_outside.result ≡ image_outside o.args.start (length memory) o.args.address (pixel_count image * pixel_bytes o.args.size)
   outside-is =
       o.is_outside.ensures ∙
-      ap (image_outside s.args.start (length memory) s.args.address) (o.image_bytes-bytes.ensures ∙ ap (λ (k : ℕ). k * pixel_bytes s.args.size) count-is)
+      ap (image_outside o.args.start (length memory) o.args.address) (o.image_bytes-bytes.ensures ∙ ap (λ (k : ℕ). k * pixel_bytes o.args.size) count-is)
 
-  inside : o.is_outside.result ≡ false → image_outside s.args.start (length memory) s.args.address (pixel_count image * pixel_bytes s.args.size) ≡ false
+  inside : o.is_outside.result ≡ false → image_outside o.args.start (length memory) o.args.address (pixel_count image * pixel_bytes o.args.size) ≡ false
   inside f = sym outside-is ∙ f
 
   abbrev bytes : ℕ
-  bytes = pixel_count image * pixel_bytes s.args.size
+  bytes = pixel_count image * pixel_bytes o.args.size
 
   abbrev part : List ℕ
-  part = drop (s.args.address - s.args.start) memory
+  part = drop (o.args.address - o.args.start) memory
 
-  ends : o.is_outside.result ≡ false → s.args.address - s.args.start + bytes ≤ length memory
-  ends f = inside-end s.args.start (length memory) s.args.address bytes (inside f)
+  ends : o.is_outside.result ≡ false → o.args.address - o.args.start + bytes ≤ length memory
+  ends f = inside-end o.args.start (length memory) o.args.address bytes (inside f)
 
   -- what is lent of memory
   abbrev lent : List ℕ
-  lent = take (length memory - (s.args.address - s.args.start)) part
+  lent = take (length memory - (o.args.address - o.args.start)) part
 
   lent_is : lent ≡ part
-  lent_is = from-part (s.args.address - s.args.start) memory
+  lent_is = from-part (o.args.address - o.args.start) memory
 
   abbrev count : ℕ
   count = o.pixel_count-count.result
 
-  there : o.is_outside.result ≡ false → Enough s.args.size count lent
+  there : o.is_outside.result ≡ false → Enough o.args.size count lent
   there f =
-      subst (Enough s.args.size count) (sym lent_is)
-      (subst (λ (k : ℕ). Enough s.args.size k part) (sym count-is) (pixels-there memory s.args.start image s.args.out.now fit (inside f)))
+      subst (Enough o.args.size count) (sym lent_is)
+      (subst (λ (k : ℕ). Enough o.args.size k part) (sym count-is) (pixels-there memory o.args.start image o.args.out.now fit (inside f)))
 
-  written_is : (out out' : List ℕ) → out' ≡ overwrite (pixels s.args.size count lent) out → out' ≡ overwrite (pixels s.args.size (pixel_count image) part) out
-  written_is out out' e = e ∙ (λ i. overwrite (pixels s.args.size (count-is i) (lent_is i)) out)
+  written_is : (out out' : List ℕ) → out' ≡ overwrite (pixels o.args.size count lent) out → out' ≡ overwrite (pixels o.args.size (pixel_count image) part) out
+  written_is out out' e = e ∙ (λ i. overwrite (pixels o.args.size (count-is i) (lent_is i)) out)
 
 pub returns-then-is_unviewable : goal.returns-then-is_unviewable
 returns-then-is_unviewable c =
-    let r = refused-27 c.args.memory.now c.args.start (framebuffer_of (goal.at.returns-then-is_unviewable c).Start) c.args.out.now (sym c.is_unviewable.ensures ∙ c.if-is_unviewable.true) in
+    let r = refused-27 c.args.memory.now c.args.start (record { address = c.args.address; width = c.args.width; height = c.args.height; size = c.args.size }) c.args.out.now (sym c.is_unviewable.ensures ∙ c.if-is_unviewable.true) in
     record { answer = r.answers; output = r.leaves }
 
 pub pixel_count-count-requires : goal.pixel_count-count-requires
@@ -82,12 +75,12 @@ pixel_count-count-requires c =
 
 pub returns-then-is_outside : goal.returns-then-is_outside
 returns-then-is_outside c =
-    let r = refused-12 (memory (goal.at.returns-then-is_outside c).After-is_outside) (s (goal.at.returns-then-is_outside c).After-is_outside).args.start (image (goal.at.returns-then-is_outside c).After-is_outside) (s (goal.at.returns-then-is_outside c).After-is_outside).args.out.now (fit (goal.at.returns-then-is_outside c).After-is_outside) (sym (outside-is (goal.at.returns-then-is_outside c).After-is_outside) ∙ c.if-is_outside.true) in
+    let r = refused-12 (memory (goal.at.returns-then-is_outside c).After-is_outside) c.args.start (image (goal.at.returns-then-is_outside c).After-is_outside) c.args.out.now (fit (goal.at.returns-then-is_outside c).After-is_outside) (sym (outside-is (goal.at.returns-then-is_outside c).After-is_outside) ∙ c.if-is_outside.true) in
     record { answer = r.answers; output = r.leaves }
 
 pub returns-then-out-needed : goal.returns-then-out-needed
 returns-then-out-needed c =
-    let r = refused-14 (memory (goal.at.returns-then-out-needed c).After-is_outside) (s (goal.at.returns-then-out-needed c).After-is_outside).args.start (image (goal.at.returns-then-out-needed c).After-is_outside) (s (goal.at.returns-then-out-needed c).After-is_outside).args.out.now (fit (goal.at.returns-then-out-needed c).After-is_outside) (inside (goal.at.returns-then-out-needed c).After-is_outside c.if-is_outside.false) (omega (arith, count-is (goal.at.returns-then-out-needed c).After-is_outside, c.if-out-needed.true)) in
+    let r = refused-14 (memory (goal.at.returns-then-out-needed c).After-is_outside) c.args.start (image (goal.at.returns-then-out-needed c).After-is_outside) c.args.out.now (fit (goal.at.returns-then-out-needed c).After-is_outside) (inside (goal.at.returns-then-out-needed c).After-is_outside c.if-is_outside.false) (omega (arith, count-is (goal.at.returns-then-out-needed c).After-is_outside, c.if-out-needed.true)) in
     record { answer = ap (λ (k : ℕ). answer 14 (4 * k)) (count-is (goal.at.returns-then-out-needed c).After-is_outside) ∙ r.answers; output = r.leaves }
 
 pub overflow_sub-from : goal.overflow_sub-from
@@ -105,7 +98,7 @@ write-requires c =
 
 pub returns : goal.returns
 returns c =
-    let out = (s (goal.at.returns c).After-is_outside).args.out.now in
+    let out = c.args.out.now in
     let r =
-    viewed (memory (goal.at.returns c).After-is_outside) (s (goal.at.returns c).After-is_outside).args.start (image (goal.at.returns c).After-is_outside) out (fit (goal.at.returns c).After-is_outside) (inside (goal.at.returns c).After-is_outside c.if-is_outside.false) (omega (arith, count-is (goal.at.returns c).After-is_outside, c.if-out-needed.false)) _ (written_is (goal.at.returns c).After-is_outside out _ c.write.ensures) in
+    viewed (memory (goal.at.returns c).After-is_outside) c.args.start (image (goal.at.returns c).After-is_outside) out (fit (goal.at.returns c).After-is_outside) (inside (goal.at.returns c).After-is_outside c.if-is_outside.false) (omega (arith, count-is (goal.at.returns c).After-is_outside, c.if-out-needed.false)) _ (written_is (goal.at.returns c).After-is_outside out _ c.write.ensures) in
     record { answer = ap (λ (k : ℕ). answer 0 (4 * k)) (count-is (goal.at.returns c).After-is_outside) ∙ r.answers; output = r.leaves }

@@ -11,17 +11,20 @@ use Rattle.rdp_draw.proofs.acting.act_all.Goals as goal
 pub loop-reached-init : goal.loop-reached-init
 loop-reached-init c =
     let p = c.requires in
-    reaching-first _ _ _ p.0.0 p.0.1.1 (record { long = refl; long-texture = refl; size = p.1.0; clear = p.1.1; same = refl }) _ _
+    reaching-first _ _ _ p.words_value.0 p.words_value.1.1 (record { long = refl; long-texture = refl; size = p.texture_len.0; clear = p.texture_len.1; same = refl }) _ _
     c.next_act-reached.ensures
 
 pub act-requires : goal.act-requires
 act-requires c =
     let i = c.loop-reached.invariant in
-    ((omega (arith, c.loop-reached-test.true, c.requires.0.1.0), does-size i c.loop-reached-test.true), does-clear i c.loop-reached-test.true)
+    record {
+      place_bound = (omega (arith, c.loop-reached-test.true, c.requires.words_value.1.0), does-size i c.loop-reached-test.true);
+      number_value = does-clear i c.loop-reached-test.true;
+    }
 
 pub overflow_add-next : goal.overflow_add-next
 overflow_add-next c =
-    let p = c.requires.0 in
+    let p = c.requires.words_value in
     omega (arith, c.words_of.ensures, (next c.loop-reached.invariant c.loop-reached-test.true).inside, p.0, p.1.0)
 
 pub loop-reached-smaller : goal.loop-reached-smaller

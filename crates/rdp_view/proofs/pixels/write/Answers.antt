@@ -39,7 +39,7 @@ loop-left-preserved c =
     let room = pixel-room l.invariant some in
     let long : length p.result ≡ 4 = ap length p.ensures ∙ length-rgba _ _ in
     viewing-next l.invariant some _
-    (part-copied p.result l.out copied.new.0 l.to (l.to + 4) (omega (arith, long)) room copied.ensures ∙
+    (part-copied p.result l.out copied.new.out l.to (l.to + 4) (omega (arith, long)) room copied.ensures ∙
     ap (λ x. pasted l.to x l.out) p.ensures)
 
 pub returns : goal.returns
