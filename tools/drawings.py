@@ -284,7 +284,7 @@ def draw(data, memory, start, texture=bytes(4096)):
 
 def sources(crate):
     """The text of each module whose lists are drawn, in the order of main.rt."""
-    names = re.findall(r'(\w+)::show_\w+\(\);', (crate / 'src' / 'main.rt').read_text())
+    names = re.findall(r'(\w+)::show_\w+\(out\)', (crate / 'src' / 'main.rt').read_text())
     return [(crate / 'src' / (name + '.rt')).read_text() for name in names]
 
 
@@ -306,8 +306,8 @@ def words_from(text, table):
     return found
 
 
-CALL = re.compile(r'(\w+)\(\s*b"([^"]*)",([^;]*)\);')
-HELPER = re.compile(r'fn (\w+)\(name: &\[u8\]((?:, \w+: (?:u64|usize))+)\) \{\s*(\w+)\(\s*name,([^;]*)\);\s*\}')
+CALL = re.compile(r'(\w+)\(\s*out,\s*"([^"]*)",([^;]*)\)\?;')
+HELPER = re.compile(r'fn (\w+)\(\s*out: &mut impl Write,\s*name: &str((?:,\s*\w+: (?:u64|usize))+),?\s*\) -> io::Result<\(\)> \{\s*(\w+)\(\s*out,\s*name,([^;]*?)\)\s*\}')
 
 
 def helpers(crate):
@@ -332,7 +332,7 @@ def cases(crate):
     table, known = constants(crate), helpers(crate)
     for text in sources(crate):
         calls = CALL.findall(text)
-        assert len(calls) == text.count('b"')
+        assert 2 * len(calls) == text.count('"')
         for called, name, given in calls:
             function, arguments = written_out(called, given, known)
             listed, rest = re.fullmatch(r'\s*(?:&(\w+|\[[^\]]*\]))?(.*)', arguments, re.S).groups(default='')

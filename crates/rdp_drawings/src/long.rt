@@ -1,17 +1,21 @@
 // Fills of many bytes, on memory of a length and a start. `rt try` gives a program ten million steps, of which this file takes three quarters.
 use crate::show::drawn_long;
 use rdp_text::words::*;
+use std::io;
+use std::io::Write;
 
-pub fn show_long() {
-    screen();
-    long_runs();
-    runs_of_some_256_bytes();
+pub fn show_long(out: &mut impl Write) -> io::Result<()> {
+    screen(out)?;
+    long_runs(out)?;
+    runs_of_some_256_bytes(out)?;
+    Ok(())
 }
 
 // 16 bits, 320 wide: the whole as one run, and inside it every second row of (10, 20) to (309, 219).
-fn screen() {
+fn screen(out: &mut impl Write) -> io::Result<()> {
     drawn_long(
-        b"320 by 240, then odd rows of 300 by 200",
+        out,
+        "320 by 240, then odd rows of 300 by 200",
         &[
             FILL,
             0x3F_10_013F_00000000,
@@ -25,13 +29,15 @@ fn screen() {
         ],
         153600,
         0,
-    );
+    )?;
+    Ok(())
 }
 
-fn long_runs() {
+fn long_runs(out: &mut impl Write) -> io::Result<()> {
     // 32 bits: a row of 513 pixels.
     drawn_long(
-        b"2,052 bytes, start 62",
+        out,
+        "2,052 bytes, start 62",
         &[
             FILL,
             0x3F_18_03FF_00000040,
@@ -41,10 +47,11 @@ fn long_runs() {
         ],
         2060,
         62,
-    );
+    )?;
     // 8 bits, 1,021 wide: rows 0 to 2, adjacent, which are 3,063 bytes.
     drawn_long(
-        b"3,063 bytes, start 61",
+        out,
+        "3,063 bytes, start 61",
         &[
             FILL,
             0x3F_08_03FC_00000040,
@@ -54,13 +61,15 @@ fn long_runs() {
         ],
         3072,
         61,
-    );
+    )?;
+    Ok(())
 }
 
 // 8 bits, 263 wide: 255, 256 and 257 bytes from columns 1, 2 and 3.
-fn runs_of_some_256_bytes() {
+fn runs_of_some_256_bytes(out: &mut impl Write) -> io::Result<()> {
     drawn_long(
-        b"255, 256 and 257 bytes",
+        out,
+        "255, 256 and 257 bytes",
         &[
             FILL,
             0x3F_08_0106_00000000,
@@ -72,5 +81,6 @@ fn runs_of_some_256_bytes() {
         ],
         1580,
         0,
-    );
+    )?;
+    Ok(())
 }

@@ -16,13 +16,22 @@ mod scissors;
 mod shapes;
 mod show;
 
-fn main() {
-    show::print(b"name: number place, and memory after drawing\n");
-    shapes::show_shapes();
-    scissors::show_scissors();
-    fields::show_fields();
-    registers::show_registers();
-    lent::show_lent();
-    refusals::show_refusals();
-    long::show_long();
+use std::io;
+use std::io::{BufWriter, Write};
+
+fn show_all(out: &mut impl Write) -> io::Result<()> {
+    show::print(out, b"name: number place, and memory after drawing\n")?;
+    shapes::show_shapes(out)?;
+    scissors::show_scissors(out)?;
+    fields::show_fields(out)?;
+    registers::show_registers(out)?;
+    lent::show_lent(out)?;
+    refusals::show_refusals(out)?;
+    long::show_long(out)
+}
+
+fn main(rt: HostRuntime) -> io::Result<()> {
+    let mut out = BufWriter::new(rt.alloc(), io::writer(&rt))?;
+    show_all(&mut out)?;
+    out.flush()
 }

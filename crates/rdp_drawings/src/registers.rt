@@ -1,29 +1,35 @@
 // The registers that a rectangle is drawn under: the last ones set before it.
 use crate::show::{drawn, picture};
 use rdp_text::words::*;
+use std::io;
+use std::io::Write;
 
-pub fn show_registers() {
-    colors();
-    images();
-    last_address();
-    modes();
-    other_commands();
-    unused_bits();
+pub fn show_registers(out: &mut impl Write) -> io::Result<()> {
+    colors(out)?;
+    images(out)?;
+    last_address(out)?;
+    modes(out)?;
+    other_commands(out)?;
+    unused_bits(out)?;
+    Ok(())
 }
 
-fn colors() {
-    picture(b"colour never set", &[FILL, IMAGE, SCISSOR, RECTANGLE]);
+fn colors(out: &mut impl Write) -> io::Result<()> {
+    picture(out, "colour never set", &[FILL, IMAGE, SCISSOR, RECTANGLE])?;
     picture(
-        b"colour set twice",
+        out,
+        "colour set twice",
         &[FILL, DIGITS, IMAGE, SCISSOR, COLOR, RECTANGLE],
-    );
+    )?;
     picture(
-        b"colour set after the draw",
+        out,
+        "colour set after the draw",
         &[FILL, IMAGE, SCISSOR, RECTANGLE, PIPE_SYNC, COLOR],
-    );
+    )?;
     // Fog, blend, primitive and environment colour.
     picture(
-        b"other colours set",
+        out,
+        "other colours set",
         &[
             FILL,
             IMAGE,
@@ -35,13 +41,15 @@ fn colors() {
             0x3B_000000_11223344,
             RECTANGLE,
         ],
-    );
+    )?;
+    Ok(())
 }
 
-fn images() {
+fn images(out: &mut impl Write) -> io::Result<()> {
     // 16 bits at address 0, then 8 bits at address 64.
     drawn(
-        b"two images",
+        out,
+        "two images",
         &[
             FILL,
             IMAGE,
@@ -56,10 +64,11 @@ fn images() {
         128,
         0,
         16,
-    );
+    )?;
     // Texture and depth image.
     picture(
-        b"other images set",
+        out,
+        "other images set",
         &[
             FILL,
             IMAGE,
@@ -69,39 +78,47 @@ fn images() {
             0x3E_00_0000_00000020,
             RECTANGLE,
         ],
-    );
+    )?;
+    Ok(())
 }
 
-fn last_address() {
+fn last_address(out: &mut impl Write) -> io::Result<()> {
     drawn(
-        b"the last address",
+        out,
+        "the last address",
         &[FILL, 0x3F_10_0007_03FFFFC0, SCISSOR, COLOR, RECTANGLE],
         64,
         0x3FFFFC0,
         16,
-    );
+    )?;
+    Ok(())
 }
 
-fn modes() {
+fn modes(out: &mut impl Write) -> io::Result<()> {
     picture(
-        b"modes set twice",
+        out,
+        "modes set twice",
         &[ONE_CYCLE, IMAGE, SCISSOR, COLOR, FILL, RECTANGLE],
-    );
+    )?;
     picture(
-        b"modes set after the draw",
+        out,
+        "modes set after the draw",
         &[FILL, IMAGE, SCISSOR, COLOR, RECTANGLE, PIPE_SYNC, ONE_CYCLE],
-    );
+    )?;
+    Ok(())
 }
 
-fn other_commands() {
-    picture(b"no draw", &[FILL, IMAGE, SCISSOR, COLOR]);
+fn other_commands(out: &mut impl Write) -> io::Result<()> {
+    picture(out, "no draw", &[FILL, IMAGE, SCISSOR, COLOR])?;
     picture(
-        b"Sync Full last",
+        out,
+        "Sync Full last",
         &[FILL, IMAGE, SCISSOR, COLOR, RECTANGLE, FULL_SYNC],
-    );
+    )?;
     // No operations, a Set Tile and a load.
     picture(
-        b"other commands between",
+        out,
+        "other commands between",
         &[
             0,
             FILL,
@@ -117,16 +134,19 @@ fn other_commands() {
             0xC0_FFFFFFFFFFFFFF,
             RECTANGLE,
         ],
-    );
+    )?;
     picture(
-        b"unassigned number",
+        out,
+        "unassigned number",
         &[FILL, IMAGE, SCISSOR, COLOR, RECTANGLE, 0x31_00000000000000],
-    );
+    )?;
+    Ok(())
 }
 
-fn unused_bits() {
+fn unused_bits(out: &mut impl Write) -> io::Result<()> {
     picture(
-        b"unused bits set",
+        out,
+        "unused bits set",
         &[
             0xEF_30_0000_00000000,
             0xFF_17_FC07_FC000000,
@@ -134,9 +154,11 @@ fn unused_bits() {
             0xF7_FFFFFF_F801003F,
             0xF6_008_008_FF_004_004,
         ],
-    );
+    )?;
     picture(
-        b"every mode set",
+        out,
+        "every mode set",
         &[0x2F_FF_FFFF_FFFFFFFF, IMAGE, SCISSOR, COLOR, RECTANGLE],
-    );
+    )?;
+    Ok(())
 }

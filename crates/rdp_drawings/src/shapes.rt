@@ -1,76 +1,86 @@
 // Which bytes a rectangle covers, on images of each size and width.
 use crate::show::{drawn, picture, picture_on_zeros};
 use rdp_text::words::*;
+use std::io;
+use std::io::Write;
 
-pub fn show_shapes() {
-    examples();
-    quarter_pixels();
-    no_pixels();
-    overlaps();
-    apart();
-    sizes();
-    odd_widths();
-    wide_rectangles();
-    stairs();
+pub fn show_shapes(out: &mut impl Write) -> io::Result<()> {
+    examples(out)?;
+    quarter_pixels(out)?;
+    no_pixels(out)?;
+    overlaps(out)?;
+    apart(out)?;
+    sizes(out)?;
+    odd_widths(out)?;
+    wide_rectangles(out)?;
+    stairs(out)?;
+    Ok(())
 }
 
 // Fills a rectangle of the image of 8 by 4 pixels.
-fn covered(name: &[u8], rectangle: u64) {
-    picture(name, &[FILL, IMAGE, SCISSOR, COLOR, rectangle]);
+fn covered(out: &mut impl Write, name: &str, rectangle: u64) -> io::Result<()> {
+    picture(out, name, &[FILL, IMAGE, SCISSOR, COLOR, rectangle])
 }
 
 // The same on the first bytes of memory.
-fn covered_of(name: &[u8], rectangle: u64, length: usize) {
+fn covered_of(out: &mut impl Write, name: &str, rectangle: u64, length: usize) -> io::Result<()> {
     drawn(
+        out,
         name,
         &[FILL, IMAGE, SCISSOR, COLOR, rectangle],
         length,
         0,
         16,
-    );
+    )
 }
 
-fn examples() {
+fn examples(out: &mut impl Write) -> io::Result<()> {
     // Bytes 18 to 21 and 34 to 37 become 00 3F F8 01.
-    picture_on_zeros(b"I", &[FILL, IMAGE, SCISSOR, COLOR, RECTANGLE]);
-    covered_of(b"I on 37 bytes", RECTANGLE, 37);
-    covered_of(b"I on 38 bytes", RECTANGLE, 38);
+    picture_on_zeros(out, "I", &[FILL, IMAGE, SCISSOR, COLOR, RECTANGLE])?;
+    covered_of(out, "I on 37 bytes", RECTANGLE, 37)?;
+    covered_of(out, "I on 38 bytes", RECTANGLE, 38)?;
     // Pixel (0, 1) takes the lower half of the colour.
     drawn(
-        b"O",
+        out,
+        "O",
         &[FILL, IMAGE_OF_7, SCISSOR, COLOR, 0x36_000_004_00_000_004],
         28,
         0,
         14,
-    );
+    )?;
+    Ok(())
 }
 
-fn quarter_pixels() {
-    covered(b"right and lower edge 7", 0x36_007_007_00_000_000);
-    covered(b"right and lower edge 8", 0x36_008_008_00_000_000);
-    covered(b"left and upper edge 7", 0x36_01C_00C_00_007_007);
+fn quarter_pixels(out: &mut impl Write) -> io::Result<()> {
+    covered(out, "right and lower edge 7", 0x36_007_007_00_000_000)?;
+    covered(out, "right and lower edge 8", 0x36_008_008_00_000_000)?;
+    covered(out, "left and upper edge 7", 0x36_01C_00C_00_007_007)?;
     // From the last quarter of pixel (1, 1) to its first.
-    covered(b"edges 7 to 4", 0x36_004_004_00_007_007);
+    covered(out, "edges 7 to 4", 0x36_004_004_00_007_007)?;
+    Ok(())
 }
 
-fn no_pixels() {
-    covered(b"no column", NO_COLUMN);
-    covered(b"no row", NO_ROW);
-    covered_of(b"no column, no memory", NO_COLUMN, 0);
-    covered_of(b"no row, no memory", NO_ROW, 0);
+fn no_pixels(out: &mut impl Write) -> io::Result<()> {
+    covered(out, "no column", NO_COLUMN)?;
+    covered(out, "no row", NO_ROW)?;
+    covered_of(out, "no column, no memory", NO_COLUMN, 0)?;
+    covered_of(out, "no row, no memory", NO_ROW, 0)?;
     drawn(
-        b"from the last pixel to the first",
+        out,
+        "from the last pixel to the first",
         &[FILL, IMAGE, OPEN, COLOR, 0x36_000_000_00_FFF_FFF],
         0,
         0,
         16,
-    );
+    )?;
+    Ok(())
 }
 
-fn overlaps() {
+fn overlaps(out: &mut impl Write) -> io::Result<()> {
     // (1, 1) to (2, 2), and (2, 2) to (5, 3), in both orders.
     picture(
-        b"two colours",
+        out,
+        "two colours",
         &[
             FILL,
             IMAGE,
@@ -81,9 +91,10 @@ fn overlaps() {
             DIGITS,
             0x36_014_00C_00_008_008,
         ],
-    );
+    )?;
     picture(
-        b"two colours, the other first",
+        out,
+        "two colours, the other first",
         &[
             FILL,
             IMAGE,
@@ -94,12 +105,14 @@ fn overlaps() {
             COLOR,
             RECTANGLE,
         ],
-    );
+    )?;
+    Ok(())
 }
 
-fn apart() {
+fn apart(out: &mut impl Write) -> io::Result<()> {
     picture(
-        b"three rectangles",
+        out,
+        "three rectangles",
         &[
             FILL,
             IMAGE,
@@ -109,13 +122,15 @@ fn apart() {
             RECTANGLE,
             0x36_01C_00C_00_01C_00C,
         ],
-    );
+    )?;
+    Ok(())
 }
 
-fn sizes() {
+fn sizes(out: &mut impl Write) -> io::Result<()> {
     // 8 bits, 16 wide, pixels (1, 1) to (6, 2).
     picture(
-        b"8 bits",
+        out,
+        "8 bits",
         &[
             FILL,
             0x3F_08_000F_00000000,
@@ -123,28 +138,33 @@ fn sizes() {
             DIGITS,
             0x36_018_008_00_004_004,
         ],
-    );
+    )?;
     // 32 bits, 4 wide.
     picture(
-        b"32 bits",
+        out,
+        "32 bits",
         &[FILL, 0x3F_18_0003_00000000, OPEN, DIGITS, RECTANGLE],
-    );
+    )?;
     picture(
-        b"16 bits, another format",
+        out,
+        "16 bits, another format",
         &[FILL, 0x3F_F0_0007_00000000, SCISSOR, COLOR, RECTANGLE],
-    );
+    )?;
+    Ok(())
 }
 
-fn odd_widths() {
+fn odd_widths(out: &mut impl Write) -> io::Result<()> {
     drawn(
-        b"16 bits, width 7",
+        out,
+        "16 bits, width 7",
         &[FILL, IMAGE_OF_7, OPEN, DIGITS, 0x36_014_00C_00_004_000],
         56,
         0,
         14,
-    );
+    )?;
     drawn(
-        b"8 bits, width 7",
+        out,
+        "8 bits, width 7",
         &[
             FILL,
             0x3F_08_0006_00000000,
@@ -155,9 +175,10 @@ fn odd_widths() {
         35,
         0,
         7,
-    );
+    )?;
     drawn(
-        b"8 bits, width 1",
+        out,
+        "8 bits, width 1",
         &[
             FILL,
             0x3F_08_0000_00000000,
@@ -168,30 +189,39 @@ fn odd_widths() {
         8,
         0,
         1,
-    );
+    )?;
+    Ok(())
 }
 
 // On a width of 4 pixels.
-fn on_four_pixels(name: &[u8], rectangle: u64, length: usize) {
+fn on_four_pixels(
+    out: &mut impl Write,
+    name: &str,
+    rectangle: u64,
+    length: usize,
+) -> io::Result<()> {
     drawn(
+        out,
         name,
         &[FILL, IMAGE_OF_4, OPEN, DIGITS, rectangle],
         length,
         0,
         8,
-    );
+    )
 }
 
-fn wide_rectangles() {
+fn wide_rectangles(out: &mut impl Write) -> io::Result<()> {
     // Columns 0 to 5: a row goes on into the next.
-    on_four_pixels(b"wider than the image", 0x36_014_008_00_000_000, 40);
+    on_four_pixels(out, "wider than the image", 0x36_014_008_00_000_000, 40)?;
     on_four_pixels(
-        b"wider than the image, past memory",
+        out,
+        "wider than the image, past memory",
         0x36_014_008_00_000_000,
         24,
-    );
-    on_four_pixels(b"right of the image", 0x36_014_004_00_014_000, 32);
-    on_four_pixels(b"as wide as the image", 0x36_00C_008_00_000_004, 32);
+    )?;
+    on_four_pixels(out, "right of the image", 0x36_014_004_00_014_000, 32)?;
+    on_four_pixels(out, "as wide as the image", 0x36_00C_008_00_000_004, 32)?;
+    Ok(())
 }
 
 // Twenty rows of 1 to 20 pixels of 8 bits, on a width of 23. With four starts, each length begins at each place of the colour and of memory.
@@ -222,13 +252,14 @@ const STAIRS: [u64; 24] = [
     0x36_04C_04C_00_000_04C,
 ];
 
-fn stairs_from(name: &[u8], start: u64) {
-    drawn(name, &STAIRS, 460, start, 23);
+fn stairs_from(out: &mut impl Write, name: &str, start: u64) -> io::Result<()> {
+    drawn(out, name, &STAIRS, 460, start, 23)
 }
 
-fn stairs() {
-    stairs_from(b"stairs", 64);
-    stairs_from(b"stairs, start 63", 63);
-    stairs_from(b"stairs, start 62", 62);
-    stairs_from(b"stairs, start 61", 61);
+fn stairs(out: &mut impl Write) -> io::Result<()> {
+    stairs_from(out, "stairs", 64)?;
+    stairs_from(out, "stairs, start 63", 63)?;
+    stairs_from(out, "stairs, start 62", 62)?;
+    stairs_from(out, "stairs, start 61", 61)?;
+    Ok(())
 }

@@ -1,11 +1,12 @@
 // A list, drawn into memory of which the bytes are printed.
 ghost use Rattle.std.specs.Prelude.{◌+◌, ◌<◌, ◌≤◌, length};
 
-use libc::STDOUT_FILENO;
 use rdp_command::Answer;
+use std::io;
+use std::io::Write;
 
-pub fn print(bytes: &[u8]) {
-    io::write_all(STDOUT_FILENO, bytes);
+pub fn print(out: &mut impl Write, bytes: &[u8]) -> io::Result<()> {
+    out.write_all(bytes)
 }
 
 // The first n bytes; all where there are fewer.
@@ -25,17 +26,18 @@ fn back(bytes: &[u8], n: usize) -> &[u8] {
     bytes
 }
 
-fn print_text(bytes: &[u8], row: usize, text: &mut [u8]) {
+fn print_text(out: &mut impl Write, bytes: &[u8], row: usize, text: &mut [u8]) -> io::Result<()> {
     rdp_text::spell(bytes, row, text);
-    print(text);
+    print(out, text)
 }
 
 // At most 512 bytes in rows, each row on a line after the present one.
-fn print_rows(bytes: &[u8], row: usize) {
+fn print_rows(out: &mut impl Write, bytes: &[u8], row: usize) -> io::Result<()> {
     let mut text = [0u8; 1536];
     if bytes.len() <= 512 {
-        print_text(bytes, row, &mut text[0..3 * bytes.len()]);
+        print_text(out, bytes, row, &mut text[0..3 * bytes.len()])?;
     }
+    Ok(())
 }
 
 // Four bytes as a number, most significant byte first.
@@ -62,13 +64,8 @@ fn checksum(bytes: &[u8]) -> u64 {
     b * 4294967296 + a
 }
 
-fn print_answer(name: &[u8], answer: Answer) {
-    print(b"\n");
-    print(name);
-    print(b": ");
-    io::print_decimal(STDOUT_FILENO, answer.number as u64);
-    print(b" ");
-    io::print_decimal(STDOUT_FILENO, answer.place as u64);
+fn print_answer(out: &mut impl Write, name: &str, answer: Answer) -> io::Result<()> {
+    write!(out, "\n{name}: {} {}", answer.number, answer.place)
 }
 
 // The answer of drawing with texture memory of zeros.
@@ -78,66 +75,114 @@ fn draw(list: &[u8], memory: &mut [u8], start: u64) -> Answer {
 }
 
 // Draws the list of words, which is laid into `list`.
-fn draw_list(name: &[u8], words: &[u64], list: &mut [u8], memory: &mut [u8], start: u64) {
+fn draw_list(
+    out: &mut impl Write,
+    name: &str,
+    words: &[u64],
+    list: &mut [u8],
+    memory: &mut [u8],
+    start: u64,
+) -> io::Result<()> {
     rdp_text::lay(words, list);
-    print_answer(name, draw(list, memory, start));
+    print_answer(out, name, draw(list, memory, start))
 }
 
 // The same of at most 32 words.
-fn draw_words(name: &[u8], words: &[u64], memory: &mut [u8], start: u64) {
+fn draw_words(
+    out: &mut impl Write,
+    name: &str,
+    words: &[u64],
+    memory: &mut [u8],
+    start: u64,
+) -> io::Result<()> {
     let mut list = [0u8; 256];
     if words.len() <= 32 {
-        draw_list(name, words, &mut list[0..8 * words.len()], memory, start);
+        draw_list(
+            out,
+            name,
+            words,
+            &mut list[0..8 * words.len()],
+            memory,
+            start,
+        )?;
     }
+    Ok(())
 }
 
-fn draw_in_rows(name: &[u8], words: &[u64], memory: &mut [u8], start: u64, row: usize) {
-    draw_words(name, words, memory, start);
-    print_rows(memory, row);
-    print(b"\n");
+fn draw_in_rows(
+    out: &mut impl Write,
+    name: &str,
+    words: &[u64],
+    memory: &mut [u8],
+    start: u64,
+    row: usize,
+) -> io::Result<()> {
+    draw_words(out, name, words, memory, start)?;
+    print_rows(out, memory, row)?;
+    print(out, b"\n")
 }
 
 // Draws a list into memory of `length` bytes, at most 512, that starts at address `start`, and prints it in rows of `row` bytes.
-pub fn drawn(name: &[u8], words: &[u64], length: usize, start: u64, row: usize) {
+pub fn drawn(
+    out: &mut impl Write,
+    name: &str,
+    words: &[u64],
+    length: usize,
+    start: u64,
+    row: usize,
+) -> io::Result<()> {
     let mut memory = [0x55u8; 512];
     if length <= 512 {
-        draw_in_rows(name, words, &mut memory[0..length], start, row);
+        draw_in_rows(out, name, words, &mut memory[0..length], start, row)?;
     }
+    Ok(())
 }
 
 // The same into four rows of 16 bytes from address 0 on.
-pub fn picture(name: &[u8], words: &[u64]) {
-    drawn(name, words, 64, 0, 16);
+pub fn picture(out: &mut impl Write, name: &str, words: &[u64]) -> io::Result<()> {
+    drawn(out, name, words, 64, 0, 16)
 }
 
 // The same into zeros.
-pub fn picture_on_zeros(name: &[u8], words: &[u64]) {
+pub fn picture_on_zeros(out: &mut impl Write, name: &str, words: &[u64]) -> io::Result<()> {
     let mut memory = [0u8; 64];
-    draw_in_rows(name, words, &mut memory, 0, 16);
+    draw_in_rows(out, name, words, &mut memory, 0, 16)
 }
 
 // Draws a list of `length` zeros, at most 32,769, into four bytes.
-pub fn drawn_zeros(name: &[u8], length: usize) {
+pub fn drawn_zeros(out: &mut impl Write, name: &str, length: usize) -> io::Result<()> {
     let list = [0u8; 32769];
     let mut memory = [0x55u8; 4];
-    print_answer(name, draw(front(&list, length), &mut memory, 0));
-    print_rows(&memory, 4);
-    print(b"\n");
+    print_answer(out, name, draw(front(&list, length), &mut memory, 0))?;
+    print_rows(out, &memory, 4)?;
+    print(out, b"\n")
 }
 
-fn draw_long(name: &[u8], words: &[u64], memory: &mut [u8], start: u64) {
-    draw_words(name, words, memory, start);
-    print(b", checksum ");
-    io::print_hex(STDOUT_FILENO, checksum(memory), 16);
-    print_rows(front(memory, 16), 16);
-    print_rows(back(memory, 16), 16);
-    print(b"\n");
+fn draw_long(
+    out: &mut impl Write,
+    name: &str,
+    words: &[u64],
+    memory: &mut [u8],
+    start: u64,
+) -> io::Result<()> {
+    draw_words(out, name, words, memory, start)?;
+    write!(out, ", checksum {:016x}", checksum(memory))?;
+    print_rows(out, front(memory, 16), 16)?;
+    print_rows(out, back(memory, 16), 16)?;
+    print(out, b"\n")
 }
 
 // Draws a list into memory of `length` bytes, at most 153,600: 320 by 240 pixels of 16 bits.
-pub fn drawn_long(name: &[u8], words: &[u64], length: usize, start: u64) {
+pub fn drawn_long(
+    out: &mut impl Write,
+    name: &str,
+    words: &[u64],
+    length: usize,
+    start: u64,
+) -> io::Result<()> {
     let mut memory = [0x55u8; 153600];
     if length <= 153600 {
-        draw_long(name, words, &mut memory[0..length], start);
+        draw_long(out, name, words, &mut memory[0..length], start)?;
     }
+    Ok(())
 }

@@ -1,7 +1,6 @@
 -- Safe, and ends: the index is at most the count of whole words, and both sums are below the modulus.
 use Prim.Native.Nat.{◌≤◌, ◌<◌, ◌-◌, ◌/◌}
 use lib.ListN.{length}
-use borrow.Author.Rules.{rules}
 use Rattle.rdp_drawings.proofs.show.checksum.Given as goal
 
 abbrev pub invariant-loop-i : goal.invariant-loop-i
