@@ -1,27 +1,32 @@
 // Load Block (#112): texels one after the other, in words of four. dxt 0x400 begins a line every two words, as the tile's rows are.
 use crate::show::{after_fill, loaded};
 use rdp_text::words::*;
+use std::io;
+use std::io::Write;
 
-pub fn show_blocks() {
-    lines();
-    parts_of_memory();
-    size_after_a_block();
-    numbers_of_texels();
-    end_of_texture_memory();
-    needs();
+pub fn show_blocks(out: &mut impl Write) -> io::Result<()> {
+    lines(out)?;
+    parts_of_memory(out)?;
+    size_after_a_block(out)?;
+    numbers_of_texels(out)?;
+    end_of_texture_memory(out)?;
+    needs(out)?;
+    Ok(())
 }
 
 // Copies what a block loads.
-fn block(name: &[u8], load: u64) {
+fn block(out: &mut impl Write, name: &str, load: u64) -> io::Result<()> {
     after_fill(
+        out,
         name,
         &[TEXTURE, TILE, load, PIPE_SYNC, COPY, COPY_RIGHT, TEXELS],
-    );
+    )
 }
 
 // The same with an upper left of (0, 0), where the block left its raw s and t, of which only whole quarters are whole texels.
-fn block_from_0_0(name: &[u8], load: u64, texels: u64) {
+fn block_from_0_0(out: &mut impl Write, name: &str, load: u64, texels: u64) -> io::Result<()> {
     after_fill(
+        out,
         name,
         &[
             TEXTURE,
@@ -33,70 +38,89 @@ fn block_from_0_0(name: &[u8], load: u64, texels: u64) {
             COPY_RIGHT,
             texels,
         ],
-    );
+    )
 }
 
-fn lines() {
-    block(b"block of 32 texels", 0x33_000_000_00_01F_400);
-    block(b"block that is never turned", 0x33_000_000_00_01F_000);
-    block(b"block of lines of three words", 0x33_000_000_00_01F_2AB);
+fn lines(out: &mut impl Write) -> io::Result<()> {
+    block(out, "block of 32 texels", 0x33_000_000_00_01F_400)?;
+    block(out, "block that is never turned", 0x33_000_000_00_01F_000)?;
     block(
-        b"block whose every word is turned over in turn",
+        out,
+        "block of lines of three words",
+        0x33_000_000_00_01F_2AB,
+    )?;
+    block(
+        out,
+        "block whose every word is turned over in turn",
         0x33_000_000_00_01F_800,
-    );
+    )?;
+    Ok(())
 }
 
-fn parts_of_memory() {
+fn parts_of_memory(out: &mut impl Write) -> io::Result<()> {
     block_from_0_0(
-        b"block of seven texels, the last three turned",
+        out,
+        "block of seven texels, the last three turned",
         0x33_001_001_00_007_800,
         0x0080_0000_1000_0400,
-    );
+    )?;
     block_from_0_0(
-        b"block from row 1 on, past the row's end",
+        out,
+        "block from row 1 on, past the row's end",
         0x33_006_001_00_011_400,
         TEXELS,
-    );
+    )?;
+    Ok(())
 }
 
-fn size_after_a_block() {
+fn size_after_a_block(out: &mut impl Write) -> io::Result<()> {
     block(
-        b"a block leaves its s and t as the tile's size",
+        out,
+        "a block leaves its s and t as the tile's size",
         0x33_004_000_00_00B_400,
-    );
+    )?;
     block(
-        b"17, a tile's upper left of one quarter",
+        out,
+        "17, a tile's upper left of one quarter",
         0x33_001_000_00_00A_400,
-    );
+    )?;
+    Ok(())
 }
 
-fn numbers_of_texels() {
-    loaded(b"block of no texel", TILE, 0x33_004_000_00_003_400);
-    loaded(b"block of 2,049 texels", TILE, 0x33_000_000_00_800_400);
-    loaded(b"12, block of 33 texels", TILE, 0x33_000_000_00_020_400);
+fn numbers_of_texels(out: &mut impl Write) -> io::Result<()> {
+    loaded(out, "block of no texel", TILE, 0x33_004_000_00_003_400)?;
+    loaded(out, "block of 2,049 texels", TILE, 0x33_000_000_00_800_400)?;
+    loaded(out, "12, block of 33 texels", TILE, 0x33_000_000_00_020_400)?;
+    Ok(())
 }
 
-fn end_of_texture_memory() {
+fn end_of_texture_memory(out: &mut impl Write) -> io::Result<()> {
     loaded(
-        b"18, block at the end of texture memory",
+        out,
+        "18, block at the end of texture memory",
         0x35_10_05F9_00000000,
         0x33_000_000_00_01F_400,
-    );
+    )?;
     loaded(
-        b"block that ends with texture memory",
+        out,
+        "block that ends with texture memory",
         0x35_10_05F8_00000000,
         0x33_000_000_00_01F_400,
-    );
+    )?;
+    Ok(())
 }
 
-fn needs() {
+fn needs(out: &mut impl Write) -> io::Result<()> {
     loaded(
-        b"17 before 12, block of a tile of 32 bits",
+        out,
+        "17 before 12, block of a tile of 32 bits",
         0x35_18_0400_00000000,
         0x33_000_000_00_020_400,
-    );
+    )?;
     after_fill(
-        b"17, block without a texture image",
+        out,
+        "17, block without a texture image",
         &[TILE, 0x33_000_000_00_01F_400],
-    );
+    )?;
+    Ok(())
 }

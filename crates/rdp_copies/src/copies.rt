@@ -1,30 +1,36 @@
 // Copies of a tile that was loaded out of what was drawn.
 use crate::show::{after_fill, copied, copied_under};
 use rdp_text::words::*;
+use std::io;
+use std::io::Write;
 
-pub fn show_copies() {
-    first_texels();
-    turned_rows();
-    kept_pixels();
+pub fn show_copies(out: &mut impl Write) -> io::Result<()> {
+    first_texels(out)?;
+    turned_rows(out)?;
+    kept_pixels(out)?;
+    Ok(())
 }
 
-fn first_texels() {
-    copied(b"copy", TILE, TEXELS);
-    copied(b"copy from column 1 and row 1", TILE, TEXELS_FROM_1_1);
+fn first_texels(out: &mut impl Write) -> io::Result<()> {
+    copied(out, "copy", TILE, TEXELS)?;
+    copied(out, "copy from column 1 and row 1", TILE, TEXELS_FROM_1_1)?;
     // With the tile's rows from byte 16 on, row -1 stands at byte 0.
-    copied(b"copy from row -1", 0x35_10_0402_00000000, TEXELS_ABOVE);
+    copied(out, "copy from row -1", 0x35_10_0402_00000000, TEXELS_ABOVE)?;
     // The tile begins at column 1 and row 1, which are taken off again.
     copied_under(
-        b"copy of a tile with an upper left",
+        out,
+        "copy of a tile with an upper left",
         0x32_004_004_00_01C_00C,
         TEXELS_FROM_1_1,
-    );
+    )?;
+    Ok(())
 }
 
 // A tile of eight bytes a row reads the bytes as they stand in texture memory, but for the turn of its own rows.
-fn turned_rows() {
+fn turned_rows(out: &mut impl Write) -> io::Result<()> {
     after_fill(
-        b"texture memory of rows of 8 bytes",
+        out,
+        "texture memory of rows of 8 bytes",
         &[
             TEXTURE,
             TILE,
@@ -36,15 +42,22 @@ fn turned_rows() {
             COPY_RIGHT,
             TEXELS,
         ],
-    );
+    )?;
+    Ok(())
 }
 
-fn kept_pixels() {
-    copied_under(b"copy of the odd rows", 0x2D_000_000_03_020_010, TEXELS);
-    copied_under(b"copy inside a scissor", 0x2D_014_004_00_01C_00C, TEXELS);
+fn kept_pixels(out: &mut impl Write) -> io::Result<()> {
+    copied_under(out, "copy of the odd rows", 0x2D_000_000_03_020_010, TEXELS)?;
+    copied_under(
+        out,
+        "copy inside a scissor",
+        0x2D_014_004_00_01C_00C,
+        TEXELS,
+    )?;
     // An image of width 4 has column 4 of a row where column 0 of the next one is, which is written later.
     after_fill(
-        b"copy that is wider than the image",
+        out,
+        "copy that is wider than the image",
         &[
             TEXTURE,
             TILE,
@@ -55,5 +68,6 @@ fn kept_pixels() {
             0x24_01C_008_00_000_000,
             TEXELS,
         ],
-    );
+    )?;
+    Ok(())
 }

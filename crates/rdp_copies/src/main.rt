@@ -12,9 +12,18 @@ mod copies;
 mod refusals;
 mod show;
 
-fn main() {
-    show::print(b"name: number place, and memory after drawing\n");
-    copies::show_copies();
-    refusals::show_refusals();
-    blocks::show_blocks();
+use std::io;
+use std::io::{BufWriter, Write};
+
+fn show_all(out: &mut impl Write) -> io::Result<()> {
+    show::print(out, b"name: number place, and memory after drawing\n")?;
+    copies::show_copies(out)?;
+    refusals::show_refusals(out)?;
+    blocks::show_blocks(out)
+}
+
+fn main(rt: HostRuntime) -> io::Result<()> {
+    let mut out = BufWriter::new(rt.alloc(), io::writer(&rt))?;
+    show_all(&mut out)?;
+    out.flush()
 }
