@@ -1,4 +1,5 @@
-// Fills of many bytes, on memory of a length and a start. `rt try` gives a program ten million steps, of which this file takes three quarters.
+// Fills of many bytes, on memory of a length and a start. `rt try` interprets twenty million steps of a program, of which this one takes some fifteen,
+// more than half of them in this file.
 use crate::show::drawn_long;
 use rdp_text::words::*;
 use std::io;

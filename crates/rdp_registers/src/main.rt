@@ -26,7 +26,7 @@ fn show_list(out: &mut impl Write, n: u64) -> io::Result<()> {
     show_made(out, n, &mut bytes[0..length])
 }
 
-// `rt try` gives a program ten million steps, of which these lists take nine and a half.
+// `rt try` interprets twenty million steps of a program, of which this one takes some seventeen.
 fn show_lists(out: &mut impl Write) -> io::Result<()> {
     for n in 0..245u64 {
         show_list(out, n)?;
