@@ -11,19 +11,18 @@ CC = gcc
 CXX = g++
 WARNINGS = -Wall -Wextra -Werror
 
-SOURCES = crates.txt $(shell find crates -name '*.rt' -o -name '*.antt')
+SOURCES = crates.txt $(shell find crates -name out -prune -o '(' -name '*.rt' -o -name '*.antt' ')' -print)
 ARCHIVE = build/liblanyardrove.a
 TESTS = boundary stack
 
 all: cli-libraries $(ARCHIVE) cli
 
-# What the archive rests on is proved first, two crates at a time; the archive alone would prove one after the other.
+# In a crate's folder rt proves the crate and the libraries that it rests on, over what it kept of them in out/, and makes out/libNAME.a.
 $(ARCHIVE): $(SOURCES)
 	@command -v rt > /dev/null || { echo 'The library is proved and built by the Rattle toolchain, whose command rt is not at hand' >&2; exit 1; }
-	rt check $(shell sed -n 's/^lanyardrove: *//p' crates.txt)
-	rt staticlib lanyardrove
+	cd crates/lanyardrove && rt lib
 	mkdir -p build
-	cp target/staticlib/liblanyardrove.a $@
+	cp crates/lanyardrove/out/liblanyardrove.a $@
 
 build/test_%_c: tests/c/test_%.c include/lanyardrove.h $(ARCHIVE)
 	$(CC) -std=c11 -pedantic $(WARNINGS) -O2 -Iinclude $< $(ARCHIVE) -o $@

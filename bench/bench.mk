@@ -7,15 +7,14 @@ BENCH_ENVIRONMENT = LANYARDROVE_LIB=$(abspath $(dir $(LANYARDROVE_ARCHIVE))) LAN
 
 # The registers after a list as one number, which cross no function of the library: proved too, and linked into the benchmark alone.
 $(BENCH_ARCHIVE): $(SOURCES)
-	rt staticlib rdp_bench
+	cd crates/rdp_bench && rt lib
 	mkdir -p build
-	cp target/staticlib/librdp_bench.a $@
+	cp crates/rdp_bench/out/librdp_bench.a $@
 
 # Measures the library beside the independent Rust version and the plain C version, all built for release, and prints a table (about five seconds).
 # ROWS=translate measures only the rows whose names hold it.
-# The second archive comes after the first, since two provers in one folder would meet.
-bench: $(LANYARDROVE_ARCHIVE)
-	$(MAKE) $(BENCH_ARCHIVE)
+# Both archives rest on the same crates: under make -j the second rt waits in these for the first.
+bench: $(LANYARDROVE_ARCHIVE) $(BENCH_ARCHIVE)
 	$(BENCH_ENVIRONMENT) cargo run --quiet -j1 --manifest-path reference/Cargo.toml --release --features bench --bin bench -- $(ROWS)
 
 # Compares the plain C version with the independent version on random cases, and the registers of all three.

@@ -37,7 +37,7 @@ def files_below(root):
 @test
 def make_makes_archive_and_tool():
     plan = make("-n", "-B")  # nothing is run
-    assert re.search(r"^rt staticlib lanyardrove$", plan, re.M) and re.search(r"^gcc .* -o build/lanyardrove ", plan, re.M), plan
+    assert re.search(r"^cd crates/lanyardrove && rt lib$", plan, re.M) and re.search(r"^gcc .* -o build/lanyardrove ", plan, re.M), plan
 
 
 @test

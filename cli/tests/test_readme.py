@@ -51,7 +51,7 @@ def the_examples_of_the_manual_page_run():
 
 @test
 def the_readme_names_the_toolchain():
-    assert re.search(r"\(last built with `rt --version`: rattle-kit-\S+ logic [0-9a-f]{16}\)", README)  # a newer one may serve as well
+    assert re.search(r"\(proved and built with `rt version`: rattle-kit-\S+ logic [0-9a-f]{16}\)", README)  # a newer one may serve as well
 
 
 @test

@@ -2,7 +2,6 @@
 use native.Mathlib.Omega.{arith}
 use lib.ListN.{length}
 use Rattle.f3dex2.proofs.TranslateLaws.{start-sound, refused-answer, refused-out, short-answer, short-out, full-answer, full-out}
-use borrow.Author.Rules.{rules}
 use Rattle.f3dex2.proofs.translate.Goals as goal
 
 pub run_list-counted-requires : goal.run_list-counted-requires

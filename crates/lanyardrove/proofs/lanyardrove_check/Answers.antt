@@ -2,7 +2,6 @@
 use mathlib.Core.Path.{◌≡◌, ap, ◌∙◌}
 use Prim.Native.Nat.{min}
 use native.Mathlib.Omega.{arith}
-use borrow.Author.Rules.{rules}
 use Rattle.lanyardrove.specs.Replies.{reply, most_third, packed, check_reply, of_check}
 use Rattle.lanyardrove.proofs.BoundLaws.{packs}
 use Rattle.lanyardrove.proofs.lanyardrove_check.Goals.{After-third_of}

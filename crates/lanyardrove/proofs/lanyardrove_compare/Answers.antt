@@ -1,7 +1,6 @@
 -- `lanyardrove::lanyardrove_compare` meets its contract: the answer of the comparison, packed, and the entries. Assumes nothing.
 use mathlib.Core.Path.{◌≡◌, ap, ◌∙◌}
 use native.Mathlib.Omega.{arith}
-use borrow.Author.Rules.{rules}
 use lib.ListN.{length}
 use Rattle.lanyardrove.specs.Replies.{packed, plain, compare_reply, of_compare}
 use Rattle.lanyardrove.proofs.BoundLaws.{packs}

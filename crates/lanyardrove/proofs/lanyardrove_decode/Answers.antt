@@ -1,7 +1,6 @@
 -- `lanyardrove::lanyardrove_decode` meets its contract: the first command's number and fields, or the refusal, packed. Assumes nothing.
 use mathlib.Core.Path.{◌≡◌, ap, ◌∙◌}
 use native.Mathlib.Omega.{arith}
-use borrow.Author.Rules.{rules}
 use Rattle.lanyardrove.specs.Replies.{reply, packed, plain, decode_reply, decode_fields, of_decode}
 use Rattle.lanyardrove.proofs.BoundLaws.{packs}
 use Rattle.lanyardrove.proofs.ReplyLaws.{decode-no-room, decode-written, decode-fields, decode-cut, decode-cut-fields}

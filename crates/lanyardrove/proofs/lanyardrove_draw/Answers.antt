@@ -1,7 +1,6 @@
 -- `lanyardrove::lanyardrove_draw` meets its contract: the answer of drawing, packed, and the memories. Assumes nothing.
 use mathlib.Core.Path.{◌≡◌, ap, ◌∙◌}
 use native.Mathlib.Omega.{arith}
-use borrow.Author.Rules.{rules}
 use lib.ListN.{length}
 use Rattle.lanyardrove.specs.Replies.{packed, plain, draw_reply, of_draw}
 use Rattle.lanyardrove.proofs.BoundLaws.{packs}

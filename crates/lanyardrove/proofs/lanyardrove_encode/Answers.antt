@@ -1,7 +1,6 @@
 -- `lanyardrove::lanyardrove_encode` meets its contract: the answer of encoding, packed, and the output. Assumes nothing.
 use mathlib.Core.Path.{◌≡◌, ap, ◌∙◌}
 use native.Mathlib.Omega.{arith}
-use borrow.Author.Rules.{rules}
 use Rattle.lanyardrove.specs.Replies.{packed, plain, encode_reply, of_encode}
 use Rattle.lanyardrove.proofs.BoundLaws.{packs}
 use Rattle.lanyardrove.proofs.ReplyLaws.{encode-made, encode-made-bytes, encode-refused, encode-refused-bytes}

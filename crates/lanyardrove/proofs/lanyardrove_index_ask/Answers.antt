@@ -1,7 +1,6 @@
 -- `lanyardrove::lanyardrove_index_ask` meets its contract: the answer of a question, packed. Assumes nothing.
 use mathlib.Core.Path.{◌≡◌, ap, sym, subst, ◌∙◌}
 use native.Mathlib.Omega.{arith}
-use borrow.Author.Rules.{rules}
 use Rattle.rdp_index.proofs.BoundLaws.{AskBounds, ask-bounds}
 use Rattle.lanyardrove.specs.Replies.{packed, asked_reply, ask_reply, of_ask}
 use Rattle.lanyardrove.proofs.BoundLaws.{packs}

@@ -1,7 +1,6 @@
 -- `lanyardrove::lanyardrove_index_build` meets its contract: the answer of building, packed, and the entries. Assumes nothing.
 use mathlib.Core.Path.{◌≡◌, ap, ◌∙◌}
 use native.Mathlib.Omega.{arith}
-use borrow.Author.Rules.{rules}
 use Rattle.lanyardrove.specs.Replies.{packed, plain, build_reply, of_build}
 use Rattle.lanyardrove.proofs.BoundLaws.{packs}
 use Rattle.lanyardrove.proofs.lanyardrove_index_build.Goals.{After-build-built}

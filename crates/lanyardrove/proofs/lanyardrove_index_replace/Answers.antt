@@ -1,7 +1,6 @@
 -- `lanyardrove::lanyardrove_index_replace` meets its contract: the answer of replacing, packed, the list and the entries. Assumes nothing.
 use mathlib.Core.Path.{ap}
 use native.Mathlib.Omega.{arith}
-use borrow.Author.Rules.{rules}
 use Rattle.lanyardrove.specs.Replies.{plain, of_replace}
 use Rattle.lanyardrove.proofs.BoundLaws.{packs}
 use Rattle.lanyardrove.proofs.lanyardrove_index_replace.Goals as goal

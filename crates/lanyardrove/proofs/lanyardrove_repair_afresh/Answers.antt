@@ -1,7 +1,6 @@
 -- `lanyardrove::lanyardrove_repair_afresh` meets its contract: the second repair's answer, packed, and the buffers. Assumes nothing.
 use mathlib.Core.Path.{refl}
 use native.Mathlib.Omega.{arith}
-use borrow.Author.Rules.{rules}
 use Rattle.lanyardrove.specs.Replies.{of_afresh}
 use Rattle.lanyardrove.proofs.BoundLaws.{packs}
 use Rattle.lanyardrove.proofs.lanyardrove_repair_afresh.Goals as goal

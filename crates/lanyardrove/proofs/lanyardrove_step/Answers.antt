@@ -5,7 +5,6 @@ use Prim.Native.Nat.{◌+◌, ◌%◌}
 use native.Mathlib.Nat.{mod-lt, mod-eq_of_lt}
 use native.Mathlib.Omega.{arith}
 use lib.Dec.{lit<}
-use borrow.Author.Rules.{rules}
 use Rattle.rdp_hazards.specs.Hazards.{transition_of}
 use Rattle.lanyardrove.specs.Replies.{reply, packed, step_reply, of_step}
 use Rattle.lanyardrove.proofs.BoundLaws.{packs}

@@ -4,7 +4,6 @@ use mathlib.Core.List.{List}
 use mathlib.Core.Path.{◌≡◌, ap, sym, subst, ◌∙◌}
 use native.Mathlib.Nat.{sub-zero}
 use native.Mathlib.Omega.{arith}
-use borrow.Author.Rules.{rules}
 use lib.ListN.{length, take}
 use Rattle.f3dex2.specs.Translate.{translate_answer, translate_out}
 use Rattle.lanyardrove.specs.Replies.{packed, translated_reply, translate_reply, of_translate}

@@ -1,7 +1,6 @@
 -- `lanyardrove::lanyardrove_view` meets its contract: the viewer's answer, packed, and the output. Assumes nothing.
 use mathlib.Core.Path.{◌≡◌, ap, ◌∙◌}
 use native.Mathlib.Omega.{arith}
-use borrow.Author.Rules.{rules}
 use lib.ListN.{length}
 use Rattle.rdp_view.specs.View.{framebuffer_at}
 use Rattle.lanyardrove.specs.Replies.{packed, plain, view_reply, of_view}

@@ -1,5 +1,4 @@
 -- `lanyardrove::lanyardrove_words` meets its contract, by that of `command_words`. Assumes nothing.
-use borrow.Author.Rules.{rules}
 use Rattle.lanyardrove.proofs.lanyardrove_words.Goals as goal
 
 pub returns : goal.returns

@@ -1,6 +1,5 @@
 -- `lanyardrove::pack` meets its contract. Assumes nothing.
 use mathlib.Core.Path.{refl}
-use borrow.Author.Rules.{rules}
 use Rattle.lanyardrove.specs.Replies.{packed}
 use Rattle.lanyardrove.proofs.pack.Goals as goal
 

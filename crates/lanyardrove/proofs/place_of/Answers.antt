@@ -1,6 +1,5 @@
 -- `lanyardrove::place_of` meets its contract. Assumes nothing.
 use native.Mathlib.Omega.{arith}
-use borrow.Author.Rules.{rules}
 use Rattle.lanyardrove.proofs.place_of.Goals as goal
 
 pub returns-then-byte-lt4294967295 : goal.returns-then-byte-lt4294967295

@@ -1,6 +1,5 @@
 -- `lanyardrove::third_of` meets its contract. Assumes nothing.
 use native.Mathlib.Omega.{arith}
-use borrow.Author.Rules.{rules}
 use Rattle.lanyardrove.proofs.third_of.Goals as goal
 
 pub returns-then-count-lt16777215 : goal.returns-then-count-lt16777215

@@ -1,7 +1,6 @@
 -- `lanyardrove::third_of_sync` meets its contract. Assumes nothing.
 use mathlib.Core.Path.{sym}
 use native.Mathlib.Nat.{add-zero}
-use borrow.Author.Rules.{rules}
 use Rattle.lanyardrove.proofs.third_of_sync.Goals as goal
 
 pub returns-then-missing : goal.returns-then-missing

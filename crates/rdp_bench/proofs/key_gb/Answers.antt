@@ -1,6 +1,5 @@
 -- `rdp_bench::key_gb` meets its contract: the numbers of its parts, joined.
 use mathlib.Core.Path.{◌∙◌}
-use borrow.Author.Rules.{rules}
 use Rattle.rdp_bench.specs.Mixed.{mixed_five}
 use Rattle.rdp_bench.proofs.key_gb.Goals as goal
 

@@ -1,7 +1,6 @@
 -- `rdp_bench::lanyardrove_bench_registers` meets its contract: the numbers of the groups, joined, of the state that layer 2 answers.
 use mathlib.Core.Path.{ap, ◌∙◌}
 use lib.Bits.{bit_xor}
-use borrow.Author.Rules.{rules}
 use Rattle.rdp_bench.specs.Mixed.{mixed_five, mixed_of}
 use Rattle.rdp_bench.proofs.lanyardrove_bench_registers.Goals as goal
 

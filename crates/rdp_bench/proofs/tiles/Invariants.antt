@@ -1,12 +1,8 @@
 -- `rdp_bench::tiles` meets its contract: what is mixed in so far, with the tiles still to come, is all.
-use Prim.Native.Nat.{◌-◌, ◌<◌, ◌≤◌}
-use mathlib.Core.Path.{◌≡◌, sym, ◌∙◌}
-use native.Mathlib.Numerals.{add-one}
-use native.Mathlib.Omega.{arith}
-use lib.ListN.{length, drop}
-use borrow.Author.Rules.{rules}
+use Prim.Native.Nat.{◌-◌, ◌≤◌}
+use mathlib.Core.Path.{◌≡◌}
+use lib.ListN.{drop}
 use Rattle.rdp_bench.specs.Mixed.{mixed_tiles}
-use Rattle.rdp_bench.proofs.TileLaws.{one_more, none_left}
 use Rattle.rdp_bench.proofs.tiles.Given as goal
 
 abbrev pub invariant-loop-i : goal.invariant-loop-i

@@ -1,6 +1,5 @@
 -- `rdp_block::block_refusal` meets its contract. Assumes nothing.
 use mathlib.Core.Path.{sym, ◌∙◌}
-use borrow.Author.Rules.{rules}
 use borrow.Author.Tests.{not-true, not-false}
 use Rattle.rdp_block.proofs.BlockLaws.{block-broken, block-refusal-is}
 use Rattle.std.proofs.Common.{not, ap}

@@ -1,5 +1,4 @@
 -- `rdp_block::load_texels` meets its contract. Assumes nothing.
-use borrow.Author.Rules.{rules}
 use lib.ListN.{length}
 use Rattle.rdp_block.proofs.BlockLaws.{block-fits, block-loaded}
 use Rattle.rdp_block.proofs.load_texels.Goals as goal

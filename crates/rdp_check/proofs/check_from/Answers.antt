@@ -1,5 +1,4 @@
 -- `rdp_check::check_from` meets its contract, by the walk from the checkpoint's view. Assumes nothing.
-use borrow.Author.Rules.{rules}
 use Rattle.rdp_check.proofs.OnwardLaws.{from-over, from-stop}
 use Rattle.rdp_check.proofs.check_from.Goals as goal
 

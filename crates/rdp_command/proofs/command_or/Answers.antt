@@ -1,4 +1,3 @@
-use borrow.Author.Rules.{rules}
 use mathlib.Core.Path.{ap}
 use Rattle.rdp_command.specs.Decode.{decoded_from}
 use Rattle.rdp_command.specs.declared.Decoded.TheVariants.{Whole}

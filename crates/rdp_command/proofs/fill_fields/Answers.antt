@@ -1,4 +1,3 @@
-use borrow.Author.Rules.{rules}
 use Rattle.rdp_command.proofs.fill_fields.Goals as goal
 
 pub returns : goal.returns

@@ -1,5 +1,4 @@
 use mathlib.Core.Path.{ap, ◌∙◌}
-use borrow.Author.Rules.{rules}
 use Rattle.rdp_command.specs.Reads.{head_of}
 use Rattle.rdp_command.proofs.head_at.Goals as goal
 

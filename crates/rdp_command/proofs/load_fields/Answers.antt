@@ -1,5 +1,4 @@
 use mathlib.Core.Bool.{not}
-use borrow.Author.Rules.{rules}
 use lib.Dec.{eqb}
 use Rattle.rdp_command.proofs.load_fields.Goals as goal
 

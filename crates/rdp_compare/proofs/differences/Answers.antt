@@ -2,7 +2,6 @@ use native.Mathlib.Nat.{suc-ne-zero}
 use native.Mathlib.Omega.{arith}
 use lib.ListN.{length}
 use Rattle.rdp_compare.proofs.GroundLaws.{first-sound, second-sound, not-decoded, no_room, enough, untouched, written}
-use borrow.Author.Rules.{rules}
 use Rattle.rdp_compare.proofs.differences.Goals as goal
 
 pub returns-then-found-ne0 : goal.returns-then-found-ne0

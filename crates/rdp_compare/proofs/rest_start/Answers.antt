@@ -1,7 +1,6 @@
 use mathlib.Core.Path.{◌∙◌}
 use native.Mathlib.Nat.{suc-ne-zero}
 use Rattle.rdp_compare.proofs.GroundLaws.{first-sound, second-sound, not-decoded, no_room, enough, refused_end, handed}
-use borrow.Author.Rules.{rules}
 use Rattle.rdp_compare.proofs.rest_start.Goals as goal
 
 pub returns-then-found-ne0 : goal.returns-then-found-ne0

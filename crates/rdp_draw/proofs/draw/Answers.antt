@@ -1,7 +1,6 @@
 -- `rdp_draw::draw` meets its contract: the answer and the memories at each return. Assumes nothing.
 use mathlib.Core.Path.{◌≡◌, refl, sym, ap, ◌∙◌}
 use native.Mathlib.Omega.{arith}
-use borrow.Author.Rules.{rules}
 use Rattle.rdp_command.specs.Decode.{answer}
 use Rattle.rdp_check.specs.Check.{check_of}
 use Rattle.rdp_draw.specs.Draw.{memories}

@@ -1,5 +1,4 @@
 use Rattle.rdp_encode.proofs.Spreading.{usable}
-use borrow.Author.Rules.{rules}
 use Rattle.rdp_encode.proofs.encode.Goals as goal
 
 pub write_numbers-requires : goal.write_numbers-requires

@@ -1,5 +1,4 @@
 use Rattle.rdp_encode.proofs.Spreading.{usable}
-use borrow.Author.Rules.{rules}
 use Rattle.rdp_encode.proofs.fields.Goals as goal
 
 pub write_values-requires : goal.write_values-requires

@@ -1,6 +1,5 @@
 -- `rdp_fill::is_inside` meets its contract. Assumes nothing.
 use mathlib.Core.Path.{◌∙◌}
-use borrow.Author.Rules.{rules}
 use Rattle.rdp_fill.proofs.AreaLaws.{inside-area}
 use Rattle.rdp_fill.proofs.is_inside.Goals as goal
 

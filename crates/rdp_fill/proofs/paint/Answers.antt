@@ -1,6 +1,5 @@
 -- `rdp_fill::paint` meets its contract. Assumes nothing.
 use mathlib.Core.Path.{sym, ◌∙◌}
-use borrow.Author.Rules.{rules}
 use Rattle.rdp_fill.proofs.AreaLaws.{leaves-painted, leaves_all}
 use Rattle.rdp_fill.proofs.paint.Goals as goal
 

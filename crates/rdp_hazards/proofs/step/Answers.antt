@@ -2,7 +2,6 @@
 use mathlib.Core.Path.{◌∙◌}
 use Prim.Native.Nat.{◌%◌}
 use native.Mathlib.Omega.{arith}
-use borrow.Author.Rules.{rules}
 use Rattle.rdp_hazards.proofs.HazardLaws.{entry-any, entry-parts}
 use Rattle.rdp_hazards.proofs.step.Goals as goal
 

@@ -3,7 +3,6 @@ use mathlib.Core.Path.{ap, ◌∙◌}
 use native.Mathlib.Omega.{arith}
 use Rattle.rdp_index.specs.Index.{index_answer}
 use Rattle.rdp_index.proofs.ReplaceLaws.{replaced, new-whole, replace-refused, replace-done}
-use borrow.Author.Rules.{rules}
 use Rattle.rdp_index.proofs.replace.Goals as goal
 
 pub returns-then-number-ne0 : goal.returns-then-number-ne0

@@ -1,6 +1,5 @@
 -- `rdp_pixels::end_kept` meets its contract. Assumes nothing.
 use native.Mathlib.Omega.{arith}
-use borrow.Author.Rules.{rules}
 use Rattle.rdp_pixels.proofs.end_kept.Goals as goal
 
 pub returns-then-past-end : goal.returns-then-past-end

@@ -1,6 +1,5 @@
 -- `rdp_pixels::first_kept` meets its contract. Assumes nothing.
 use native.Mathlib.Omega.{arith}
-use borrow.Author.Rules.{rules}
 use Rattle.rdp_pixels.proofs.first_kept.Goals as goal
 
 pub returns-then-first-edge : goal.returns-then-first-edge

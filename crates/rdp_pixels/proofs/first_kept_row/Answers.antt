@@ -2,7 +2,6 @@
 use mathlib.Core.Path.{◌≡◌}
 use mathlib.Core.Bool.{true, false}
 use native.Mathlib.Omega.{arith}
-use borrow.Author.Rules.{rules}
 use Rattle.rdp_pixels.specs.Kept.{line_kept, first_kept, kept_from}
 use Rattle.rdp_pixels.proofs.first_kept_row.Goals as goal
 

@@ -1,5 +1,4 @@
 -- `rdp_repair::repair` meets its contract: what either repair ensures, read as the first one's. Assumes nothing.
-use borrow.Author.Rules.{rules}
 use Rattle.rdp_repair.specs.Repair.{LeastRepair}
 use Rattle.rdp_repair.proofs.RepairLaws.{first-least, repairs-by}
 use Rattle.rdp_repair.proofs.repair.Goals as goal

@@ -1,5 +1,4 @@
 -- `rdp_repair::repair_afresh` meets its contract: what either repair ensures, read as the second one's. Assumes nothing.
-use borrow.Author.Rules.{rules}
 use Rattle.rdp_repair.specs.Afresh.{LeastAfresh}
 use Rattle.rdp_repair.proofs.RepairLaws.{second-least, repairs-by}
 use Rattle.rdp_repair.proofs.repair_afresh.Goals as goal

@@ -1,7 +1,6 @@
 -- `rdp_repair::repair_by` meets its contract: the refusals of the list by the check's walk, those of the room and the repair by `RepairLaws`. Assumes nothing.
 use mathlib.Core.Path.{◌≡◌, refl, sym, ◌∙◌}
 use native.Mathlib.Omega.{arith}
-use borrow.Author.Rules.{rules}
 use Rattle.rdp_check.specs.Check.{repair_refusals, outcome_within}
 use Rattle.rdp_check.proofs.FirstLaws.{own-numbered}
 use Rattle.rdp_repair.proofs.RepairedLaws.{sound, count_most}

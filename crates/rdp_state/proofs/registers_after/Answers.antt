@@ -2,7 +2,6 @@
 use mathlib.Core.Path.{ap, ◌∙◌}
 use Rattle.rdp_state.specs.Replay.{end_of}
 use Rattle.rdp_state.proofs.ReplayLaws.{final, registers-final, outcome-registers}
-use borrow.Author.Rules.{rules}
 use Rattle.rdp_state.proofs.registers_after.Goals as goal
 
 pub returns : goal.returns

@@ -2,7 +2,6 @@
 use Prim.Native.Nat.{◌<◌, ◌%◌}
 use native.Mathlib.Omega.{arith}
 use native.Mathlib.Nat.{mod-lt}
-use borrow.Author.Rules.{rules}
 use borrow.Author.Tests.{eq-eqb, ne_eqb}
 use lib.Dec.{lit<}
 use Rattle.rdp_state.specs.RegisterWords.{tile_in}

@@ -4,7 +4,6 @@ use Rattle.rdp_texels.proofs.ActLaws.{copy-ready, copy-are, copy-none}
 use lib.ListN.{length}
 use mathlib.Core.List.{List}
 use mathlib.Core.Path.{ap, sym, ◌∙◌}
-use borrow.Author.Rules.{rules}
 use Rattle.rdp_texels.proofs.copy_pixels.Goals as goal
 
 pub copy_rows-requires : goal.copy_rows-requires

@@ -2,7 +2,6 @@
 use Rattle.rdp_texels.proofs.ActLaws.{copy-broken, copy-refusal-is}
 use borrow.Author.Tests.{not-true, not-false}
 use mathlib.Core.Path.{sym, ◌∙◌}
-use borrow.Author.Rules.{rules}
 use Rattle.std.proofs.Common.{not, ap}
 use Rattle.rdp_texels.proofs.copy_refusal.Goals as goal
 

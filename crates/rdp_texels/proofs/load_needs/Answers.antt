@@ -1,6 +1,5 @@
 -- `rdp_texels::load_needs` meets its contract. Assumes nothing.
 use Rattle.rdp_texels.specs.Load.{load_needs}
-use borrow.Author.Rules.{rules}
 use Rattle.rdp_texels.proofs.load_needs.Goals as goal
 
 pub returns : goal.returns

@@ -1,6 +1,5 @@
 -- `rdp_texels::load_run` meets its contract. Assumes nothing.
 use mathlib.Core.Path.{sym, ◌∙◌}
-use borrow.Author.Rules.{rules}
 use Rattle.rdp_texels.proofs.ActLaws.{run-parts, run-loads, run-stays}
 use Rattle.rdp_texels.proofs.load_run.Goals as goal
 

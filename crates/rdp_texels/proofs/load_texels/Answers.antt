@@ -4,7 +4,6 @@ use Rattle.rdp_texels.proofs.ActLaws.{load-ready, load-are, load-none}
 use lib.ListN.{length}
 use mathlib.Core.List.{List}
 use mathlib.Core.Path.{ap, sym, ◌∙◌}
-use borrow.Author.Rules.{rules}
 use Rattle.rdp_texels.proofs.load_texels.Goals as goal
 
 pub load_rows-requires : goal.load_rows-requires

@@ -6,7 +6,6 @@ use Rattle.rdp_texels.proofs.ActLaws.{wrong_size, right-size, left_alone, done}
 use lib.ListN.{length}
 use native.Mathlib.Omega.{arith}
 use mathlib.Core.Path.{sym, ◌∙◌}
-use borrow.Author.Rules.{rules}
 use Rattle.rdp_texels.proofs.load_tile.Goals as goal
 
 pub returns-then-texture-ne-TEXTURE_BYTES : goal.returns-then-texture-ne-TEXTURE_BYTES

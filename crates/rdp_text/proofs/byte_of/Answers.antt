@@ -1,6 +1,5 @@
 -- `rdp_text::byte_of` meets its contract: its tests are the definition's. Assumes nothing.
 use borrow.Author.Tests.{lt-ltb, le-ltb}
-use borrow.Author.Rules.{rules}
 use Rattle.rdp_text.proofs.byte_of.Goals as goal
 
 pub returns-then-place-words : goal.returns-then-place-words

@@ -1,7 +1,6 @@
 -- `rdp_text::character` meets its contract: its tests are the definition's. Assumes nothing.
 use borrow.Author.Tests.{eq-eqb, ne_eqb, lt-ltb, le-ltb}
 use Rattle.rdp_text.specs.Text.{character_of}
-use borrow.Author.Rules.{rules}
 use Rattle.rdp_text.proofs.character.Goals as goal
 
 pub returns-then-k-eq0 : goal.returns-then-k-eq0

@@ -1,12 +1,9 @@
 -- `rdp_text::lay` meets its contract: after i turns the first i bytes are written. Assumes nothing.
-use Prim.Native.Nat.{ℕ, ◌≤◌, ◌<◌, ◌-◌, zero-le}
-use mathlib.Core.List.{List}
-use mathlib.Core.Path.{◌≡◌, ap, ◌∙◌}
-use native.Mathlib.Omega.{arith}
-use lib.ListN.{length, set}
-use borrow.Author.Rules.{rules}
+use Prim.Native.Nat.{◌≤◌, ◌-◌}
+use mathlib.Core.Path.{◌≡◌}
+use lib.ListN.{length}
 use Rattle.rdp_text.specs.Text.{byte_in}
-use Rattle.rdp_text.proofs.FirstLaws.{written, written_none, written-more, written_all, length-written}
+use Rattle.rdp_text.proofs.FirstLaws.{written}
 use Rattle.rdp_text.proofs.lay.Given as goal
 
 -- `rdp_text::lay` meets its contract: after i turns the first i bytes are written. Assumes nothing.

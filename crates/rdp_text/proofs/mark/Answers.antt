@@ -1,6 +1,5 @@
 -- `rdp_text::mark` meets its contract: its tests are the definition's. Assumes nothing.
 use borrow.Author.Tests.{eq-eqb, ne_eqb}
-use borrow.Author.Rules.{rules}
 use Rattle.rdp_text.proofs.mark.Goals as goal
 
 -- `rdp_text::mark` meets its contract: its tests are the definition's. Assumes nothing.

@@ -1,12 +1,11 @@
 -- `rdp_text::spell` meets its contract: after k turns the first k characters are written. Assumes nothing.
-use Prim.Native.Nat.{ℕ, ◌≤◌, ◌<◌, ◌-◌, zero-le}
+use Prim.Native.Nat.{ℕ, ◌<◌, zero-le}
 use mathlib.Core.List.{List}
 use mathlib.Core.Path.{◌≡◌, ap, ◌∙◌}
 use native.Mathlib.Omega.{arith}
 use lib.ListN.{length, set}
-use borrow.Author.Rules.{rules}
 use Rattle.rdp_text.specs.Text.{character_of}
-use Rattle.rdp_text.proofs.FirstLaws.{written, written_none, written-more, written_all, length-written}
+use Rattle.rdp_text.proofs.FirstLaws.{written_none, written-more, written_all, length-written}
 use Rattle.rdp_text.proofs.spell.Goals.{At-loop-k}
 use Rattle.rdp_text.proofs.spell.Goals as goal
 
@@ -29,10 +28,13 @@ loop-k-smaller c = omega (arith, long (goal.at.loop-k-smaller c).At-loop-k)
 
 pub loop-k-preserved : goal.loop-k-preserved
 loop-k-preserved c =
-    let inside : c.loop-k.k < length (text (goal.at.loop-k-preserved c).At-loop-k) = omega (arith, long (goal.at.loop-k-preserved c).At-loop-k) in (
+    let there = (goal.at.loop-k-preserved c).At-loop-k in
+    let inside : c.loop-k.k < length (text there) = omega (arith, long there) in (
       omega (arith, inside),
-      (λ j. set (c.loop-k.invariant.1 j) c.loop-k.k (c.character.ensures j)) ∙ written-more (wanted (goal.at.loop-k-preserved c).At-loop-k) (text (goal.at.loop-k-preserved c).At-loop-k) c.loop-k.k inside,
+      (λ j. set (c.loop-k.invariant.1 j) c.loop-k.k (c.character.ensures j)) ∙ written-more (wanted there) (text there) c.loop-k.k inside,
     )
 
 pub returns : goal.returns
-returns c = c.loop-k.invariant.1 ∙ written_all (wanted (goal.at.returns c).At-loop-k) (text (goal.at.returns c).At-loop-k) c.loop-k.k (omega (arith, long (goal.at.returns c).At-loop-k))
+returns c =
+    let there = (goal.at.returns c).At-loop-k in
+    c.loop-k.invariant.1 ∙ written_all (wanted there) (text there) c.loop-k.k (omega (arith, long there))

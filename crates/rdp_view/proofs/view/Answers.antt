@@ -4,7 +4,6 @@ use mathlib.Core.Bool.{false}
 use mathlib.Core.List.{List}
 use Prim.Native.Nat.{ℕ, ◌+◌, ◌*◌, ◌-◌, ◌≤◌}
 use native.Mathlib.Omega.{arith}
-use borrow.Author.Rules.{rules}
 use lib.ListN.{length, take, drop}
 use Rattle.rdp_command.specs.Decode.{answer}
 use Rattle.rdp_words.specs.Words.{overwrite}
@@ -75,13 +74,15 @@ pixel_count-count-requires c =
 
 pub returns-then-is_outside : goal.returns-then-is_outside
 returns-then-is_outside c =
-    let r = refused-12 (memory (goal.at.returns-then-is_outside c).After-is_outside) c.args.start (image (goal.at.returns-then-is_outside c).After-is_outside) c.args.out.now (fit (goal.at.returns-then-is_outside c).After-is_outside) (sym (outside-is (goal.at.returns-then-is_outside c).After-is_outside) ∙ c.if-is_outside.true) in
+    let there = (goal.at.returns-then-is_outside c).After-is_outside in
+    let r = refused-12 (memory there) c.args.start (image there) c.args.out.now (fit there) (sym (outside-is there) ∙ c.if-is_outside.true) in
     record { answer = r.answers; output = r.leaves }
 
 pub returns-then-out-needed : goal.returns-then-out-needed
 returns-then-out-needed c =
-    let r = refused-14 (memory (goal.at.returns-then-out-needed c).After-is_outside) c.args.start (image (goal.at.returns-then-out-needed c).After-is_outside) c.args.out.now (fit (goal.at.returns-then-out-needed c).After-is_outside) (inside (goal.at.returns-then-out-needed c).After-is_outside c.if-is_outside.false) (omega (arith, count-is (goal.at.returns-then-out-needed c).After-is_outside, c.if-out-needed.true)) in
-    record { answer = ap (λ (k : ℕ). answer 14 (4 * k)) (count-is (goal.at.returns-then-out-needed c).After-is_outside) ∙ r.answers; output = r.leaves }
+    let there = (goal.at.returns-then-out-needed c).After-is_outside in
+    let r = refused-14 (memory there) c.args.start (image there) c.args.out.now (fit there) (inside there c.if-is_outside.false) (omega (arith, count-is there, c.if-out-needed.true)) in
+    record { answer = ap (λ (k : ℕ). answer 14 (4 * k)) (count-is there) ∙ r.answers; output = r.leaves }
 
 pub overflow_sub-from : goal.overflow_sub-from
 overflow_sub-from c = inside-start _ _ _ _ (inside (goal.at.overflow_sub-from c).After-is_outside c.if-is_outside.false)
@@ -98,7 +99,8 @@ write-requires c =
 
 pub returns : goal.returns
 returns c =
+    let there = (goal.at.returns c).After-is_outside in
     let out = c.args.out.now in
     let r =
-    viewed (memory (goal.at.returns c).After-is_outside) c.args.start (image (goal.at.returns c).After-is_outside) out (fit (goal.at.returns c).After-is_outside) (inside (goal.at.returns c).After-is_outside c.if-is_outside.false) (omega (arith, count-is (goal.at.returns c).After-is_outside, c.if-out-needed.false)) _ (written_is (goal.at.returns c).After-is_outside out _ c.write.ensures) in
-    record { answer = ap (λ (k : ℕ). answer 0 (4 * k)) (count-is (goal.at.returns c).After-is_outside) ∙ r.answers; output = r.leaves }
+    viewed (memory there) c.args.start (image there) out (fit there) (inside there c.if-is_outside.false) (omega (arith, count-is there, c.if-out-needed.false)) _ (written_is there out _ c.write.ensures) in
+    record { answer = ap (λ (k : ℕ). answer 0 (4 * k)) (count-is there) ∙ r.answers; output = r.leaves }

@@ -1,6 +1,5 @@
 -- `rdp_words::command_words` meets its contract: the words of its number are those of its bits. Assumes nothing.
 use mathlib.Core.Path.{ap, ◌∙◌}
-use borrow.Author.Rules.{rules}
 use Rattle.rdp_words.specs.Kinds.{words_of}
 use Rattle.rdp_words.proofs.PlaceLaws.{command-words}
 use Rattle.rdp_words.proofs.command_words.Goals as goal

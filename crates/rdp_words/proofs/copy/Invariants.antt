@@ -1,11 +1,8 @@
 -- `rdp_words::copy` meets its contract: after i turns the first i bytes are copied. Assumes nothing.
-use Prim.Native.Nat.{ℕ, ◌≤◌, ◌-◌, zero-le, min}
-use mathlib.Core.List.{List}
-use mathlib.Core.Path.{◌≡◌, refl, ap, ◌∙◌}
-use native.Mathlib.Omega.{arith}
-use lib.ListN.{length, take, set, get_or}
-use Rattle.rdp_words.specs.Words.{overwrite}
-use Rattle.rdp_words.proofs.OverwriteLaws.{copied, copied_more, copied-both, length-copied}
+use Prim.Native.Nat.{◌≤◌, ◌-◌}
+use mathlib.Core.Path.{◌≡◌}
+use lib.ListN.{length}
+use Rattle.rdp_words.proofs.OverwriteLaws.{copied}
 use Rattle.rdp_words.proofs.copy.Given as goal
 
 -- `rdp_words::copy` meets its contract: after i turns the first i bytes are copied. Assumes nothing.

@@ -5,7 +5,6 @@ use native.Mathlib.Omega.{arith}
 use lib.ListN.{get_or}
 use lib.Seq.{get_or-drop}
 use Rattle.rdp_words.specs.Words.{half_of}
-use borrow.Author.Rules.{rules}
 use Rattle.rdp_words.proofs.half_at.Goals as goal
 
 pub overflow_cast-result : goal.overflow_cast-result

@@ -5,7 +5,6 @@ use borrow.Author.Tests.{lt-ltb, le-ltb}
 use Rattle.rdp_words.specs.Words.{number_in}
 use Rattle.rdp_words.specs.Kinds.{words_of}
 use Rattle.rdp_words.specs.Lengths.{first_number, whole_words}
-use borrow.Author.Rules.{rules}
 use Rattle.rdp_words.proofs.whole_words.Goals.{After-words_of-n}
 use Rattle.rdp_words.proofs.whole_words.Goals as goal
 
@@ -18,4 +17,6 @@ returns-then-list-n c = (rw (lt-ltb _ _ (rw (counted (goal.at.returns-then-list-
 
 pub returns-else-list-n : goal.returns-else-list-n
 unfolding whole_words
-returns-else-list-n c = (counted (goal.at.returns-else-list-n c).After-words_of-n ∙ rw (le-ltb _ _ (rw (counted (goal.at.returns-else-list-n c).After-words_of-n) at c.if-list-n.false)), omega arith)
+returns-else-list-n c =
+    let there = (goal.at.returns-else-list-n c).After-words_of-n in
+    (counted there ∙ rw (le-ltb _ _ (rw (counted there) at c.if-list-n.false)), omega arith)

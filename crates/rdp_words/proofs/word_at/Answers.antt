@@ -4,7 +4,6 @@ use native.Mathlib.Omega.{arith}
 use lib.Seq.{drop-drop}
 use borrow.Author.Tests.{lt-ltb, le-ltb}
 use Rattle.rdp_words.specs.Words.{half_of, word_at}
-use borrow.Author.Rules.{rules}
 use Rattle.rdp_words.proofs.word_at.Goals as goal
 
 pub overflow_mul-result : goal.overflow_mul-result

@@ -1,6 +1,5 @@
 use borrow.Author.Tests.{eq-eqb, ne_eqb}
 use Rattle.rdp_words.proofs.KindLaws.{words-one, words_long}
-use borrow.Author.Rules.{rules}
 use Rattle.std.proofs.Common.{not, ap}
 use Rattle.rdp_words.proofs.words_of.Goals as goal
 

@@ -1,6 +1,5 @@
 -- `f3dex2::command::action_for` meets its contract: by what is due, and by the number of a half-word.
 use borrow.Author.Tests.{eq-eqb, ne_eqb}
-use borrow.Author.Rules.{rules}
 use Rattle.f3dex2.proofs.command.action_for.Goals as goal
 
 pub returns-then-number-eq225 : goal.returns-then-number-eq225

@@ -1,5 +1,4 @@
 use borrow.Author.Tests.{ne_eqb}
-use borrow.Author.Rules.{rules}
 use Rattle.f3dex2.proofs.command.after_command.Goals as goal
 
 pub returns-then-number-eq239 : goal.returns-then-number-eq239

@@ -1,6 +1,5 @@
 use borrow.Author.Tests.{eq-eqb, ne_eqb}
 use Rattle.f3dex2.specs.Commands.{role_of}
-use borrow.Author.Rules.{rules}
 use Rattle.f3dex2.proofs.command.command_action.Goals as goal
 
 pub returns-then-number-w : goal.returns-then-number-w

@@ -1,6 +1,5 @@
 -- `f3dex2::command::list_action` meets its contract, by the address and the parameter.
 use borrow.Author.Tests.{eq-eqb, ne_eqb}
-use borrow.Author.Rules.{rules}
 use Rattle.f3dex2.proofs.command.list_action.Goals as goal
 
 pub returns-then-w-ne0 : goal.returns-then-w-ne0

@@ -3,7 +3,6 @@ use native.Mathlib.Nat.{lt_of_le_of_lt}
 use native.Mathlib.Omega.{arith}
 use lib.Bits.{bit_and, or_lt, and_le_l}
 use Rattle.f3dex2.proofs.MaskLaws.{some, below, mask_is}
-use borrow.Author.Rules.{rules}
 use Rattle.f3dex2.proofs.command.mask_in.Goals as goal
 
 pub overflow_sub-mask : goal.overflow_sub-mask

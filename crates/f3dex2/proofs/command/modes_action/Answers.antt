@@ -1,6 +1,5 @@
 -- `f3dex2::command::modes_action` meets its contract.
 use borrow.Author.Tests.{le-leb, lt-leb}
-use borrow.Author.Rules.{rules}
 use Rattle.f3dex2.proofs.command.modes_action.Goals as goal
 
 pub returns-then-top-gt32 : goal.returns-then-top-gt32

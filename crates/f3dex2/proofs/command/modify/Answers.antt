@@ -2,7 +2,6 @@
 use native.Mathlib.Omega.{arith}
 use borrow.Author.Tests.{le-leb, lt-leb}
 use Rattle.f3dex2.specs.Commands.{modified}
-use borrow.Author.Rules.{rules}
 use Rattle.f3dex2.proofs.command.modify.Goals as goal
 
 pub mask_in-requires : goal.mask_in-requires

@@ -1,5 +1,4 @@
 use Rattle.f3dex2.specs.Commands.{setting_after}
-use borrow.Author.Rules.{rules}
 use Rattle.f3dex2.proofs.command.setting_after.Goals as goal
 
 pub returns-in-Command : goal.returns-in-Command

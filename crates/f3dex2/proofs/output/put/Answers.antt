@@ -4,7 +4,6 @@ use lib.ListN.{length}
 use borrow.Author.Tests.{le-leb, lt-leb}
 use Rattle.rdp_words.proofs.OverwriteLaws.{part-copied}
 use Rattle.f3dex2.specs.Steps.{put_word}
-use borrow.Author.Rules.{rules}
 use Rattle.f3dex2.proofs.output.put.Goals as goal
 
 pub returns-then-k-out : goal.returns-then-k-out

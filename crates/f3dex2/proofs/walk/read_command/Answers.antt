@@ -1,6 +1,5 @@
 use native.Mathlib.Omega.{arith}
 use Rattle.f3dex2.proofs.StepLaws.{Reading, reading, unread, offset-fits, unknown, invalid, writes, passes, branches, ends, calls, too-deep}
-use borrow.Author.Rules.{rules}
 use Rattle.f3dex2.proofs.walk.read_command.Goals.{After-action_for}
 use Rattle.f3dex2.proofs.walk.read_command.Goals as goal
 

@@ -3,7 +3,6 @@ use mathlib.Core.Path.{refl}
 use Prim.Native.Nat.{◌+◌, ◌-◌, ◌*◌}
 use native.Mathlib.Nat.{div-le_self}
 use native.Mathlib.Omega.{arith}
-use borrow.Author.Rules.{rules}
 use Rattle.rdp_block.proofs.LineLaws.{flat_line, line-early, line-late}
 use Rattle.rdp_block.proofs.loading.line_end.Goals as goal
 

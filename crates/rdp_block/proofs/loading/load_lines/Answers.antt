@@ -4,7 +4,7 @@ use Prim.Native.Nat.{◌-◌}
 use native.Mathlib.Omega.{arith}
 use borrow.Author.Rules.{rules}
 use Rattle.rdp_block.proofs.LineLaws.{line-falls, line_same}
-use Rattle.rdp_block.proofs.StripLaws.{Due, due-first, due-line, due-done, run-loaded}
+use Rattle.rdp_block.proofs.StripLaws.{due-first, due-line, due-done, run-loaded}
 use Rattle.rdp_block.proofs.loading.load_lines.Goals as goal
 
 pub overflow_sub-from : goal.overflow_sub-from

@@ -1,5 +1,4 @@
 -- `rdp_block::loading::load_strip` meets its contract. Assumes nothing.
-use borrow.Author.Rules.{rules}
 use Rattle.rdp_block.proofs.StripLaws.{two-parts}
 use Rattle.rdp_block.proofs.loading.load_strip.Goals as goal
 

@@ -1,7 +1,6 @@
 -- `rdp_block::loading::load_word` meets its contract. Assumes nothing.
 use native.Mathlib.Omega.{arith}
 use lib.ListN.{length-set}
-use borrow.Author.Rules.{rules}
 use Rattle.rdp_block.proofs.WordLaws.{word-part}
 use Rattle.rdp_block.proofs.loading.load_word.Goals as goal
 

@@ -1,13 +1,13 @@
 -- `rdp_block::loading::load_words` meets its contract. The loop's invariant: what is still to come of the whole words gives what was promised. Assumes nothing.
 use mathlib.Core.Path.{refl, ap, ◌∙◌}
-use Prim.Native.Nat.{ℕ, ◌-◌, ◌*◌, ◌/◌, ◌%◌, ◌≤◌}
+use Prim.Native.Nat.{ℕ, ◌*◌, ◌/◌, ◌%◌}
 use native.Mathlib.Nat.{sub-zero}
 use native.Mathlib.Omega.{arith}
 use lib.Dec.{eqb}
 use borrow.Author.Rules.{rules}
 use Rattle.rdp_texels.specs.Texels.{loaded}
 use Rattle.rdp_block.specs.Strips.{strip_moves}
-use Rattle.rdp_block.proofs.StripLaws.{Due, due-first, due-word, due-done, word-loaded}
+use Rattle.rdp_block.proofs.StripLaws.{due-first, due-word, due-done, word-loaded}
 use Rattle.rdp_block.proofs.WordLaws.{four-most, four-or-none}
 use Rattle.rdp_block.proofs.loading.load_words.Goals as goal
 

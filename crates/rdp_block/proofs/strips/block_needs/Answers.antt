@@ -1,5 +1,4 @@
 -- `rdp_block::strips::block_needs` meets its contract. Assumes nothing.
-use borrow.Author.Rules.{rules}
 use Rattle.rdp_block.specs.Block.{block_needs}
 use Rattle.rdp_block.proofs.strips.block_needs.Goals as goal
 

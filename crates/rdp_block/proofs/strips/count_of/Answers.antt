@@ -1,6 +1,5 @@
 -- `rdp_block::strips::count_of` meets its contract. Assumes nothing.
 use native.Mathlib.Omega.{arith}
-use borrow.Author.Rules.{rules}
 use Rattle.rdp_block.proofs.strips.count_of.Goals as goal
 
 pub returns-then-last-first : goal.returns-then-last-first

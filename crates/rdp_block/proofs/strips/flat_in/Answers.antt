@@ -1,5 +1,4 @@
 -- `rdp_block::strips::flat_in` meets its contract. Assumes nothing.
-use borrow.Author.Rules.{rules}
 use Rattle.rdp_block.proofs.EndLaws.{flat-early, flat-late}
 use Rattle.rdp_block.proofs.strips.flat_in.Goals as goal
 

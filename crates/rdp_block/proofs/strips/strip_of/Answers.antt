@@ -1,5 +1,4 @@
 -- `rdp_block::strips::strip_of` meets its contract. Assumes nothing.
-use borrow.Author.Rules.{rules}
 use Rattle.rdp_block.specs.Strips.{strip_of}
 use Rattle.rdp_block.proofs.strips.strip_of.Goals as goal
 

@@ -1,5 +1,4 @@
 -- `rdp_check::cause::awaited_by` meets its contract: a draw waits for loads, Set Tile for textured draws and loads, others for draws. Assumes nothing.
-use borrow.Author.Rules.{rules}
 use Rattle.rdp_check.proofs.CauseLaws.{awaits-load, awaits-tile, awaits-draw}
 use Rattle.rdp_check.proofs.cause.awaited_by.Goals as goal
 

@@ -1,11 +1,9 @@
 -- `rdp_check::cause::latest_among` meets its contract: from what was found, the latest of what is left is the answer. Assumes nothing.
 use Prim.Native.Nat.{◌-◌}
-use borrow.Author.Rules.{rules}
 use Rattle.rdp_words.specs.Kinds.{is_among}
 use Rattle.rdp_check.specs.Commands.{commands_of}
 use Rattle.rdp_check.specs.Cause.{latest}
-use Rattle.rdp_check.proofs.LeftLaws.{inside, falls}
-use Rattle.rdp_check.proofs.CauseLaws.{Seeking, seek-first, seek-next, seek-end}
+use Rattle.rdp_check.proofs.CauseLaws.{Seeking}
 use Rattle.rdp_check.proofs.cause.latest_among.Given as goal
 
 abbrev pub invariant-loop-at : goal.invariant-loop-at

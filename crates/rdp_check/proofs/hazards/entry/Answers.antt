@@ -1,5 +1,4 @@
 -- `rdp_check::hazards::entry` meets its contract: the table agrees with the rule. Assumes nothing.
-use borrow.Author.Rules.{rules}
 use Rattle.rdp_check.proofs.hazards.entry.Goals as goal
 
 pub returns : goal.returns

@@ -1,5 +1,4 @@
 -- `rdp_check::onward::code_of` meets its contract, by its test. Assumes nothing.
-use borrow.Author.Rules.{rules}
 use Rattle.rdp_check.proofs.onward.code_of.Goals as goal
 
 pub returns-then-set : goal.returns-then-set

@@ -3,7 +3,6 @@ use mathlib.Core.Bool.{Bool, not}
 use mathlib.Core.Path.{◌∙◌, ap}
 use Prim.Native.Nat.{ℕ}
 use lib.Dec.{eqb}
-use borrow.Author.Rules.{rules}
 use Rattle.rdp_command.specs.declared.FillFields.{FillFields}
 use Rattle.rdp_check.specs.View.{code, view_of}
 use Rattle.rdp_check.specs.Checkpoint.{registers_at}

@@ -8,7 +8,6 @@ use native.Mathlib.Omega.{arith}
 use lib.Dec.{lit<}
 use lib.ListN.{length, take}
 use lib.Seq.{length-take-le}
-use borrow.Author.Rules.{rules}
 use Rattle.rdp_check.specs.Checkpoint.{state_at}
 use Rattle.rdp_check.specs.View.{view_of, low_of, judged_view}
 use Rattle.rdp_check.proofs.OnwardLaws.{whole-commands}

@@ -1,5 +1,4 @@
 -- `rdp_check::walk::advance` meets its contract, by the contracts of what it calls. Assumes nothing.
-use borrow.Author.Rules.{rules}
 use Rattle.rdp_check.proofs.ViewLaws.{required-fits, advanced}
 use Rattle.rdp_check.proofs.walk.advance.Goals as goal
 

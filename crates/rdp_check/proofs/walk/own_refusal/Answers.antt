@@ -1,6 +1,5 @@
 -- `rdp_check::walk::own_refusal` meets its contract, by two tests over the command numbers. Assumes nothing.
 use mathlib.Core.Path.{sym, ◌∙◌}
-use borrow.Author.Rules.{rules}
 use Rattle.rdp_words.proofs.KindLaws.{draws-among, unassigned-among}
 use Rattle.rdp_check.proofs.walk.own_refusal.Goals as goal
 

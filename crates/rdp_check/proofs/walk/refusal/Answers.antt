@@ -1,5 +1,4 @@
 -- `rdp_check::walk::refusal` meets its contract: the refusals are tested in their order. Assumes nothing.
-use borrow.Author.Rules.{rules}
 use borrow.Author.Tests.{eq-eqb, ne_eqb}
 use Rattle.rdp_check.specs.View.{refusal_with}
 use Rattle.rdp_check.proofs.ViewLaws.{or-else}

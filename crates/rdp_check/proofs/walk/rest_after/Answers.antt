@@ -1,5 +1,4 @@
 -- `rdp_check::walk::rest_after` meets its contract: a line for each number that sets something. Assumes nothing.
-use borrow.Author.Rules.{rules}
 use borrow.Author.Tests.{ne_eqb}
 use Rattle.rdp_check.specs.View.{rest_after}
 use Rattle.rdp_check.proofs.walk.rest_after.Goals as goal

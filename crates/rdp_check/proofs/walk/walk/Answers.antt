@@ -1,13 +1,12 @@
 -- `rdp_check::walk::walk` meets its contract. The loop's invariant: the judgement of what is left is that of the whole list from the first view, and the numbers that are
 -- watched are those of the commands that must be. The measure is what is left of the words. Assumes nothing.
 use mathlib.Core.Path.{ap, ◌∙◌}
-use Prim.Native.Nat.{◌-◌, ◌<◌}
+use Prim.Native.Nat.{◌<◌}
 use native.Mathlib.Omega.{arith}
-use borrow.Author.Rules.{rules}
 use Rattle.rdp_hazards.proofs.HazardLaws.{next-read}
-use Rattle.rdp_check.specs.View.{view_after, Watches, judged_view}
+use Rattle.rdp_check.specs.View.{view_after}
 use Rattle.rdp_words.proofs.PlaceLaws.{number_small}
-use Rattle.rdp_check.proofs.WalkLaws.{Walked, first, ended, past, refused, falls, again, turn, stays, quick, quick-one}
+use Rattle.rdp_check.proofs.WalkLaws.{first, ended, past, refused, falls, again, turn, stays, quick, quick-one}
 use Rattle.std.proofs.Common.{not, ap}
 use Rattle.rdp_check.proofs.walk.walk.Goals as goal
 

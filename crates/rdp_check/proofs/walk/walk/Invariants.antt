@@ -1,14 +1,8 @@
 -- `rdp_check::walk::walk` meets its contract. The loop's invariant: the judgement of what is left is that of the whole list from the first view, and the numbers that are
 -- watched are those of the commands that must be. The measure is what is left of the words. Assumes nothing.
-use mathlib.Core.Path.{ap, ◌∙◌}
-use Prim.Native.Nat.{◌-◌, ◌<◌}
-use native.Mathlib.Omega.{arith}
-use borrow.Author.Rules.{rules}
-use Rattle.rdp_hazards.proofs.HazardLaws.{next-read}
-use Rattle.rdp_check.specs.View.{view_after, Watches, judged_view}
-use Rattle.rdp_words.proofs.PlaceLaws.{number_small}
-use Rattle.rdp_check.proofs.WalkLaws.{Walked, first, ended, past, refused, falls, again, turn, stays, quick, quick-one}
-use Rattle.std.proofs.Common.{not, ap}
+use Prim.Native.Nat.{◌-◌}
+use Rattle.rdp_check.specs.View.{Watches, judged_view}
+use Rattle.rdp_check.proofs.WalkLaws.{Walked}
 use Rattle.rdp_check.proofs.walk.walk.Given as goal
 
 abbrev pub invariant-loop-at : goal.invariant-loop-at

@@ -4,7 +4,6 @@ use mathlib.Core.Path.{ap, ◌∙◌}
 use Prim.Native.Nat.{◌/◌}
 use native.Mathlib.Omega.{arith}
 use lib.ListN.{length}
-use borrow.Author.Rules.{rules}
 use Rattle.rdp_check.specs.Cause.{cause_of}
 use Rattle.rdp_check.proofs.StopLaws.{list-seen}
 use Rattle.rdp_check.proofs.walk.walk_on.Goals as goal

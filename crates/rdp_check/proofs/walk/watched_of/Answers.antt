@@ -1,6 +1,5 @@
 -- `rdp_check::walk::watched_of` meets its contract, by one test over the command numbers for each constant. Assumes nothing.
 use mathlib.Core.Path.{sym, ◌∙◌}
-use borrow.Author.Rules.{rules}
 use Rattle.rdp_check.proofs.ViewLaws.{watches-all, watches-setters, watches-draws}
 use Rattle.rdp_check.proofs.walk.watched_of.Goals as goal
 

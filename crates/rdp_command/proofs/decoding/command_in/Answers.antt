@@ -7,7 +7,6 @@ use Rattle.rdp_command.specs.Commands.{command_of}
 use Rattle.rdp_command.specs.declared.Command.TheVariants.{FillTriangle, TextureRectangle, TextureRectangleFlip, SetKeyGb, SetKeyR, SetConvert, SetScissor, SetPrimitiveDepth, SetOtherModes, LoadTlut, SetTileSize, LoadBlock, LoadTile, SetTile, FillRectangle, SetFillColor, SetFogColor, SetBlendColor, SetPrimitiveColor, SetEnvironmentColor, SetCombineMode, SetTextureImage, SetDepthImage, SetColorImage, NoOperation}
 use Rattle.rdp_command.specs.declared.Base.{Base}
 use Rattle.rdp_command.proofs.CommandLaws.{at-number, at-triangle}
-use borrow.Author.Rules.{rules}
 use Rattle.rdp_command.proofs.decoding.command_in.Goals as goal
 
 abbrev words : Base → List ℕ

@@ -5,7 +5,6 @@ use lib.Dec.{eqb}
 use Rattle.rdp_words.specs.Words.{number_in}
 use Rattle.rdp_command.specs.Decode.{own_word}
 use Rattle.rdp_command.proofs.AnswerLaws.{first_gives}
-use borrow.Author.Rules.{rules}
 use Rattle.rdp_command.proofs.decoding.first_command.Goals as goal
 
 pub returns : goal.returns

@@ -1,5 +1,4 @@
 use Prim.Native.Nat.{◌/◌, ◌%◌, ◌^◌}
-use borrow.Author.Rules.{rules}
 use Rattle.rdp_command.proofs.read.primitive_color.Goals as goal
 
 pub returns : goal.returns

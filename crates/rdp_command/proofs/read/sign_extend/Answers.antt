@@ -8,7 +8,6 @@ use mir.ValLaws.{to_z_pos, to_z-of_z}
 use borrow.Author.Tests.{lt-ltb, le-ltb}
 use Rattle.rdp_command.specs.Fields.{twos_complement}
 use Rattle.rdp_command.proofs.Signed.{minus_one}
-use borrow.Author.Rules.{rules}
 use Rattle.rdp_command.proofs.read.sign_extend.Goals.{Else-raw-half}
 use Rattle.rdp_command.proofs.read.sign_extend.Goals as goal
 

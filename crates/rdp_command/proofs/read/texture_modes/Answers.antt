@@ -2,7 +2,6 @@ use mathlib.Core.List.{[], ◌∷◌}
 use Rattle.rdp_command.specs.Layout.{texture_modes_lines}
 use Rattle.rdp_command.specs.Fields.{fields_of}
 use Rattle.rdp_command.specs.Groups.{flag_at}
-use borrow.Author.Rules.{rules}
 use Rattle.rdp_command.proofs.read.texture_modes.Goals as goal
 
 pub returns : goal.returns

@@ -1,5 +1,4 @@
 use Rattle.rdp_command.proofs.Signed.{read_back}
-use borrow.Author.Rules.{rules}
 use Rattle.rdp_command.proofs.read.texture_step.Goals as goal
 
 pub returns : goal.returns

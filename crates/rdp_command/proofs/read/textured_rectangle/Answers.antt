@@ -2,7 +2,6 @@ use mathlib.Core.List.{[], ◌∷◌}
 use Rattle.rdp_command.specs.Layout.{textured_rectangle_lines}
 use Rattle.rdp_command.specs.Fields.{fields_of}
 use Rattle.rdp_command.specs.Groups.{nat_at}
-use borrow.Author.Rules.{rules}
 use Rattle.rdp_command.proofs.read.textured_rectangle.Goals as goal
 
 pub returns : goal.returns

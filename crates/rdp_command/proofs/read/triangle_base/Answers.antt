@@ -3,7 +3,6 @@ use Rattle.rdp_command.specs.Layout.{triangle_head_lines}
 use Rattle.rdp_command.specs.Fields.{fields_of}
 use Rattle.rdp_command.specs.Groups.{nat_at, flag_at}
 use Rattle.rdp_command.proofs.Signed.{read_back}
-use borrow.Author.Rules.{rules}
 use Rattle.rdp_command.proofs.read.triangle_base.Goals as goal
 
 pub returns : goal.returns

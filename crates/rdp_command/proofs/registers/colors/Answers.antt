@@ -1,4 +1,3 @@
-use borrow.Author.Rules.{rules}
 use Rattle.rdp_command.proofs.registers.colors.Goals as goal
 
 pub returns : goal.returns

@@ -1,4 +1,3 @@
-use borrow.Author.Rules.{rules}
 use Rattle.rdp_command.proofs.registers.combiner.Goals as goal
 
 pub returns : goal.returns

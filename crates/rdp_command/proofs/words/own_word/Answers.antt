@@ -1,5 +1,4 @@
 use borrow.Author.Tests.{lt-ltb, le-ltb}
-use borrow.Author.Rules.{rules}
 use Rattle.rdp_command.proofs.words.own_word.Goals as goal
 
 pub returns-then-k-n : goal.returns-then-k-n

@@ -5,7 +5,6 @@ use native.Mathlib.Omega.{arith}
 use borrow.Author.Tests.{eq-eqb, ne_eqb}
 use Rattle.rdp_compare.specs.Differing.{line_index}
 use Rattle.rdp_compare.proofs.DifferingLaws.{bit-most}
-use borrow.Author.Rules.{rules}
 use Rattle.rdp_compare.proofs.fieldwise.bit_of.Goals as goal
 
 pub overflow_add-result : goal.overflow_add-result

@@ -34,9 +34,10 @@ slice_bounds-field_bits-end-2 c =
 
 pub field_bits-bits-requires : goal.field_bits-bits-requires
 field_bits-bits-requires c =
+    let there = (goal.at.field_bits-bits-requires c).After-numbers_of-count in
     let a = c.requires in (
-      ap length (firsts (goal.at.field_bits-bits-requires c).After-numbers_of-count) ∙ as_many a ∙ sym (ap length (seconds (goal.at.field_bits-bits-requires c).After-numbers_of-other)),
-      rw (firsts (goal.at.field_bits-bits-requires c).After-numbers_of-count)
+      ap length (firsts there) ∙ as_many a ∙ sym (ap length (seconds (goal.at.field_bits-bits-requires c).After-numbers_of-other)),
+      rw (firsts there)
           (rw (sym c.numbers_of-count.ensures.count.0) c.numbers_of-count.ensures.count.1),
     )
 

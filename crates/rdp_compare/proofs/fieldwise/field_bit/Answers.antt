@@ -1,5 +1,4 @@
 use borrow.Author.Tests.{eq-eqb, ne_eqb}
-use borrow.Author.Rules.{rules}
 use Rattle.rdp_compare.proofs.fieldwise.field_bit.Goals as goal
 
 pub returns-then-x-y : goal.returns-then-x-y

@@ -1,8 +1,5 @@
-use Prim.Native.Nat.{◌-◌}
 use native.Mathlib.Omega.{arith}
-use lib.ListN.{length}
-use Rattle.rdp_compare.proofs.DifferingLaws.{Adding, adding-first, adding-small, adding-next, added}
-use borrow.Author.Rules.{rules}
+use Rattle.rdp_compare.proofs.DifferingLaws.{adding-first, adding-small, adding-next, added}
 use Rattle.rdp_compare.proofs.fieldwise.field_bits.Goals as goal
 
 pub loop-k-init : goal.loop-k-init

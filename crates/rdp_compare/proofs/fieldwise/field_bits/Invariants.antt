@@ -1,8 +1,6 @@
 use Prim.Native.Nat.{◌-◌}
-use native.Mathlib.Omega.{arith}
 use lib.ListN.{length}
-use Rattle.rdp_compare.proofs.DifferingLaws.{Adding, adding-first, adding-small, adding-next, added}
-use borrow.Author.Rules.{rules}
+use Rattle.rdp_compare.proofs.DifferingLaws.{Adding}
 use Rattle.rdp_compare.proofs.fieldwise.field_bits.Given as goal
 
 abbrev pub invariant-loop-k : goal.invariant-loop-k

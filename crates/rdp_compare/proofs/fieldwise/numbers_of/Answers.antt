@@ -1,7 +1,6 @@
 use mathlib.Core.Path.{◌≡◌}
 use Rattle.rdp_command.specs.Decode.{decode_of}
 use Rattle.rdp_compare.proofs.DifferingLaws.{base-decodes, whole_numbers, no-numbers}
-use borrow.Author.Rules.{rules}
 use Rattle.rdp_compare.proofs.fieldwise.numbers_of.Goals.{After-command_or-decoded}
 use Rattle.rdp_compare.proofs.fieldwise.numbers_of.Goals as goal
 

@@ -1,7 +1,5 @@
-use Prim.Native.Nat.{◌-◌}
-use mathlib.Core.Path.{◌≡◌, refl, sym, ◌∙◌}
-use Rattle.rdp_compare.proofs.WordLaws.{same_at, words_same, words-differ, words-end}
-use borrow.Author.Rules.{rules}
+use mathlib.Core.Path.{refl, sym, ◌∙◌}
+use Rattle.rdp_compare.proofs.WordLaws.{words_same, words-differ, words-end}
 use Rattle.rdp_compare.proofs.fieldwise.same_from.Goals as goal
 
 pub loop-i-init : goal.loop-i-init

@@ -1,7 +1,6 @@
 use Prim.Native.Nat.{◌-◌}
-use mathlib.Core.Path.{◌≡◌, refl, sym, ◌∙◌}
-use Rattle.rdp_compare.proofs.WordLaws.{same_at, words_same, words-differ, words-end}
-use borrow.Author.Rules.{rules}
+use mathlib.Core.Path.{◌≡◌}
+use Rattle.rdp_compare.proofs.WordLaws.{same_at}
 use Rattle.rdp_compare.proofs.fieldwise.same_from.Given as goal
 
 abbrev pub invariant-loop-i : goal.invariant-loop-i

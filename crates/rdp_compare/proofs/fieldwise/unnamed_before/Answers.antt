@@ -2,7 +2,6 @@ use mathlib.Core.Path.{refl}
 use native.Mathlib.Omega.{arith}
 use lib.Dec.{leb}
 use Rattle.rdp_command.proofs.Signed.{bool_le}
-use borrow.Author.Rules.{rules}
 use Rattle.rdp_compare.proofs.fieldwise.unnamed_before.Goals as goal
 
 pub overflow_add-result : goal.overflow_add-result

@@ -1,6 +1,4 @@
-use Prim.Native.Nat.{◌-◌}
-use Rattle.rdp_compare.proofs.GroundLaws.{Cutting, cutting-first, no_cut, cut, cutting-next, falls}
-use borrow.Author.Rules.{rules}
+use Rattle.rdp_compare.proofs.GroundLaws.{cutting-first, no_cut, cut, cutting-next, falls}
 use Rattle.rdp_compare.proofs.grounds.cut_at.Goals as goal
 
 pub loop-at-init : goal.loop-at-init

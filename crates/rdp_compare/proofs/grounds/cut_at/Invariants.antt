@@ -1,6 +1,5 @@
 use Prim.Native.Nat.{◌-◌}
-use Rattle.rdp_compare.proofs.GroundLaws.{Cutting, cutting-first, no_cut, cut, cutting-next, falls}
-use borrow.Author.Rules.{rules}
+use Rattle.rdp_compare.proofs.GroundLaws.{Cutting}
 use Rattle.rdp_compare.proofs.grounds.cut_at.Given as goal
 
 abbrev pub invariant-loop-at : goal.invariant-loop-at

@@ -1,5 +1,4 @@
 use Rattle.rdp_compare.proofs.GroundLaws.{too_long, not-words, by-cut}
-use borrow.Author.Rules.{rules}
 use Rattle.rdp_compare.proofs.grounds.first_ground.Goals as goal
 
 pub returns-then-len-gt-MOST_BYTES : goal.returns-then-len-gt-MOST_BYTES

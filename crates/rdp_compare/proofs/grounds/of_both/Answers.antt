@@ -1,5 +1,4 @@
 use Rattle.rdp_compare.proofs.GroundLaws.{of-first, of-second}
-use borrow.Author.Rules.{rules}
 use Rattle.rdp_compare.proofs.grounds.of_both.Goals as goal
 
 pub returns-then-one-ne0 : goal.returns-then-one-ne0

@@ -1,7 +1,6 @@
 use mathlib.Core.Path.{ap, ◌∙◌}
 use Rattle.rdp_words.specs.Words.{number_in}
 use Rattle.rdp_words.specs.Kinds.{words_of}
-use borrow.Author.Rules.{rules}
 use Rattle.rdp_compare.proofs.grounds.words_at.Goals as goal
 
 pub returns : goal.returns

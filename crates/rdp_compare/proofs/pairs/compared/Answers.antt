@@ -1,6 +1,5 @@
 use mathlib.Core.Path.{sym, ◌∙◌}
 use Rattle.rdp_compare.proofs.DifferingLaws.{as_long, in-words, of-other-numbers, alike, of_fields, of-same-bytes}
-use borrow.Author.Rules.{rules}
 use Rattle.rdp_compare.proofs.pairs.compared.Goals as goal
 
 pub returns-then-n-m : goal.returns-then-n-m

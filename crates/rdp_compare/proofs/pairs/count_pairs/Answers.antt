@@ -1,7 +1,5 @@
-use Prim.Native.Nat.{◌-◌}
 use native.Mathlib.Omega.{arith}
-use Rattle.rdp_compare.proofs.PairLaws.{Counting, counting-first, count-few, counted-first, counted-second, counting-next, in_list, own-command, few, falls}
-use borrow.Author.Rules.{rules}
+use Rattle.rdp_compare.proofs.PairLaws.{counting-first, count-few, counted-first, counted-second, counting-next, in_list, own-command, few, falls}
 use Rattle.rdp_compare.proofs.pairs.count_pairs.Goals as goal
 
 pub loop-a-init : goal.loop-a-init

@@ -3,7 +3,6 @@ use mathlib.Core.Path.{◌≡◌, subst}
 use native.Mathlib.Omega.{arith}
 use lib.ListN.{take, drop}
 use Rattle.rdp_compare.specs.Steps.{OneCommand, DifferenceIs, words_from}
-use borrow.Author.Rules.{rules}
 use Rattle.rdp_compare.proofs.pairs.difference_at.Goals as goal
 
 pub compared-requires : goal.compared-requires

@@ -7,7 +7,6 @@ use lib.ListN.{length}
 use Rattle.rdp_words.specs.Words.{pasted}
 use Rattle.rdp_words.proofs.OverwriteLaws.{pasted-none}
 use Rattle.rdp_compare.specs.Entries.{entry_with}
-use borrow.Author.Rules.{rules}
 use Rattle.rdp_compare.proofs.pairs.put_entry.Goals as goal
 
 pub put_four-requires : goal.put_four-requires

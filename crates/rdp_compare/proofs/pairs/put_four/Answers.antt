@@ -2,7 +2,6 @@ use Prim.Native.Nat.{◌/◌, ◌%◌, ◌^◌}
 use native.Mathlib.Omega.{arith}
 use lib.ListN.{length-set}
 use Rattle.rdp_compare.proofs.PairLaws.{four-put}
-use borrow.Author.Rules.{rules}
 use Rattle.rdp_compare.proofs.pairs.put_four.Goals as goal
 
 pub bounds-entries-to-2 : goal.bounds-entries-to-2

@@ -1,7 +1,5 @@
 use Prim.Native.Nat.{◌-◌}
-use native.Mathlib.Omega.{arith}
-use Rattle.rdp_compare.proofs.PairLaws.{Writing, writing-first, new-long, written-first, written-second, turn-fits, writing-next, in_list, own-command, few, falls}
-use borrow.Author.Rules.{rules}
+use Rattle.rdp_compare.proofs.PairLaws.{Writing}
 use Rattle.rdp_compare.proofs.pairs.write_entries.Given as goal
 
 abbrev pub invariant-loop-a : goal.invariant-loop-a

@@ -1,5 +1,4 @@
 -- `rdp_draw::acting::act` meets its contract. Assumes nothing.
-use borrow.Author.Rules.{rules}
 use Rattle.rdp_draw.proofs.DrawLaws.{fill-left, copy-left, load-left, block-left}
 use Rattle.rdp_draw.proofs.acting.act.Goals as goal
 

@@ -1,11 +1,8 @@
 -- `rdp_draw::acting::act_all` meets its contract. The loop's invariant: what the acts from here on make of the memories is what all make of them, and none of
 -- them is refused. The measure is what is left of the words. Assumes nothing.
-use mathlib.Core.Path.{refl}
 use Prim.Native.Nat.{◌-◌}
-use native.Mathlib.Omega.{arith}
-use borrow.Author.Rules.{rules}
 use Rattle.rdp_draw.specs.Draw.{memories}
-use Rattle.rdp_draw.proofs.DrawLaws.{Reaching, reaching-first, next, falls, Does, does-none, does-clear, does-size, does-again}
+use Rattle.rdp_draw.proofs.DrawLaws.{Reaching, Does}
 use Rattle.rdp_draw.proofs.acting.act_all.Given as goal
 
 abbrev pub invariant-loop-reached : goal.invariant-loop-reached

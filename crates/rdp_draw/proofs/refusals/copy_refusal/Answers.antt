@@ -1,5 +1,4 @@
 -- `rdp_draw::refusals::copy_refusal` meets its contract. Assumes nothing.
-use borrow.Author.Rules.{rules}
 use Rattle.rdp_draw.proofs.DrawLaws.{copy-10, copy-11, copy-others}
 use Rattle.rdp_draw.proofs.refusals.copy_refusal.Goals as goal
 

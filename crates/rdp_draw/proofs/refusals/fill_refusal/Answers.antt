@@ -1,5 +1,4 @@
 -- `rdp_draw::refusals::fill_refusal` meets its contract. Assumes nothing.
-use borrow.Author.Rules.{rules}
 use Rattle.rdp_draw.proofs.DrawLaws.{fill-10, fill-11, fill-12, fill-0}
 use Rattle.rdp_draw.proofs.refusals.fill_refusal.Goals as goal
 

@@ -1,10 +1,7 @@
 -- `rdp_draw::refusals::first_refusal` meets its contract. The loop's invariant: the first refusal of the acts from here on is that of the list. The
 -- measure is what is left of the words. Assumes nothing.
-use mathlib.Core.Path.{refl}
 use Prim.Native.Nat.{◌-◌}
-use native.Mathlib.Omega.{arith}
-use borrow.Author.Rules.{rules}
-use Rattle.rdp_draw.proofs.DrawLaws.{Reaching, reaching-first, next, falls, Tests, tests-none, tests-refused, tests-again}
+use Rattle.rdp_draw.proofs.DrawLaws.{Reaching, Tests}
 use Rattle.rdp_draw.proofs.refusals.first_refusal.Given as goal
 
 abbrev pub invariant-loop-reached : goal.invariant-loop-reached

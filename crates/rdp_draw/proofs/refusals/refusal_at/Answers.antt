@@ -1,5 +1,4 @@
 -- `rdp_draw::refusals::refusal_at` meets its contract: a line for each number. Assumes nothing.
-use borrow.Author.Rules.{rules}
 use Rattle.rdp_draw.proofs.DrawLaws.{refusal-fill, refusal-copy, refusal-load, refusal-block, refusal-17, refusal-10}
 use Rattle.rdp_draw.proofs.refusals.refusal_at.Goals as goal
 

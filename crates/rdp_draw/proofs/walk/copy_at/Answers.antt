@@ -1,6 +1,5 @@
 -- `rdp_draw::walk::copy_at` meets its contract. Assumes nothing.
 use mathlib.Core.Path.{ap, ◌∙◌}
-use borrow.Author.Rules.{rules}
 use Rattle.rdp_command.specs.Reads.{copy_fields}
 use Rattle.rdp_state.specs.RegisterWords.{tile_in}
 use Rattle.rdp_draw.specs.Seen.{copy_words}

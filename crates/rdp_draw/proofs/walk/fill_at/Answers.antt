@@ -1,6 +1,5 @@
 -- `rdp_draw::walk::fill_at` meets its contract. Assumes nothing.
 use mathlib.Core.Path.{ap, ◌∙◌}
-use borrow.Author.Rules.{rules}
 use Rattle.rdp_command.specs.Reads.{fill_fields}
 use Rattle.rdp_draw.specs.Seen.{fill_words}
 use Rattle.rdp_draw.proofs.walk.fill_at.Goals as goal

@@ -1,10 +1,7 @@
 -- `rdp_draw::walk::next_act` meets its contract. The loop's invariant: what was due at its start is due here. The measure is what is left of the words.
 -- Assumes nothing.
-use mathlib.Core.Path.{refl, ap}
 use Prim.Native.Nat.{◌-◌}
-use native.Mathlib.Omega.{arith}
-use borrow.Author.Rules.{rules}
-use Rattle.rdp_draw.proofs.SeenLaws.{Walks, walk_first, walk_none, walk-found, walk-skip, walk-load, walk-set}
+use Rattle.rdp_draw.proofs.SeenLaws.{Walks}
 use Rattle.rdp_draw.proofs.walk.next_act.Given as goal
 
 abbrev pub invariant-loop-at : goal.invariant-loop-at

@@ -6,7 +6,6 @@ use Rattle.rdp_command.specs.Layout.{Line}
 use Rattle.rdp_encode.specs.Placed.{all_fit}
 use Rattle.rdp_encode.specs.Numbers.{values_from, numbers_fit}
 use Rattle.rdp_encode.proofs.TableLaws.{row, row-lines, row_room, row-readable}
-use borrow.Author.Rules.{rules}
 use Rattle.rdp_encode.proofs.encoding.numbers_fit.Goals as goal
 
 pub all_fit-requires : goal.all_fit-requires

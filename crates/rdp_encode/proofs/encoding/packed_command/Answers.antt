@@ -11,7 +11,6 @@ use Rattle.rdp_encode.specs.Steps.{Packable}
 use Rattle.rdp_encode.proofs.TableLaws.{layout-readable}
 use Rattle.rdp_encode.proofs.LayoutLaws.{fields_back}
 use Rattle.rdp_encode.proofs.AnswerLaws.{fit_parts, accepted, misfit, too_large}
-use borrow.Author.Rules.{rules}
 use Rattle.rdp_encode.proofs.encoding.packed_command.Goals.{After-numbers_fit}
 use Rattle.rdp_encode.proofs.encoding.packed_command.Goals as goal
 

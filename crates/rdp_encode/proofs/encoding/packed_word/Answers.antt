@@ -10,7 +10,6 @@ use Rattle.rdp_encode.specs.Table.{lines_at, AllReadable}
 use Rattle.rdp_encode.specs.Placed.{at_lines}
 use Rattle.rdp_encode.proofs.TableLaws.{row-lines, row_room, row-readable}
 use Rattle.rdp_encode.proofs.LayoutLaws.{rest_lt, word_lt}
-use borrow.Author.Rules.{rules}
 use Rattle.rdp_encode.proofs.encoding.packed_word.Goals.{After-lines_of-lines}
 use Rattle.rdp_encode.proofs.encoding.packed_word.Goals as goal
 
@@ -50,8 +49,9 @@ packed-rest-requires c =
 
 pub overflow_add-result : goal.overflow_add-result
 overflow_add-result c =
-    let w = word_lt (number (goal.at.overflow_add-result c).After-lines_of-lines) (small (goal.at.overflow_add-result c).After-lines_of-lines) (numbers (goal.at.overflow_add-result c).After-lines_of-lines) 0 (lit< tt) in
-    let r = packed-as (goal.at.overflow_add-result c).After-lines_of-lines c.packed-rest.ensures ∙ ap (λ (k : ℕ). at_lines k (layout (number (goal.at.overflow_add-result c).After-lines_of-lines)) (numbers (goal.at.overflow_add-result c).After-lines_of-lines)) c.if-k-eq0.true in
+    let there = (goal.at.overflow_add-result c).After-lines_of-lines in
+    let w = word_lt (number there) (small there) (numbers there) 0 (lit< tt) in
+    let r = packed-as there c.packed-rest.ensures ∙ ap (λ (k : ℕ). at_lines k (layout (number there)) (numbers there)) c.if-k-eq0.true in
     record { fits = rw (c.fixed_bits.ensures, r) w }
 
 pub returns-then-k-eq0 : goal.returns-then-k-eq0

@@ -1,5 +1,4 @@
 use borrow.Author.Tests.{not-true, not-false}
-use borrow.Author.Rules.{rules}
 use Rattle.std.proofs.Common.{not, ap}
 use Rattle.rdp_encode.proofs.encoding.verdict.Goals as goal
 

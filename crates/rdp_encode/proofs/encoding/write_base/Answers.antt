@@ -1,9 +1,8 @@
-use Prim.Native.Nat.{ℕ, ◌-◌, ◌*◌, ◌≤◌, zero-le}
+use Prim.Native.Nat.{ℕ, ◌*◌, zero-le}
 use mathlib.Core.List.{List}
 use mathlib.Core.Path.{◌≡◌, ap, sym, ◌∙◌}
 use native.Mathlib.Omega.{arith}
 use lib.ListN.{length}
-use borrow.Author.Rules.{rules}
 use Rattle.rdp_words.specs.Words.{bytes_of, overwrite, pasted}
 use Rattle.rdp_encode.specs.Encode.{packed_bytes}
 use Rattle.rdp_words.proofs.OverwriteLaws.{length-overwrite}
@@ -38,14 +37,15 @@ put_word-requires c = omega (arith, long (goal.at.put_word-requires c).At-loop-k
 
 pub loop-k-preserved : goal.loop-k-preserved
 loop-k-preserved c =
-    (
+    let there = (goal.at.loop-k-preserved c).At-loop-k in (
       omega arith,
       c.put_word.ensures ∙
           (λ i. pasted (8 * c.loop-k.k) (bytes_of (c.packed_word-w.ensures i)) (c.loop-k.invariant.1 i)) ∙
-          packed_more (number (goal.at.loop-k-preserved c).At-loop-k) (numbers (goal.at.loop-k-preserved c).At-loop-k) (out (goal.at.loop-k-preserved c).At-loop-k) c.loop-k.k,
+          packed_more (number there) (numbers there) (out there) c.loop-k.k,
     )
 
 pub returns : goal.returns
 returns c =
+    let there = (goal.at.returns c).At-loop-k in
     let e : c.loop-k.k ≡ c.args.base = omega arith in
-    c.loop-k.invariant.1 ∙ ap (λ (k : ℕ). overwrite (packed_bytes (number (goal.at.returns c).At-loop-k) (numbers (goal.at.returns c).At-loop-k) k) (out (goal.at.returns c).At-loop-k)) e
+    c.loop-k.invariant.1 ∙ ap (λ (k : ℕ). overwrite (packed_bytes (number there) (numbers there) k) (out there)) e

@@ -1,13 +1,7 @@
-use Prim.Native.Nat.{ℕ, ◌-◌, ◌*◌, ◌≤◌, zero-le}
-use mathlib.Core.List.{List}
-use mathlib.Core.Path.{◌≡◌, ap, sym, ◌∙◌}
-use native.Mathlib.Omega.{arith}
-use lib.ListN.{length}
-use borrow.Author.Rules.{rules}
-use Rattle.rdp_words.specs.Words.{bytes_of, overwrite, pasted}
+use Prim.Native.Nat.{◌-◌, ◌≤◌}
+use mathlib.Core.Path.{◌≡◌}
+use Rattle.rdp_words.specs.Words.{overwrite}
 use Rattle.rdp_encode.specs.Encode.{packed_bytes}
-use Rattle.rdp_words.proofs.OverwriteLaws.{length-overwrite}
-use Rattle.rdp_encode.proofs.Bytes.{packed-long, packed_none, packed_more}
 use Rattle.rdp_encode.proofs.encoding.write_base.Given as goal
 
 abbrev pub invariant-loop-k : goal.invariant-loop-k

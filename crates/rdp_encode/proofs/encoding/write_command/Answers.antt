@@ -14,7 +14,6 @@ use Rattle.rdp_command.specs.declared.Answer.{Answer}
 use Rattle.rdp_words.proofs.KindLaws.{words-most}
 use Rattle.rdp_words.proofs.Tests.{and-true}
 use Rattle.rdp_encode.proofs.AnswerLaws.{fit_parts}
-use borrow.Author.Rules.{rules}
 use Rattle.rdp_encode.proofs.encoding.write_command.Goals.{After-numbers_fit-fits, After-words_of-n}
 use Rattle.rdp_encode.proofs.encoding.write_command.Goals as goal
 
@@ -75,23 +74,26 @@ verdict-answer-requires c = few (goal.at.verdict-answer-requires c).After-words_
 
 pub write_whole-requires : goal.write_whole-requires
 write_whole-requires c =
-    let parts = both_true (goal.at.write_whole-requires c).After-numbers_fit-fits c.if-encodable-room.true in
-    let ok = and-true (numbers_fit (number (goal.at.write_whole-requires c).After-numbers_fit-fits) (numbers (goal.at.write_whole-requires c).After-numbers_fit-fits)) (eqb (length (suffix (goal.at.write_whole-requires c).After-numbers_fit-fits)) (8 * suffix_words (words_of (number (goal.at.write_whole-requires c).After-numbers_fit-fits)))) parts.0 in
-    let n = fit_parts (number (goal.at.write_whole-requires c).After-numbers_fit-fits) (numbers (goal.at.write_whole-requires c).After-numbers_fit-fits) ok.0 in (
+    let there = (goal.at.write_whole-requires c).After-numbers_fit-fits in
+    let parts = both_true there c.if-encodable-room.true in
+    let ok = and-true (numbers_fit (number there) (numbers there)) (eqb (length (suffix there)) (8 * suffix_words (words_of (number there)))) parts.0 in
+    let n = fit_parts (number there) (numbers there) ok.0 in (
       record {
         agrees = c.layout_table-table.ensures;
         small = c.requires;
         long = n.0;
       },
-      (words (goal.at.write_whole-requires c).After-numbers_fit-fits, (omega (arith, words (goal.at.write_whole-requires c).After-numbers_fit-fits, leb-true (words_of (number (goal.at.write_whole-requires c).After-numbers_fit-fits)) (length (out (goal.at.write_whole-requires c).After-numbers_fit-fits) / 8) parts.1), eqb-true (length (suffix (goal.at.write_whole-requires c).After-numbers_fit-fits)) (8 * suffix_words (words_of (number (goal.at.write_whole-requires c).After-numbers_fit-fits))) ok.1 ∙ ap (λ (k : ℕ). 8 * suffix_words k) (sym (words (goal.at.write_whole-requires c).After-numbers_fit-fits)))),
+      (words there, (omega (arith, words there, leb-true (words_of (number there)) (length (out there) / 8) parts.1), eqb-true (length (suffix there)) (8 * suffix_words (words_of (number there))) ok.1 ∙ ap (λ (k : ℕ). 8 * suffix_words k) (sym (words there)))),
     )
 
 pub returns-then-encodable-room : goal.returns-then-encodable-room
 unfolding answer_with out_with
 returns-then-encodable-room c =
-    record { answer = answered (goal.at.returns-then-encodable-room c).After-numbers_fit-fits c.verdict-answer.ensures; output = rw (sym (tests (goal.at.returns-then-encodable-room c).After-numbers_fit-fits) ∙ c.if-encodable-room.true) c.write_whole.ensures }
+    let there = (goal.at.returns-then-encodable-room c).After-numbers_fit-fits in
+    record { answer = answered there c.verdict-answer.ensures; output = rw (sym (tests there) ∙ c.if-encodable-room.true) c.write_whole.ensures }
 
 pub returns-else-encodable-room : goal.returns-else-encodable-room
 unfolding answer_with out_with
 returns-else-encodable-room c =
-    record { answer = answered (goal.at.returns-else-encodable-room c).After-numbers_fit-fits c.verdict-answer.ensures; output = rw (sym (tests (goal.at.returns-else-encodable-room c).After-numbers_fit-fits) ∙ c.if-encodable-room.false) }
+    let there = (goal.at.returns-else-encodable-room c).After-numbers_fit-fits in
+    record { answer = answered there c.verdict-answer.ensures; output = rw (sym (tests there) ∙ c.if-encodable-room.false) }

@@ -5,7 +5,6 @@ use Rattle.rdp_command.specs.Commands.{number_of}
 use Rattle.rdp_encode.specs.Encode.{answer_with, out_with, bytes_with, encoded_bytes}
 use Rattle.rdp_encode.proofs.AnswerLaws.{unfit}
 use Rattle.rdp_encode.proofs.Spreading.{front, number_is, known_is, by_front, encodable-by, not-encodable}
-use borrow.Author.Rules.{rules}
 use Rattle.rdp_encode.proofs.encoding.write_numbers.Goals as goal
 
 pub slice_bounds-all-end : goal.slice_bounds-all-end
@@ -21,12 +20,15 @@ pub returns-then-numbers : goal.returns-then-numbers
 returns-then-numbers c =
     let suffix = c.args.suffix.now in
     let out = c.args.out.now in
-    let w = c.write_command.ensures in record { answer = λ command s.
+    let w = c.write_command.ensures in record {
+      answer = λ command s.
           let ok = encodable-by _ _ s suffix (sym (known_is _ _ s) ∙ c.if-numbers.true) in
-          w.answer ∙ (λ i. answer_with (by_front _ _ s suffix i) (number_is _ _ s i) out) ∙ ap (λ (b : Bool). answer_with b (number_of command) out) (sym ok); output = λ command s.
+          w.answer ∙ (λ i. answer_with (by_front _ _ s suffix i) (number_is _ _ s i) out) ∙ ap (λ (b : Bool). answer_with b (number_of command) out) (sym ok);
+      output = λ command s.
           let ok = encodable-by _ _ s suffix (sym (known_is _ _ s) ∙ c.if-numbers.true) in
           w.output ∙ (λ i. out_with (by_front _ _ s suffix i) (number_is _ _ s i) (bytes_with (number_is _ _ s i) (front _ _ s i) suffix) out) ∙
-          ap (λ (b : Bool). out_with b (number_of command) (encoded_bytes command suffix) out) (sym ok) }
+          ap (λ (b : Bool). out_with b (number_of command) (encoded_bytes command suffix) out) (sym ok);
+    }
 
 pub returns : goal.returns
 returns c =

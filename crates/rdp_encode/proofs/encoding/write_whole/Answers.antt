@@ -37,15 +37,16 @@ slice_bounds-copy-start c = search (rules, fits (goal.at.slice_bounds-copy-start
 
 pub returns : goal.returns
 returns c =
+    let there = (goal.at.returns c).Start in
     let n = c.args.number in
     let numbers = c.args.numbers.now in
     let suffix = c.args.suffix.now in
     let out = c.args.out.now in
     let k = c.args.n - length suffix / 8 in
     let begun : List ℕ = c.write_base.new.out in
-    let room = fits (goal.at.returns c).Start in
+    let room = fits there in
     let same = c.write_base.auto.out in
     part-copied suffix begun c.copy.new.out (8 * k) (length begun) (omega (arith, room, same)) (omega arith) c.copy.ensures ∙
     ap (pasted (8 * k) suffix) c.write_base.ensures ∙
     pasted-after (packed_bytes n numbers k) suffix out (8 * k) (packed-long n numbers k) ∙
-    ap (λ (bs : List ℕ). overwrite bs out) (whole-bytes n numbers suffix (base (goal.at.returns c).Start ∙ ap (min 4) c.requires.1.0))
+    ap (λ (bs : List ℕ). overwrite bs out) (whole-bytes n numbers suffix (base there ∙ ap (min 4) c.requires.1.0))

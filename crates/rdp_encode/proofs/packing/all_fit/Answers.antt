@@ -1,14 +1,13 @@
-use Prim.Native.Nat.{ℕ, ◌+◌, ◌-◌, ◌≤◌, ◌<◌, zero-le}
+use Prim.Native.Nat.{ℕ, ◌+◌, ◌≤◌, ◌<◌, zero-le}
 use mathlib.Core.Bool.{Bool, ◌&&◌}
 use mathlib.Core.List.{List}
 use mathlib.Core.Path.{◌≡◌, refl, ap, sym, ◌∙◌}
 use native.Mathlib.Omega.{arith}
 use lib.ListN.{length, get_or}
-use borrow.Author.Rules.{rules}
 use Rattle.rdp_command.specs.Layout.{Line}
 use Rattle.rdp_encode.specs.Table.{line_of, lines_at, Readable}
-use Rattle.rdp_encode.specs.Placed.{all_fit, fits_line}
-use Rattle.rdp_encode.specs.Numbers.{value_from, values_from}
+use Rattle.rdp_encode.specs.Placed.{fits_line}
+use Rattle.rdp_encode.specs.Numbers.{value_from}
 use Rattle.rdp_encode.proofs.TableLaws.{lines_long, line_at, readable-line}
 use Rattle.rdp_encode.proofs.PackLaws.{fit_from, fit-step, fit-end}
 use Rattle.rdp_encode.proofs.packing.all_fit.Goals.{At-loop-k}
@@ -55,15 +54,18 @@ fits_line-requires c = readable (goal.at.fits_line-requires c).At-loop-k c.loop-
 
 pub loop-k-preserved : goal.loop-k-preserved
 loop-k-preserved c =
+    let there = (goal.at.loop-k-preserved c).At-loop-k in
     let h = c.loop-k-test.true in
-    (omega arith, c.loop-k.invariant.1 ∙ fit-step (ls (goal.at.loop-k-preserved c).At-loop-k) (numbers (goal.at.loop-k-preserved c).At-loop-k) (long (goal.at.loop-k-preserved c).At-loop-k) c.loop-k.k h ∙ ap (λ (b : Bool). b && fit_from (ls (goal.at.loop-k-preserved c).At-loop-k) (numbers (goal.at.loop-k-preserved c).At-loop-k) (c.loop-k.k + 1)) (sym (tested (goal.at.loop-k-preserved c).At-loop-k h c.fits_line.ensures) ∙ c.if-fits_line.true))
+    (omega arith, c.loop-k.invariant.1 ∙ fit-step (ls there) (numbers there) (long there) c.loop-k.k h ∙ ap (λ (b : Bool). b && fit_from (ls there) (numbers there) (c.loop-k.k + 1)) (sym (tested there h c.fits_line.ensures) ∙ c.if-fits_line.true))
 
 pub returns-else-fits_line : goal.returns-else-fits_line
 returns-else-fits_line c =
+    let there = (goal.at.returns-else-fits_line c).At-loop-k in
     let h = c.loop-k-test.true in
-    sym (c.loop-k.invariant.1 ∙ fit-step (ls (goal.at.returns-else-fits_line c).At-loop-k) (numbers (goal.at.returns-else-fits_line c).At-loop-k) (long (goal.at.returns-else-fits_line c).At-loop-k) c.loop-k.k h ∙ ap (λ (b : Bool). b && fit_from (ls (goal.at.returns-else-fits_line c).At-loop-k) (numbers (goal.at.returns-else-fits_line c).At-loop-k) (c.loop-k.k + 1)) (sym (tested (goal.at.returns-else-fits_line c).At-loop-k h c.fits_line.ensures) ∙ c.if-fits_line.false))
+    sym (c.loop-k.invariant.1 ∙ fit-step (ls there) (numbers there) (long there) c.loop-k.k h ∙ ap (λ (b : Bool). b && fit_from (ls there) (numbers there) (c.loop-k.k + 1)) (sym (tested there h c.fits_line.ensures) ∙ c.if-fits_line.false))
 
 pub returns : goal.returns
 returns c =
-    let e : c.loop-k.k ≡ length (numbers (goal.at.returns c).At-loop-k) = omega arith in
-    sym (c.loop-k.invariant.1 ∙ ap (fit_from (ls (goal.at.returns c).At-loop-k) (numbers (goal.at.returns c).At-loop-k)) e ∙ fit-end (ls (goal.at.returns c).At-loop-k) (numbers (goal.at.returns c).At-loop-k) (long (goal.at.returns c).At-loop-k))
+    let there = (goal.at.returns c).At-loop-k in
+    let e : c.loop-k.k ≡ length (numbers there) = omega arith in
+    sym (c.loop-k.invariant.1 ∙ ap (fit_from (ls there) (numbers there)) e ∙ fit-end (ls there) (numbers there) (long there))

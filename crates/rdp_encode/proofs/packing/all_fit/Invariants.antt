@@ -1,16 +1,10 @@
-use Prim.Native.Nat.{ℕ, ◌+◌, ◌-◌, ◌≤◌, ◌<◌, zero-le}
-use mathlib.Core.Bool.{Bool, ◌&&◌}
-use mathlib.Core.List.{List}
-use mathlib.Core.Path.{◌≡◌, refl, ap, sym, ◌∙◌}
-use native.Mathlib.Omega.{arith}
-use lib.ListN.{length, get_or}
-use borrow.Author.Rules.{rules}
-use Rattle.rdp_command.specs.Layout.{Line}
-use Rattle.rdp_encode.specs.Table.{line_of, lines_at, Readable}
-use Rattle.rdp_encode.specs.Placed.{all_fit, fits_line}
-use Rattle.rdp_encode.specs.Numbers.{value_from, values_from}
-use Rattle.rdp_encode.proofs.TableLaws.{lines_long, line_at, readable-line}
-use Rattle.rdp_encode.proofs.PackLaws.{fit_from, fit-step, fit-end}
+use Prim.Native.Nat.{◌-◌, ◌≤◌}
+use mathlib.Core.Path.{◌≡◌}
+use lib.ListN.{length}
+use Rattle.rdp_encode.specs.Table.{lines_at}
+use Rattle.rdp_encode.specs.Placed.{all_fit}
+use Rattle.rdp_encode.specs.Numbers.{values_from}
+use Rattle.rdp_encode.proofs.PackLaws.{fit_from}
 use Rattle.rdp_encode.proofs.packing.all_fit.Given as goal
 
 abbrev pub invariant-loop-k : goal.invariant-loop-k

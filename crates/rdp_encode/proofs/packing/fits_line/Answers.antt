@@ -1,7 +1,6 @@
 use mathlib.Core.Path.{sym, ◌∙◌}
 use Rattle.rdp_encode.specs.Table.{line_of}
 use Rattle.rdp_encode.proofs.PackLaws.{fits_signed, fits-unsigned}
-use borrow.Author.Rules.{rules}
 use Rattle.rdp_encode.proofs.packing.fits_line.Goals as goal
 
 pub returns-then-is_signed : goal.returns-then-is_signed

@@ -1,4 +1,4 @@
-use Prim.Native.Nat.{ℕ, ◌+◌, ◌-◌, ◌≤◌, ◌<◌, zero-le}
+use Prim.Native.Nat.{ℕ, ◌+◌, ◌≤◌, ◌<◌, zero-le}
 use mathlib.Core.Bool.{cond}
 use mathlib.Core.List.{List}
 use mathlib.Core.Path.{◌≡◌, ap, sym, ◌∙◌}
@@ -6,10 +6,9 @@ use native.Mathlib.Nat.{zero-add}
 use native.Mathlib.Omega.{arith}
 use lib.Dec.{eqb}
 use lib.ListN.{length, get_or}
-use borrow.Author.Rules.{rules}
 use Rattle.rdp_command.specs.Layout.{Line}
 use Rattle.rdp_encode.specs.Table.{line_of, lines_at, Readable}
-use Rattle.rdp_encode.specs.Placed.{at_line, at_lines}
+use Rattle.rdp_encode.specs.Placed.{at_line}
 use Rattle.rdp_encode.proofs.TableLaws.{lines_long, line_at, readable-line}
 use Rattle.rdp_encode.proofs.PackLaws.{packed_from, packed_step, packed-end}
 use Rattle.rdp_encode.proofs.packing.packed.Goals.{At-loop-k}
@@ -70,6 +69,7 @@ loop-k-preserved c =
 
 pub returns : goal.returns
 returns c =
-    let e : c.loop-k.k ≡ length (numbers (goal.at.returns c).At-loop-k) = omega arith in
-    let z = ap (packed_from (ls (goal.at.returns c).At-loop-k) (numbers (goal.at.returns c).At-loop-k) c.args.word) e ∙ packed-end (ls (goal.at.returns c).At-loop-k) (numbers (goal.at.returns c).At-loop-k) (long (goal.at.returns c).At-loop-k) c.args.word in
+    let there = (goal.at.returns c).At-loop-k in
+    let e : c.loop-k.k ≡ length (numbers there) = omega arith in
+    let z = ap (packed_from (ls there) (numbers there) c.args.word) e ∙ packed-end (ls there) (numbers there) (long there) c.args.word in
     omega (arith, z, c.loop-k.invariant.1)

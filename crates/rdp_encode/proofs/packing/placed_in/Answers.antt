@@ -2,7 +2,6 @@ use mathlib.Core.Path.{◌≡◌, sym, ◌∙◌}
 use borrow.Author.Tests.{eq-eqb, ne_eqb}
 use Rattle.rdp_encode.specs.Table.{line_of}
 use Rattle.rdp_encode.proofs.PackLaws.{divisor-pos, placed_at}
-use borrow.Author.Rules.{rules}
 use Rattle.rdp_encode.proofs.packing.placed_in.Goals as goal
 
 pub nonzero_rem-result : goal.nonzero_rem-result

@@ -1,5 +1,4 @@
 use native.Mathlib.Omega.{arith}
-use borrow.Author.Rules.{rules}
 use Rattle.rdp_encode.proofs.values.other_modes.Goals as goal
 
 pub overflow_cast-values-18 : goal.overflow_cast-values-18

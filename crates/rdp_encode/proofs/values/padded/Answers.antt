@@ -1,6 +1,5 @@
 use mathlib.Core.Bool.{true}
 use lib.ListN.{length}
-use borrow.Author.Rules.{rules}
 use Rattle.rdp_encode.proofs.values.padded.Goals as goal
 
 pub returns : goal.returns

@@ -5,7 +5,6 @@ use lib.Dec.{lit<, lit≤}
 use Rattle.rdp_encode.specs.Steps.{numbered}
 use Rattle.rdp_words.proofs.KindLaws.{no-operation-small, unassigned-small}
 use Rattle.rdp_command.proofs.CommandLaws.{no-operation-lines, unassigned-lines}
-use borrow.Author.Rules.{rules}
 use Rattle.rdp_command.specs.Layout.{layout}
 use Rattle.rdp_encode.proofs.Spreading.{spread-as}
 use Rattle.rdp_encode.proofs.values.spread.Goals as goal

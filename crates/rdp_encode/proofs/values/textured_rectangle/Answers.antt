@@ -6,7 +6,6 @@ use lib.ListN.{get_or}
 use Rattle.rdp_command.specs.Fields.{unsigned}
 use Rattle.rdp_encode.specs.Steps.{numbered}
 use Rattle.rdp_command.specs.declared.TexturedRectangle.{TexturedRectangle}
-use borrow.Author.Rules.{rules}
 use Rattle.rdp_encode.proofs.values.textured_rectangle.Goals as goal
 
 -- the numbers in the order of the layout

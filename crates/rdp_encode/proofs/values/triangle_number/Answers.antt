@@ -1,6 +1,5 @@
 use native.Mathlib.Omega.{arith}
 use Rattle.rdp_command.proofs.Signed.{bool_le}
-use borrow.Author.Rules.{rules}
 use Rattle.rdp_encode.proofs.values.triangle_number.Goals as goal
 
 pub overflow_mul-result : goal.overflow_mul-result

@@ -9,7 +9,6 @@ use mir.Val.{SFits, Fits}
 use mir.Facts.{to_z-of_z, sfits_widen}
 use Rattle.rdp_command.proofs.Signed.{machine-plus, machine-excess, excess-fits, excess_lt}
 use Rattle.rdp_encode.proofs.TwosLaws.{low-back, high-back}
-use borrow.Author.Rules.{rules}
 use Rattle.rdp_encode.proofs.values.twos.Goals as goal
 
 pub overflow_cast-excess : goal.overflow_cast-excess

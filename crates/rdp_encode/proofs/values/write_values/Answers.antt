@@ -7,7 +7,6 @@ use lib.Seq.{length-take-le}
 use Rattle.rdp_words.specs.Words.{overwrite}
 use Rattle.rdp_encode.specs.Numbers.{fields_answer, fields_out}
 use Rattle.rdp_encode.proofs.Spreading.{count-is, front}
-use borrow.Author.Rules.{rules}
 use Rattle.rdp_encode.proofs.values.write_values.Goals as goal
 
 pub overflow_cast-result : goal.overflow_cast-result

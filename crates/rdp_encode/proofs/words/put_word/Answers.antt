@@ -1,7 +1,6 @@
 use Prim.Native.Nat.{◌+◌}
 use native.Mathlib.Omega.{arith}
 use Rattle.rdp_words.proofs.OverwriteLaws.{part-copied}
-use borrow.Author.Rules.{rules}
 use Rattle.rdp_encode.proofs.words.put_word.Goals as goal
 
 pub returns : goal.returns

@@ -2,7 +2,6 @@
 use mathlib.Core.Path.{◌≡◌, sym, ◌∙◌}
 use mathlib.Core.Bool.{false}
 use native.Mathlib.Omega.{arith}
-use borrow.Author.Rules.{rules}
 use Rattle.rdp_fill.specs.Runs.{area_empty}
 use Rattle.rdp_fill.proofs.InsideLaws.{not-empty, inside-empty, inside-early, inside-late}
 use Rattle.rdp_fill.proofs.areas.area_inside.Goals as goal

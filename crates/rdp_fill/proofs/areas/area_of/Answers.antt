@@ -1,5 +1,4 @@
 -- `rdp_fill::areas::area_of` meets its contract. Assumes nothing.
-use borrow.Author.Rules.{rules}
 use Rattle.rdp_fill.specs.Fill.{pixel_address}
 use Rattle.rdp_fill.specs.Runs.{area_of}
 use Rattle.rdp_fill.proofs.areas.area_of.Goals as goal

@@ -1,6 +1,5 @@
 -- `rdp_fill::areas::bytes_of` meets its contract: a line for each arm of the match. Assumes nothing.
 use native.Mathlib.Omega.{arith}
-use borrow.Author.Rules.{rules}
 use borrow.Author.Tests.{ne_eqb}
 use Rattle.rdp_fill.specs.Fill.{bytes_per_pixel}
 use Rattle.rdp_fill.proofs.areas.bytes_of.Goals as goal

@@ -2,7 +2,6 @@
 use mathlib.Core.Path.{◌≡◌, sym, ap, ◌∙◌}
 use Prim.Native.Nat.{ℕ, ◌+◌, ◌-◌, ◌/◌}
 use native.Mathlib.Omega.{arith}
-use borrow.Author.Rules.{rules}
 use Rattle.rdp_fill.specs.Runs.{end_row, first_kept_row}
 use Rattle.rdp_fill.proofs.AreaLaws.{rows-half, rows_all}
 use Rattle.rdp_fill.proofs.areas.kept_rows.Goals as goal

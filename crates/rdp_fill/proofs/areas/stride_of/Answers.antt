@@ -2,7 +2,6 @@
 use mathlib.Core.Path.{ap}
 use Prim.Native.Nat.{ℕ, ◌*◌}
 use native.Mathlib.Omega.{arith}
-use borrow.Author.Rules.{rules}
 use Rattle.rdp_fill.proofs.AreaLaws.{step-two, step-one}
 use Rattle.rdp_fill.proofs.areas.stride_of.Goals as goal
 

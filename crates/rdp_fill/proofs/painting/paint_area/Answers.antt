@@ -1,7 +1,6 @@
 -- `rdp_fill::painting::paint_area` meets its contract. Assumes nothing.
 use mathlib.Core.Path.{◌≡◌, sym, ◌∙◌}
 use mathlib.Core.Bool.{false}
-use borrow.Author.Rules.{rules}
 use Rattle.rdp_fill.specs.Runs.{area_empty}
 use Rattle.rdp_fill.proofs.AreaLaws.{painted-empty, painted-runs, runs_fit}
 use Rattle.rdp_fill.proofs.painting.paint_area.Goals.{Else-is_empty}

@@ -1,11 +1,8 @@
 -- `rdp_fill::run::chunks` meets its contract. The invariant: the run is written up to `at`. Assumes nothing.
-use mathlib.Core.Path.{◌≡◌, refl}
-use Prim.Native.Nat.{◌+◌, ◌-◌, ◌≤◌}
+use mathlib.Core.Path.{refl}
+use Prim.Native.Nat.{◌+◌}
 use native.Mathlib.Omega.{arith}
 use borrow.Author.Rules.{rules}
-use lib.ListN.{length}
-use Rattle.rdp_pixels.specs.Overlay.{within}
-use Rattle.rdp_fill.specs.Pattern.{Written}
 use Rattle.rdp_fill.proofs.PatternLaws.{written_none, written-joined}
 use Rattle.rdp_fill.proofs.run.chunks.Goals as goal
 

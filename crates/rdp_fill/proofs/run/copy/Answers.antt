@@ -1,11 +1,9 @@
 -- `rdp_fill::run::copy` meets its contract. The invariant: k bytes are written. Assumes nothing.
 use mathlib.Core.Path.{◌≡◌, refl}
-use Prim.Native.Nat.{◌+◌, ◌-◌, ◌≤◌}
+use Prim.Native.Nat.{◌+◌}
 use native.Mathlib.Omega.{arith}
 use borrow.Author.Rules.{rules}
-use lib.ListN.{length, length-set}
-use Rattle.rdp_pixels.specs.Overlay.{within}
-use Rattle.rdp_fill.specs.Pattern.{Written}
+use lib.ListN.{length-set}
 use Rattle.rdp_fill.proofs.PatternLaws.{written_none, written-more}
 use Rattle.rdp_fill.proofs.run.copy.Goals as goal
 

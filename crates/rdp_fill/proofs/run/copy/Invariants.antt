@@ -1,12 +1,9 @@
 -- `rdp_fill::run::copy` meets its contract. The invariant: k bytes are written. Assumes nothing.
-use mathlib.Core.Path.{◌≡◌, refl}
+use mathlib.Core.Path.{◌≡◌}
 use Prim.Native.Nat.{◌+◌, ◌-◌, ◌≤◌}
-use native.Mathlib.Omega.{arith}
-use borrow.Author.Rules.{rules}
-use lib.ListN.{length, length-set}
+use lib.ListN.{length}
 use Rattle.rdp_pixels.specs.Overlay.{within}
 use Rattle.rdp_fill.specs.Pattern.{Written}
-use Rattle.rdp_fill.proofs.PatternLaws.{written_none, written-more}
 use Rattle.rdp_fill.proofs.run.copy.Given as goal
 
 abbrev pub invariant-loop-k : goal.invariant-loop-k

@@ -1,10 +1,8 @@
 -- `rdp_fill::run::long_pattern` meets its contract. The invariant: the first k bytes hold the colour. Assumes nothing.
 use mathlib.Core.Path.{◌≡◌}
-use Prim.Native.Nat.{◌-◌, ◌≤◌}
 use native.Mathlib.Omega.{arith}
 use borrow.Author.Rules.{rules}
 use lib.ListN.{length, length-set}
-use Rattle.rdp_fill.specs.Pattern.{Repeats}
 use Rattle.rdp_fill.proofs.PatternLaws.{holds_more, written-holds}
 use Rattle.rdp_fill.proofs.run.long_pattern.Goals as goal
 

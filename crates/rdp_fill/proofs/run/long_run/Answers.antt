@@ -1,5 +1,4 @@
 -- `rdp_fill::run::long_run` meets its contract: two parts, the second where the first ends. Assumes nothing.
-use borrow.Author.Rules.{rules}
 use Rattle.rdp_fill.proofs.PatternLaws.{written-rest}
 use Rattle.rdp_fill.proofs.run.long_run.Goals as goal
 

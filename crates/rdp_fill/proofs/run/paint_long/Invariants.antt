@@ -1,7 +1,5 @@
 -- `rdp_fill::run::paint_long` meets its contract. The invariant: the runs that are left make of memory what was promised. Assumes nothing.
-use native.Mathlib.Omega.{arith}
-use borrow.Author.Rules.{rules}
-use Rattle.rdp_fill.proofs.RunLaws.{RunsLeft, runs-all, run_inside, runs-next, runs_done}
+use Rattle.rdp_fill.proofs.RunLaws.{RunsLeft}
 use Rattle.rdp_fill.proofs.run.paint_long.Given as goal
 
 abbrev pub invariant-loop-left : goal.invariant-loop-left

@@ -1,7 +1,6 @@
 -- `rdp_fill::run::paint_runs` meets its contract: with the rotated colour, byte i of memory takes byte i mod 4. Assumes nothing.
 use native.Mathlib.Nat.{zero-mul}
 use native.Mathlib.Omega.{arith}
-use borrow.Author.Rules.{rules}
 use lib.ListN.{length}
 use Rattle.rdp_fill.specs.Fill.{color_byte}
 use Rattle.rdp_fill.specs.Runs.{in_runs}

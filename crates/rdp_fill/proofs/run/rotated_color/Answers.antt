@@ -2,7 +2,6 @@
 use mathlib.Core.Path.{◌≡◌}
 use Prim.Native.Nat.{◌%◌}
 use native.Mathlib.Omega.{arith}
-use borrow.Author.Rules.{rules}
 use Rattle.rdp_fill.specs.Pattern.{rotated}
 use Rattle.rdp_fill.proofs.run.rotated_color.Goals as goal
 

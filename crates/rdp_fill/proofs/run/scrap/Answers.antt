@@ -1,7 +1,6 @@
 -- `rdp_fill::run::scrap` meets its contract: three parts, each where the one before ends. Assumes nothing.
 use Prim.Native.Nat.{ℕ}
 use native.Mathlib.Omega.{arith}
-use borrow.Author.Rules.{rules}
 use Rattle.rdp_fill.proofs.PatternLaws.{written-joined, written-rest}
 use Rattle.rdp_fill.proofs.run.scrap.Goals as goal
 

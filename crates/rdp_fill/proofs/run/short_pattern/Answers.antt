@@ -2,7 +2,6 @@
 use mathlib.Core.Path.{refl, sym, ap}
 use Prim.Native.Nat.{ℕ, ◌%◌}
 use native.Mathlib.Nat.{div-one}
-use borrow.Author.Rules.{rules}
 use lib.Pow.{shr_mod}
 use Rattle.rdp_fill.specs.Fill.{color_byte}
 use Rattle.rdp_fill.proofs.PatternLaws.{holds-twenty}

@@ -1,6 +1,5 @@
 -- `rdp_fill::run::short_run` meets its contract. Assumes nothing.
 use native.Mathlib.Omega.{arith}
-use borrow.Author.Rules.{rules}
 use Rattle.rdp_fill.proofs.PatternLaws.{written_last, written_all}
 use Rattle.rdp_fill.proofs.run.short_run.Goals as goal
 

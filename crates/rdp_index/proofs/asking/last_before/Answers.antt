@@ -1,9 +1,7 @@
 -- `rdp_index::asking::last_before` meets its contract: of the entries before i the last that counts is that of all. Assumes nothing.
-use mathlib.Core.Path.{◌≡◌, refl, sym, ◌∙◌}
-use Prim.Native.Nat.{◌-◌, ◌≤◌}
+use mathlib.Core.Path.{refl, sym, ◌∙◌}
+use Prim.Native.Nat.{◌-◌}
 use native.Mathlib.Omega.{arith}
-use borrow.Author.Rules.{rules}
-use Rattle.rdp_index.specs.Index.{last_before}
 use Rattle.rdp_index.proofs.ReadLaws.{last_none, last-here, last-before}
 use Rattle.rdp_index.proofs.asking.last_before.Goals as goal
 

@@ -1,8 +1,6 @@
 -- `rdp_index::noting::copy_part` meets its contract: after each turn one number more is copied. Assumes nothing.
-use Prim.Native.Nat.{◌-◌}
 use native.Mathlib.Omega.{arith}
-use Rattle.rdp_index.proofs.CopyLaws.{Copying, first, again, ended}
-use borrow.Author.Rules.{rules}
+use Rattle.rdp_index.proofs.CopyLaws.{first, again, ended}
 use Rattle.rdp_index.proofs.noting.copy_part.Goals as goal
 
 pub loop-i-init : goal.loop-i-init

@@ -1,7 +1,6 @@
 -- `rdp_index::noting::room_answer` meets its contract, by the index and the room. Assumes nothing.
 use borrow.Author.Tests.{lt-ltb, le-ltb, eq-eqb, ne_eqb}
 use Rattle.rdp_index.specs.Index.{room_answer}
-use borrow.Author.Rules.{rules}
 use Rattle.rdp_index.proofs.noting.room_answer.Goals as goal
 
 pub returns-then-number-ne0 : goal.returns-then-number-ne0

@@ -1,6 +1,5 @@
 -- `rdp_index::noting::size_answer` meets its contract, by its two tests. Assumes nothing.
 use borrow.Author.Tests.{le-ltb, lt-ltb, eq-eqb, ne_eqb}
-use borrow.Author.Rules.{rules}
 use Rattle.rdp_index.proofs.noting.size_answer.Goals as goal
 
 pub returns-then-len-gt-MOST_BYTES : goal.returns-then-len-gt-MOST_BYTES

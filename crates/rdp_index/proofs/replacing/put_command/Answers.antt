@@ -7,7 +7,6 @@ use lib.ListN.{length, take}
 use lib.Seq.{length-take-le}
 use Rattle.rdp_words.specs.Words.{pasted}
 use Rattle.rdp_words.proofs.OverwriteLaws.{part-copied}
-use borrow.Author.Rules.{rules}
 use Rattle.rdp_index.proofs.replacing.put_command.Goals as goal
 
 pub returns : goal.returns

@@ -2,7 +2,6 @@
 use mathlib.Core.Path.{ap, ◌∙◌}
 use Rattle.rdp_words.specs.Kinds.{words_of}
 use Rattle.rdp_index.proofs.ReplaceLaws.{refuse-built, refuse-asked, refuse-start, refuse-cut, refuse-length, fitting}
-use borrow.Author.Rules.{rules}
 use Rattle.std.proofs.Common.{not, ap}
 use Rattle.rdp_index.proofs.replacing.replacement.Goals as goal
 

@@ -1,10 +1,8 @@
 -- `rdp_index::replacing::starts_at` meets its contract. The loop's invariant: whether a command left starts at the place is whether one does. The measure
 -- is what is left of the words. Assumes nothing.
 use mathlib.Core.Path.{refl}
-use Prim.Native.Nat.{◌-◌}
 use native.Mathlib.Omega.{arith}
-use Rattle.rdp_index.proofs.StartLaws.{Starting, first, ended, few, past, falls, found, again}
-use borrow.Author.Rules.{rules}
+use Rattle.rdp_index.proofs.StartLaws.{first, ended, few, past, falls, found, again}
 use Rattle.rdp_index.proofs.replacing.starts_at.Goals as goal
 
 pub loop-at-init : goal.loop-at-init

@@ -1,7 +1,6 @@
 -- `rdp_repair::plan::bare_rank` meets its contract: the totals are bounded, so no sum wraps. Assumes nothing.
 use Prim.Native.Nat.{◌%◌}
 use native.Mathlib.Omega.{arith}
-use borrow.Author.Rules.{rules}
 use Rattle.rdp_repair.proofs.plan.bare_rank.Goals as goal
 
 pub overflow_mul-result : goal.overflow_mul-result

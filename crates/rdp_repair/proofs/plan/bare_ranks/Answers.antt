@@ -1,12 +1,12 @@
 -- `rdp_repair::plan::bare_ranks` meets its contract: after m turns the first m ranks stand. Assumes nothing.
 use mathlib.Core.Path.{◌≡◌, refl, ◌∙◌}
-use Prim.Native.Nat.{ℕ, ◌-◌, ◌≤◌}
+use Prim.Native.Nat.{ℕ}
 use native.Mathlib.Omega.{arith}
 use borrow.Author.Rules.{rules}
 use lib.ListN.{length, get_or, length-set}
 use Rattle.rdp_repair.specs.Work.{bare_rank}
 use Rattle.rdp_repair.proofs.RankLaws.{bare-is}
-use Rattle.rdp_repair.proofs.TabulateLaws.{Holds, holds_more, holds-all}
+use Rattle.rdp_repair.proofs.TabulateLaws.{holds_more, holds-all}
 use Rattle.rdp_repair.proofs.plan.bare_ranks.Goals as goal
 
 pub loop-m-init : goal.loop-m-init

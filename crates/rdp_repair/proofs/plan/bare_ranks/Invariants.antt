@@ -1,12 +1,9 @@
 -- `rdp_repair::plan::bare_ranks` meets its contract: after m turns the first m ranks stand. Assumes nothing.
-use mathlib.Core.Path.{◌≡◌, refl, ◌∙◌}
-use Prim.Native.Nat.{ℕ, ◌-◌, ◌≤◌}
-use native.Mathlib.Omega.{arith}
-use borrow.Author.Rules.{rules}
-use lib.ListN.{length, get_or, length-set}
+use mathlib.Core.Path.{◌≡◌}
+use Prim.Native.Nat.{◌-◌, ◌≤◌}
+use lib.ListN.{length, get_or}
 use Rattle.rdp_repair.specs.Work.{bare_rank}
-use Rattle.rdp_repair.proofs.RankLaws.{bare-is}
-use Rattle.rdp_repair.proofs.TabulateLaws.{Holds, holds_more, holds-all}
+use Rattle.rdp_repair.proofs.TabulateLaws.{Holds}
 use Rattle.rdp_repair.proofs.plan.bare_ranks.Given as goal
 
 abbrev pub invariant-loop-m : goal.invariant-loop-m

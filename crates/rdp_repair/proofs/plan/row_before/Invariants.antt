@@ -1,13 +1,8 @@
 -- `rdp_repair::plan::row_before` meets its contract: after m turns the first m totals and choices stand. Assumes nothing.
-use mathlib.Core.Path.{◌≡◌, refl, sym, ap, ◌∙◌, subst}
-use Prim.Native.Nat.{ℕ, ◌-◌, ◌/◌, ◌%◌, min, ◌<◌, ◌≤◌}
-use native.Mathlib.Omega.{arith}
-use borrow.Author.Rules.{rules}
-use lib.ListN.{length, get_or, length-set}
-use Rattle.rdp_repair.specs.Best.{chosen}
-use Rattle.rdp_repair.specs.Work.{packed_choice, totals_of, choices_of, Bounded}
-use Rattle.rdp_repair.proofs.RankLaws.{rank_of, least-held, total_of, choice-of, bare-most}
-use Rattle.rdp_repair.proofs.TabulateLaws.{Holds, holds_more, holds-all, tabulate-same, tabulate-most}
+use mathlib.Core.Path.{◌≡◌}
+use Prim.Native.Nat.{ℕ, ◌-◌, ◌/◌, ◌%◌, min, ◌≤◌}
+use lib.ListN.{length, get_or}
+use Rattle.rdp_repair.proofs.TabulateLaws.{Holds}
 use Rattle.rdp_repair.proofs.plan.row_before.Given as goal
 
 abbrev pub invariant-loop-m : goal.invariant-loop-m

@@ -2,7 +2,6 @@
 use mathlib.Core.Path.{◌∙◌}
 use Prim.Native.Nat.{◌+◌, ◌%◌, min}
 use native.Mathlib.Omega.{arith}
-use borrow.Author.Rules.{rules}
 use lib.ListN.{get_or}
 use Rattle.rdp_repair.specs.Plan.{sync_at, wait_of}
 use Rattle.rdp_repair.specs.Work.{option_rank, synced_rank}

@@ -51,18 +51,22 @@ loop-i-init c =
     (omega arith, sym (back_start work n c.requires.2), sym (ap (λ (ns : List ℕ). tabulate 16 (best ns)) (no-numbers-left work n c.requires.2)))
 
 pub bounds-work-at : goal.bounds-work-at
-bounds-work-at c = omega (arith, length-now (goal.at.bounds-work-at c).In-loop-i, room (goal.at.bounds-work-at c).In-loop-i)
+bounds-work-at c =
+    let there = (goal.at.bounds-work-at c).In-loop-i in
+    omega (arith, length-now there, room there)
 
 pub row_before-row-requires : goal.row_before-row-requires
 row_before-row-requires c =
-    (
+    let there = (goal.at.row_before-row-requires c).In-loop-i in (
       c.requires.0,
-      number-below (first-work (goal.at.row_before-row-requires c).In-loop-i) (count (goal.at.row_before-row-requires c).In-loop-i) (room (goal.at.row_before-row-requires c).In-loop-i) (index (goal.at.row_before-row-requires c).In-loop-i) (in-range (goal.at.row_before-row-requires c).In-loop-i) _ (is-now (goal.at.row_before-row-requires c).In-loop-i) _ (are-totals (goal.at.row_before-row-requires c).In-loop-i) _ refl c.requires.3,
-      totals-bounded (first-work (goal.at.row_before-row-requires c).In-loop-i) (count (goal.at.row_before-row-requires c).In-loop-i) (room (goal.at.row_before-row-requires c).In-loop-i) (index (goal.at.row_before-row-requires c).In-loop-i) (in-range (goal.at.row_before-row-requires c).In-loop-i) _ (is-now (goal.at.row_before-row-requires c).In-loop-i) _ (are-totals (goal.at.row_before-row-requires c).In-loop-i) _ refl c.requires.1,
+      number-below (first-work there) (count there) (room there) (index there) (in-range there) _ (is-now there) _ (are-totals there) _ refl c.requires.3,
+      totals-bounded (first-work there) (count there) (room there) (index there) (in-range there) _ (is-now there) _ (are-totals there) _ refl c.requires.1,
     )
 
 pub slice_bounds-copy-end : goal.slice_bounds-copy-end
-slice_bounds-copy-end c = omega (arith, length-now (goal.at.slice_bounds-copy-end c).In-loop-i, room (goal.at.slice_bounds-copy-end c).In-loop-i)
+slice_bounds-copy-end c =
+    let there = (goal.at.slice_bounds-copy-end c).In-loop-i in
+    omega (arith, length-now there, room there)
 
 pub slice_bounds-copy-end-in-loop-i : goal.slice_bounds-copy-end-in-loop-i
 slice_bounds-copy-end-in-loop-i c = sym (sixteen (goal.at.slice_bounds-copy-end-in-loop-i c).After-row_before-row)
@@ -72,12 +76,13 @@ copy-requires c = tt
 
 pub loop-i-preserved : goal.loop-i-preserved
 loop-i-preserved c =
-    let at : ℕ = 16 * index (goal.at.loop-i-preserved c).In-loop-i in (
+    let there = (goal.at.loop-i-preserved c).In-loop-i in
+    let at : ℕ = 16 * index there in (
       omega arith,
       part-copied c.row_before-row.result.choices c.loop-i.work c.copy.new.out at (at + 16) (omega (arith, sixteen (goal.at.loop-i-preserved c).After-row_before-row))
-          (omega (arith, length-now (goal.at.loop-i-preserved c).In-loop-i, room (goal.at.loop-i-preserved c).In-loop-i)) c.copy.ensures ∙
-          turn-work (first-work (goal.at.loop-i-preserved c).In-loop-i) (count (goal.at.loop-i-preserved c).In-loop-i) (room (goal.at.loop-i-preserved c).In-loop-i) (index (goal.at.loop-i-preserved c).In-loop-i) (in-range (goal.at.loop-i-preserved c).In-loop-i) _ (is-now (goal.at.loop-i-preserved c).In-loop-i) _ (are-totals (goal.at.loop-i-preserved c).In-loop-i) _ refl _ c.row_before-row.ensures.choices-are,
-      turn-totals (first-work (goal.at.loop-i-preserved c).In-loop-i) (count (goal.at.loop-i-preserved c).In-loop-i) (room (goal.at.loop-i-preserved c).In-loop-i) (index (goal.at.loop-i-preserved c).In-loop-i) (in-range (goal.at.loop-i-preserved c).In-loop-i) _ (is-now (goal.at.loop-i-preserved c).In-loop-i) _ (are-totals (goal.at.loop-i-preserved c).In-loop-i) _ refl _ c.row_before-row.ensures.totals-are,
+          (omega (arith, length-now there, room there)) c.copy.ensures ∙
+          turn-work (first-work there) (count there) (room there) (index there) (in-range there) _ (is-now there) _ (are-totals there) _ refl _ c.row_before-row.ensures.choices-are,
+      turn-totals (first-work there) (count there) (room there) (index there) (in-range there) _ (is-now there) _ (are-totals there) _ refl _ c.row_before-row.ensures.totals-are,
     )
 
 pub returns : goal.returns

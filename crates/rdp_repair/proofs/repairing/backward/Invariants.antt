@@ -1,13 +1,10 @@
 -- `rdp_repair::repairing::backward` meets its contract: the choices stand from command i on, and the totals are those from i on. Assumes nothing.
-use mathlib.Core.Path.{◌≡◌, refl, sym, ap, ◌∙◌}
-use mathlib.Core.List.{List}
-use Prim.Native.Nat.{ℕ, suc, ◌+◌, ◌*◌, ◌-◌, ◌<◌, ◌≤◌}
-use native.Mathlib.Omega.{arith}
-use lib.ListN.{length, get_or, drop}
-use Rattle.rdp_words.proofs.OverwriteLaws.{part-copied}
+use mathlib.Core.Path.{◌≡◌}
+use Prim.Native.Nat.{◌≤◌}
+use lib.ListN.{drop}
 use Rattle.rdp_repair.specs.Best.{best}
 use Rattle.rdp_repair.specs.Work.{tabulate, noted_in}
-use Rattle.rdp_repair.proofs.BackLaws.{back_to, back_start, back_end, no-numbers-left, length_back, length-choices, number-below, totals-bounded, turn-totals, turn-work}
+use Rattle.rdp_repair.proofs.BackLaws.{back_to}
 use Rattle.rdp_repair.proofs.repairing.backward.Given as goal
 
 abbrev pub invariant-loop-i : goal.invariant-loop-i

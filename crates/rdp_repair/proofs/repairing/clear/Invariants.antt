@@ -1,11 +1,8 @@
 -- `rdp_repair::repairing::clear` meets its contract: after i turns the first i bytes are 0. Assumes nothing.
-use mathlib.Core.Path.{◌≡◌, refl, sym, ap, ◌∙◌}
-use mathlib.Core.List.{List, ◌++◌}
-use Prim.Native.Nat.{ℕ, ◌-◌, ◌≤◌}
-use native.Mathlib.Omega.{arith}
-use borrow.Author.Fill.{fill_more}
-use lib.ListN.{length, set, drop, replicate, length-set, length-replicate}
-use Rattle.rdp_words.proofs.OverwriteLaws.{overwrite-is}
+use mathlib.Core.Path.{◌≡◌}
+use mathlib.Core.List.{◌++◌}
+use Prim.Native.Nat.{◌-◌, ◌≤◌}
+use lib.ListN.{length, drop, replicate}
 use Rattle.rdp_repair.proofs.repairing.clear.Given as goal
 
 abbrev pub invariant-loop-i : goal.invariant-loop-i

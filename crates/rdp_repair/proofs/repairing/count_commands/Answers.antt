@@ -1,9 +1,7 @@
 -- `rdp_repair::repairing::count_commands` meets its contract: the commands passed and those left are all. Assumes nothing.
-use Prim.Native.Nat.{◌-◌}
 use native.Mathlib.Omega.{arith}
-use borrow.Author.Rules.{rules}
 use Rattle.rdp_check.proofs.LeftLaws.{inside, falls}
-use Rattle.rdp_repair.proofs.PassLaws.{Reached, reached-first, reached-next, count-few, all-passed, one_more}
+use Rattle.rdp_repair.proofs.PassLaws.{reached-first, reached-next, count-few, all-passed, one_more}
 use Rattle.rdp_repair.proofs.repairing.count_commands.Goals as goal
 
 pub loop-at-init : goal.loop-at-init

@@ -1,13 +1,8 @@
 -- `rdp_repair::repairing::count_inserts` meets its contract: what is counted and what is left to count make the whole. Assumes nothing.
 use mathlib.Core.Path.{◌≡◌}
-use mathlib.Core.List.{List}
-use Prim.Native.Nat.{ℕ, ◌+◌, ◌*◌, ◌-◌, ◌<◌, ◌≤◌}
-use native.Mathlib.Nat.{zero-add, sub-zero}
-use native.Mathlib.Omega.{arith}
-use borrow.Author.Rules.{rules}
-use lib.ListN.{get_or, drop}
+use Prim.Native.Nat.{◌+◌, ◌*◌, ◌-◌, ◌<◌, ◌≤◌}
+use lib.ListN.{drop}
 use Rattle.rdp_repair.specs.Work.{options_in, inserts_of}
-use Rattle.rdp_repair.proofs.ForwardLaws.{inserts-at, inserts-end}
 use Rattle.rdp_repair.proofs.repairing.count_inserts.Given as goal
 
 abbrev pub invariant-loop-i : goal.invariant-loop-i

@@ -1,6 +1,5 @@
 -- `rdp_repair::repairing::kept_words` meets its contract, by whether the command is left out. Assumes nothing.
 use mathlib.Core.Path.{sym, ◌∙◌}
-use borrow.Author.Rules.{rules}
 use Rattle.rdp_repair.specs.Work.{kept_words}
 use Rattle.rdp_repair.proofs.repairing.kept_words.Goals as goal
 

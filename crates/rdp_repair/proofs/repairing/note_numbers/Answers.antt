@@ -1,10 +1,8 @@
 -- `rdp_repair::repairing::note_numbers` meets its contract: the numbers noted and those of the commands left are the numbers of all, and so are the words
 -- that are kept. Assumes nothing.
-use Prim.Native.Nat.{◌-◌}
 use native.Mathlib.Omega.{arith}
-use borrow.Author.Rules.{rules}
 use Rattle.rdp_check.proofs.LeftLaws.{inside, falls}
-use Rattle.rdp_repair.proofs.PassLaws.{count-few, Noting, noting-first, noting-next, note-room, kept-few, noted-all}
+use Rattle.rdp_repair.proofs.PassLaws.{count-few, noting-first, noting-next, note-room, kept-few, noted-all}
 use Rattle.rdp_repair.proofs.repairing.note_numbers.Goals as goal
 
 pub loop-at-init : goal.loop-at-init

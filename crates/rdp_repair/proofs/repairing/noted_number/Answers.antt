@@ -1,6 +1,5 @@
 -- `rdp_repair::repairing::noted_number` meets its contract, by whether the command is left out. Assumes nothing.
 use mathlib.Core.Path.{sym, ◌∙◌}
-use borrow.Author.Rules.{rules}
 use Rattle.rdp_repair.specs.Work.{noted_number}
 use Rattle.rdp_repair.proofs.repairing.noted_number.Goals as goal
 

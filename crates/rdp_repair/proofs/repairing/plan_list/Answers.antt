@@ -4,7 +4,6 @@ use mathlib.Core.Bool.{Bool}
 use mathlib.Core.List.{List}
 use Prim.Native.Nat.{ℕ, ◌+◌, ◌*◌}
 use native.Mathlib.Omega.{arith}
-use borrow.Author.Rules.{rules}
 use lib.ListN.{length}
 use Rattle.rdp_check.specs.Commands.{commands_of}
 use Rattle.rdp_repair.specs.Best.{plan}
@@ -66,17 +65,20 @@ backward-cycles-requires c =
 
 pub count_inserts-requires : goal.count_inserts-requires
 count_inserts-requires c =
-    (omega (arith, held-long (goal.at.count_inserts-requires c).After-backward-cycles, c.requires.1, (noted (goal.at.count_inserts-requires c).After-backward-cycles).counted), held_below (goal.at.count_inserts-requires c).After-backward-cycles)
+    let there = (goal.at.count_inserts-requires c).After-backward-cycles in
+    (omega (arith, held-long there, c.requires.1, (noted there).counted), held_below there)
 
 pub overflow_add-total : goal.overflow_add-total
 overflow_add-total c =
-    omega (arith, (noted (goal.at.overflow_add-total c).After-backward-cycles).words, inserts-are (goal.at.overflow_add-total c).After-backward-cycles _ c.count_inserts.ensures, words-few (afresh (goal.at.overflow_add-total c).After-backward-cycles) (list (goal.at.overflow_add-total c).After-backward-cycles) _ c.requires.0)
+    let there = (goal.at.overflow_add-total c).After-backward-cycles in
+    omega (arith, (noted there).words, inserts-are there _ c.count_inserts.ensures, words-few (afresh there) (list there) _ c.requires.0)
 
 pub returns : goal.returns
 returns c =
+    let there = (goal.at.returns c).After-backward-cycles in
     record {
-      commands = (noted (goal.at.returns c).After-backward-cycles).counted;
-      cycles = cycles-are (afresh (goal.at.returns c).After-backward-cycles) (list (goal.at.returns c).After-backward-cycles) (work (goal.at.returns c).After-backward-cycles) _ _ (noted (goal.at.returns c).After-backward-cycles) _ _ c.backward-cycles.ensures;
-      words = ap₂ (λ (x y : ℕ). x + y) (noted (goal.at.returns c).After-backward-cycles).words (inserts-are (goal.at.returns c).After-backward-cycles _ c.count_inserts.ensures);
-      choices = held-is (goal.at.returns c).After-backward-cycles;
+      commands = (noted there).counted;
+      cycles = cycles-are (afresh there) (list there) (work there) _ _ (noted there) _ _ c.backward-cycles.ensures;
+      words = ap₂ (λ (x y : ℕ). x + y) (noted there).words (inserts-are there _ c.count_inserts.ensures);
+      choices = held-is there;
     }

@@ -4,7 +4,6 @@ use mathlib.Core.Bool.{Bool}
 use mathlib.Core.List.{List}
 use Prim.Native.Nat.{ℕ, ◌*◌, ◌≤◌}
 use native.Mathlib.Omega.{arith}
-use borrow.Author.Rules.{rules}
 use lib.ListN.{length, replicate}
 use Rattle.rdp_words.specs.Words.{overwrite}
 use Rattle.rdp_check.specs.Commands.{commands_of}
@@ -74,16 +73,17 @@ clear-requires c = omega (arith, room (goal.at.clear-requires c).After-plan_list
 
 pub returns-then-out-needed : goal.returns-then-out-needed
 returns-then-out-needed c =
-    refused-out (basis (goal.at.returns-then-out-needed c).After-plan_list-planned) (list (goal.at.returns-then-out-needed c).After-plan_list-planned) (work (goal.at.returns-then-out-needed c).After-plan_list-planned) c.args.out.now c.requires.0 c.requires.2 _ (needed (goal.at.returns-then-out-needed c).After-plan_list-planned).0 _ (cleared-is (goal.at.returns-then-out-needed c).After-plan_list-planned _ c.clear.ensures)
+    let there = (goal.at.returns-then-out-needed c).After-plan_list-planned in
+    refused-out (basis there) (list there) (work there) c.args.out.now c.requires.0 c.requires.2 _ (needed there).0 _ (cleared-is there _ c.clear.ensures)
     c.if-out-needed.true
 
 pub write_plan-requires : goal.write_plan-requires
 write_plan-requires c =
-    (
-      whole-list (list (goal.at.write_plan-requires c).After-plan_list-planned) c.args.words c.requires.0 c.requires.1,
-      omega (arith, long (goal.at.write_plan-requires c).After-plan_list-planned, c.requires.2),
-      choices-below (afresh (goal.at.write_plan-requires c).After-plan_list-planned) (list (goal.at.write_plan-requires c).After-plan_list-planned) (work (goal.at.write_plan-requires c).After-plan_list-planned) (held (goal.at.write_plan-requires c).After-plan_list-planned) c.plan_list-planned.ensures.choices,
-      omega (arith, ap length (due-is (goal.at.write_plan-requires c).After-plan_list-planned), (needed (goal.at.write_plan-requires c).After-plan_list-planned).0, c.if-out-needed.false),
+    let there = (goal.at.write_plan-requires c).After-plan_list-planned in (
+      whole-list (list there) c.args.words c.requires.0 c.requires.1,
+      omega (arith, long there, c.requires.2),
+      choices-below (afresh there) (list there) (work there) (held there) c.plan_list-planned.ensures.choices,
+      omega (arith, ap length (due-is there), (needed there).0, c.if-out-needed.false),
     )
 
 pub clear-requires-2 : goal.clear-requires-2
@@ -91,6 +91,7 @@ clear-requires-2 c = omega (arith, room (goal.at.clear-requires-2 c).After-plan_
 
 pub returns : goal.returns
 returns c =
+    let there = (goal.at.returns c).After-plan_list-planned in
     let out : List ℕ = c.args.out.now in
-    repaired-is (basis (goal.at.returns c).After-plan_list-planned) (list (goal.at.returns c).After-plan_list-planned) (work (goal.at.returns c).After-plan_list-planned) out c.requires.0 c.requires.2 _ (needed (goal.at.returns c).After-plan_list-planned).0 _ (cleared-is (goal.at.returns c).After-plan_list-planned _ c.clear-2.ensures)
-    c.if-out-needed.false _ (cycles-is (goal.at.returns c).After-plan_list-planned) _ (written_is (goal.at.returns c).After-plan_list-planned out _ c.write_plan.ensures)
+    repaired-is (basis there) (list there) (work there) out c.requires.0 c.requires.2 _ (needed there).0 _ (cleared-is there _ c.clear-2.ensures)
+    c.if-out-needed.false _ (cycles-is there) _ (written_is there out _ c.write_plan.ensures)

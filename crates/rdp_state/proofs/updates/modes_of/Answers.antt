@@ -3,7 +3,6 @@ use mathlib.Core.Bool.{Bool, not}
 use Prim.Native.Nat.{ℕ}
 use lib.Dec.{eqb}
 use lib.ListN.{get_or}
-use borrow.Author.Rules.{rules}
 use Rattle.rdp_state.proofs.updates.modes_of.Goals as goal
 
 pub returns : goal.returns

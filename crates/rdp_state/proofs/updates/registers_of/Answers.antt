@@ -3,7 +3,6 @@ use mathlib.Core.Path.{◌≡◌, ap, ◌∙◌}
 use Rattle.rdp_command.specs.Reads.{register_fields}
 use Rattle.rdp_command.specs.declared.RegisterFields.{RegisterFields}
 use Rattle.rdp_state.specs.RegisterWords.{registers_by}
-use borrow.Author.Rules.{rules}
 use Rattle.rdp_state.specs.Replay.{register_words}
 use Rattle.rdp_state.proofs.updates.registers_of.Goals.{After-file-5-1, After-register_fields-fields}
 use Rattle.rdp_state.proofs.updates.registers_of.Goals as goal

@@ -1,7 +1,6 @@
 -- `rdp_state::updates::slot_entry` meets its contract: a byte of its row. Assumes nothing.
 use Prim.Native.Nat.{ℕ, ◌/◌, ◌%◌, ◌*◌, ◌^◌}
 use mathlib.Core.Path.{ap}
-use borrow.Author.Rules.{rules}
 use Rattle.rdp_state.proofs.updates.slot_entry.Goals as goal
 
 pub returns : goal.returns

@@ -1,7 +1,6 @@
 -- `rdp_state::updates::slot_of` meets its contract: the rows hold the slots, all of which are small. Assumes nothing.
 use Prim.Native.Nat.{◌<◌}
 use native.Mathlib.Omega.{arith}
-use borrow.Author.Rules.{rules}
 use Rattle.rdp_state.specs.Replay.{slot_in}
 use Rattle.rdp_state.proofs.RegisterLaws.{found-slot, found-small}
 use Rattle.rdp_state.proofs.updates.slot_of.Goals.{After-tile_in-tile}

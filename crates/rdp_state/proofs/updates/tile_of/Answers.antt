@@ -1,7 +1,6 @@
 -- `rdp_state::updates::tile_of` meets its contract: descriptor and size are read out of their words. Assumes nothing.
 use mathlib.Core.Bool.{not}
 use lib.Dec.{eqb}
-use borrow.Author.Rules.{rules}
 use Rattle.rdp_state.proofs.updates.tile_of.Goals as goal
 
 pub returns : goal.returns

@@ -1,6 +1,5 @@
 -- `rdp_state::updates::tiles_of` meets its contract: each tile is read out of its two words. Assumes nothing.
 use mathlib.Core.List.{[], ◌∷◌}
-use borrow.Author.Rules.{rules}
 use Rattle.rdp_state.proofs.updates.tiles_of.Goals as goal
 
 pub returns : goal.returns

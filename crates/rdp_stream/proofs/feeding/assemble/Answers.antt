@@ -1,5 +1,4 @@
 -- `rdp_stream::feeding::assemble` meets its contract: the record is put together. Assumes nothing.
-use borrow.Author.Rules.{rules}
 use Rattle.rdp_stream.proofs.feeding.assemble.Goals as goal
 
 pub returns : goal.returns

@@ -1,5 +1,4 @@
 -- `rdp_stream::feeding::close_open` meets its contract, by its test. Assumes nothing.
-use borrow.Author.Rules.{rules}
 use mathlib.Core.Path.{ap, ◌∙◌}
 use Rattle.rdp_stream.specs.Steps.{closed_with}
 use Rattle.rdp_stream.proofs.RecordLaws.{closed-kept, closed-added}

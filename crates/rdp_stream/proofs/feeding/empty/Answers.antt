@@ -1,5 +1,4 @@
 -- `rdp_stream::feeding::empty` meets its contract, by that of `assemble`. Assumes nothing.
-use borrow.Author.Rules.{rules}
 use Rattle.rdp_stream.proofs.feeding.empty.Goals as goal
 
 pub returns : goal.returns

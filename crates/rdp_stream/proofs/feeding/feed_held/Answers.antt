@@ -1,5 +1,4 @@
 -- `rdp_stream::feeding::feed_held` meets its contract: the held bytes with those of the part are a command, or not yet. Assumes nothing.
-use borrow.Author.Rules.{rules}
 use mathlib.Core.Path.{◌∙◌}
 use Rattle.rdp_stream.proofs.FeedLaws.{total-filled, held_all, completes}
 use Rattle.rdp_stream.proofs.feeding.feed_held.Goals as goal

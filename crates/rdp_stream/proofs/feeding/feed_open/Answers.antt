@@ -2,7 +2,6 @@
 use mathlib.Core.Path.{◌≡◌, ◌∙◌}
 use Prim.Native.Nat.{ℕ, ◌-◌, min}
 use native.Mathlib.Omega.{arith}
-use borrow.Author.Rules.{rules}
 use Rattle.rdp_stream.proofs.RecordLaws.{open_more, fed-long, fed-room, fed-whole, fed-full, fed-over, part-refused, part-full}
 use Rattle.rdp_stream.proofs.feeding.feed_open.Goals as goal
 

@@ -1,5 +1,4 @@
 -- `rdp_stream::feeding::feed_some` meets its contract, by those of what it calls. Assumes nothing.
-use borrow.Author.Rules.{rules}
 use mathlib.Core.Path.{ap, sym, ◌∙◌}
 use lib.ListN.{take}
 use Rattle.rdp_stream.specs.Portions.{fed_bytes}

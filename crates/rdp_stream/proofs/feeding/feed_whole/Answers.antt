@@ -1,6 +1,5 @@
 -- `rdp_stream::feeding::feed_whole` meets its contract: what the check answers of the part is what its bytes do. Assumes nothing.
 use mathlib.Core.Path.{◌∙◌}
-use borrow.Author.Rules.{rules}
 use Rattle.rdp_stream.proofs.FeedLaws.{short-fed, refused-room, refused-fed, held-inside, held-few, held-fed}
 use Rattle.rdp_stream.proofs.feeding.feed_whole.Goals as goal
 

@@ -2,7 +2,6 @@
 use mathlib.Core.Path.{sym, ◌∙◌, ap}
 use mathlib.Core.List.{List, []}
 use Prim.Native.Nat.{ℕ, ◌+◌, ◌*◌, ◌-◌}
-use borrow.Author.Rules.{rules}
 use Rattle.rdp_stream.specs.Portions.{fed_bytes}
 use Rattle.rdp_stream.specs.Records.{stream_of}
 use Rattle.rdp_stream.specs.Steps.{open_of}

@@ -4,7 +4,6 @@ use mathlib.Core.Path.{ap, ◌∙◌}
 use Prim.Native.Nat.{ℕ, ◌+◌, ◌-◌}
 use lib.ListN.{length, replicate}
 use lib.Seq.{paste}
-use borrow.Author.Rules.{rules}
 use Rattle.rdp_stream.specs.Steps.{assembled}
 use Rattle.rdp_stream.proofs.HeldLaws.{part_to_end}
 use Rattle.rdp_stream.proofs.feeding.hold_from.Goals as goal

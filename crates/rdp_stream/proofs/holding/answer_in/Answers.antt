@@ -1,5 +1,4 @@
 -- `rdp_stream::holding::answer_in` meets its contract, by its test. Assumes nothing.
-use borrow.Author.Rules.{rules}
 use borrow.Author.Tests.{ne_eqb}
 use Rattle.rdp_stream.proofs.holding.answer_in.Goals as goal
 

@@ -5,7 +5,6 @@ use Prim.Native.Nat.{ℕ}
 use native.Mathlib.Omega.{arith}
 use lib.Dec.{eqb}
 use lib.Seq.{length-take-le}
-use borrow.Author.Rules.{rules}
 use Rattle.rdp_stream.proofs.holding.bytes_damaged.Goals as goal
 
 pub slice_bounds-whole_words-end : goal.slice_bounds-whole_words-end

@@ -1,5 +1,4 @@
 -- `rdp_stream::holding::closing_in` meets its contract, by its tests. Assumes nothing.
-use borrow.Author.Rules.{rules}
 use borrow.Author.Tests.{eq-eqb, ne_eqb}
 use Rattle.rdp_stream.proofs.holding.closing_in.Goals as goal
 

@@ -2,7 +2,6 @@
 use Prim.Native.Nat.{◌+◌}
 use native.Mathlib.Omega.{arith}
 use lib.ListN.{length}
-use borrow.Author.Rules.{rules}
 use Rattle.rdp_words.proofs.OverwriteLaws.{part-copied}
 use Rattle.rdp_stream.proofs.holding.put.Goals as goal
 

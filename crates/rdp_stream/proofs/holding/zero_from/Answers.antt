@@ -1,9 +1,9 @@
 -- `rdp_stream::holding::zero_from` meets its contract: what is left decides. Assumes nothing.
 use mathlib.Core.Path.{◌≡◌, ap, ◌∙◌}
-use Prim.Native.Nat.{ℕ, ◌*◌, ◌-◌, ◌/◌, ◌≤◌}
+use Prim.Native.Nat.{ℕ, ◌*◌, ◌/◌}
 use native.Mathlib.Omega.{arith}
 use borrow.Author.Rules.{rules}
-use lib.ListN.{length, drop}
+use lib.ListN.{drop}
 use Rattle.rdp_stream.specs.Records.{all_zero}
 use Rattle.rdp_stream.proofs.HeldLaws.{zero-at, zero-not}
 use Rattle.rdp_stream.proofs.holding.zero_from.Goals as goal

@@ -1,11 +1,8 @@
 -- `rdp_stream::holding::zero_words` meets its contract: what is left decides. Assumes nothing.
-use mathlib.Core.Path.{◌≡◌, refl, ◌∙◌}
+use mathlib.Core.Path.{◌≡◌}
 use Prim.Native.Nat.{◌*◌, ◌-◌, ◌/◌}
-use native.Mathlib.Omega.{arith}
-use borrow.Author.Rules.{rules}
 use lib.ListN.{length, drop}
 use Rattle.rdp_stream.specs.Records.{all_zero}
-use Rattle.rdp_stream.proofs.HeldLaws.{zero-end, words-zero, words-not}
 use Rattle.rdp_stream.proofs.holding.zero_words.Given as goal
 
 abbrev pub invariant-loop-k : goal.invariant-loop-k

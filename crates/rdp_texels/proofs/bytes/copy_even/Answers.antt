@@ -1,9 +1,7 @@
 -- `rdp_texels::bytes::copy_even` meets its contract. The invariant stands first. Assumes nothing.
 use mathlib.Core.Path.{◌≡◌, refl}
-use mathlib.Core.Bool.{false}
-use Prim.Native.Nat.{◌-◌, ◌≤◌}
 use native.Mathlib.Omega.{arith}
-use Rattle.rdp_texels.proofs.PartLaws.{Taken, taken_none, taken_more}
+use Rattle.rdp_texels.proofs.PartLaws.{taken_none, taken_more}
 use borrow.Author.Rules.{rules}
 use Rattle.rdp_texels.proofs.bytes.copy_even.Goals as goal
 

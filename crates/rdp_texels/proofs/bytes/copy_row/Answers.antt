@@ -1,7 +1,6 @@
 -- `rdp_texels::bytes::copy_row` meets its contract. Assumes nothing.
 use mathlib.Core.Bool.{false≢true}
 use native.Mathlib.Omega.{arith}
-use borrow.Author.Rules.{rules}
 use Rattle.rdp_texels.proofs.bytes.copy_row.Goals as goal
 
 pub move_odd-requires : goal.move_odd-requires

@@ -1,8 +1,6 @@
 -- `rdp_texels::bytes::exchange_groups` meets its contract. The invariant stands first. Assumes nothing.
 use Prim.Native.Nat.{◌-◌, ◌≤◌}
-use native.Mathlib.Omega.{arith}
-use Rattle.rdp_texels.proofs.ExchangeLaws.{Exchanged, exchanged-none, exchanged-more}
-use borrow.Author.Rules.{rules}
+use Rattle.rdp_texels.proofs.ExchangeLaws.{Exchanged}
 use Rattle.rdp_texels.proofs.bytes.exchange_groups.Given as goal
 
 abbrev pub invariant-loop-k : goal.invariant-loop-k

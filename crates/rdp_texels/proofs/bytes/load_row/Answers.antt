@@ -1,7 +1,6 @@
 -- `rdp_texels::bytes::load_row` meets its contract. Assumes nothing.
 use mathlib.Core.Bool.{true≢false}
 use native.Mathlib.Omega.{arith}
-use borrow.Author.Rules.{rules}
 use Rattle.rdp_texels.proofs.bytes.load_row.Goals as goal
 
 pub move_odd-requires : goal.move_odd-requires

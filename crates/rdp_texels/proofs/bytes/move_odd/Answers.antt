@@ -1,7 +1,6 @@
 -- `rdp_texels::bytes::move_odd` meets its contract. Assumes nothing.
 use native.Mathlib.Omega.{arith}
 use Rattle.rdp_texels.proofs.ExchangeLaws.{odd-three}
-use borrow.Author.Rules.{rules}
 use Rattle.rdp_texels.proofs.bytes.move_odd.Goals as goal
 
 pub move_turned-requires : goal.move_turned-requires

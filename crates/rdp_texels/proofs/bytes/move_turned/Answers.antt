@@ -1,11 +1,10 @@
 -- `rdp_texels::bytes::move_turned` meets its contract. The invariant stands first. Assumes nothing.
 use mathlib.Core.Path.{◌≡◌, ap}
-use mathlib.Core.Bool.{not}
-use Prim.Native.Nat.{ℕ, ◌+◌, ◌-◌, ◌<◌, ◌≤◌}
+use Prim.Native.Nat.{ℕ, ◌+◌, ◌<◌}
 use native.Mathlib.Omega.{arith}
 use lib.ListN.{length, get_or}
 use Rattle.rdp_texels.proofs.TurnLaws.{inside-to, inside-from}
-use Rattle.rdp_texels.proofs.PartLaws.{Taken, taken_none, taken_more}
+use Rattle.rdp_texels.proofs.PartLaws.{taken_none, taken_more}
 use borrow.Author.Rules.{rules}
 use Rattle.rdp_texels.proofs.bytes.move_turned.Goals as goal
 

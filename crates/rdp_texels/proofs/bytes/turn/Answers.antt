@@ -1,6 +1,5 @@
 -- `rdp_texels::bytes::turn` meets its contract. Assumes nothing.
 use Rattle.rdp_texels.specs.Texels.{turned}
-use borrow.Author.Rules.{rules}
 use Rattle.rdp_texels.proofs.bytes.turn.Goals as goal
 
 pub returns-then-odd : goal.returns-then-odd

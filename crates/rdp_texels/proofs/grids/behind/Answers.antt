@@ -9,7 +9,6 @@ use lib.IntN.{ℤ, nat_abs}
 use lib.Dec.{T}
 use native.Mathlib.Omega.{arith}
 use mathlib.Core.Path.{ap, sym, subst}
-use borrow.Author.Rules.{rules}
 use Rattle.rdp_texels.proofs.grids.behind.Goals as goal
 
 pub overflow_cast-excess : goal.overflow_cast-excess

@@ -3,7 +3,6 @@ use Rattle.rdp_texels.proofs.LinkLaws.{bottom-zero}
 use Rattle.rdp_texels.specs.Rows.{bottom_from}
 use native.Mathlib.Omega.{arith}
 use mathlib.Core.Path.{sym, ◌∙◌}
-use borrow.Author.Rules.{rules}
 use Rattle.rdp_texels.proofs.grids.bottom_from.Goals as goal
 
 pub returns-then-y-eq0 : goal.returns-then-y-eq0

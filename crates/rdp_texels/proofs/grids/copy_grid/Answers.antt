@@ -2,7 +2,6 @@
 use Rattle.rdp_texels.specs.Rows.{grid_of, copy_grid}
 use mathlib.Core.Path.{◌∙◌}
 use Prim.Native.Nat.{◌+◌, ◌/◌}
-use borrow.Author.Rules.{rules}
 use Rattle.rdp_texels.proofs.grids.copy_grid.Goals as goal
 
 pub below-up-requires : goal.below-up-requires

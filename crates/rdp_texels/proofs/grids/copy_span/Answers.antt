@@ -1,6 +1,5 @@
 -- `rdp_texels::grids::copy_span` meets its contract. Assumes nothing.
 use mathlib.Core.Path.{ap, ◌∙◌}
-use borrow.Author.Rules.{rules}
 use Rattle.rdp_texels.specs.Rows.{copy_span, bottom_from}
 use Rattle.rdp_texels.proofs.grids.copy_span.Goals as goal
 

@@ -4,7 +4,6 @@ use Rattle.rdp_texels.proofs.CornerLaws.{span-some}
 use Rattle.rdp_texels.proofs.GridLaws.{corners-none, corners-memory, corners-texture, corners-clear}
 use native.Mathlib.Omega.{arith}
 use mathlib.Core.Path.{sym, ◌∙◌}
-use borrow.Author.Rules.{rules}
 use Rattle.std.proofs.Common.{not, ap}
 use Rattle.rdp_texels.proofs.grids.corners.Goals as goal
 

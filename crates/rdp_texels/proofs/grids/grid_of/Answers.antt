@@ -1,7 +1,6 @@
 -- `rdp_texels::grids::grid_of` meets its contract. Assumes nothing.
 use native.Mathlib.Omega.{arith}
 use Prim.Native.Nat.{◌+◌, ◌*◌}
-use borrow.Author.Rules.{rules}
 use Rattle.rdp_texels.proofs.grids.grid_of.Goals as goal
 
 pub returns : goal.returns

@@ -1,7 +1,6 @@
 -- `rdp_texels::grids::lies_in` meets its contract. Assumes nothing.
 use Rattle.rdp_texels.proofs.GridLaws.{lies-early, lies-late, end_after}
 use native.Mathlib.Omega.{arith}
-use borrow.Author.Rules.{rules}
 use Rattle.rdp_texels.proofs.grids.lies_in.Goals as goal
 
 pub returns-then-first-low : goal.returns-then-first-low

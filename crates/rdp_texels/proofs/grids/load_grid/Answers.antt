@@ -3,7 +3,6 @@ use Rattle.rdp_texels.specs.Rows.{grid_of, load_grid}
 use native.Mathlib.Omega.{arith}
 use mathlib.Core.Path.{◌≡◌, ◌∙◌}
 use Prim.Native.Nat.{ℕ, ◌+◌, ◌/◌}
-use borrow.Author.Rules.{rules}
 use Rattle.rdp_texels.proofs.grids.load_grid.Goals as goal
 
 nothing : (n : ℕ) → 0 / 32 + n + 0 / 4 ≡ n

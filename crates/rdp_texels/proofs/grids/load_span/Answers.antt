@@ -1,7 +1,6 @@
 -- `rdp_texels::grids::load_span` meets its contract. Assumes nothing.
 use Rattle.rdp_texels.specs.Rows.{load_span}
 use native.Mathlib.Omega.{arith}
-use borrow.Author.Rules.{rules}
 use Rattle.rdp_texels.proofs.grids.load_span.Goals as goal
 
 pub returns : goal.returns

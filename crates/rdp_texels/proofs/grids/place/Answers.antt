@@ -2,7 +2,6 @@
 use native.Mathlib.Nat.{mul-le-mul}
 use native.Mathlib.Omega.{arith}
 use mathlib.Core.Path.{refl}
-use borrow.Author.Rules.{rules}
 use Rattle.rdp_texels.proofs.grids.place.Goals as goal
 
 pub overflow_mul-result : goal.overflow_mul-result

@@ -1,5 +1,4 @@
 -- `rdp_texels::grids::run_fits` meets its contract. Assumes nothing.
-use borrow.Author.Rules.{rules}
 use Rattle.rdp_texels.proofs.grids.run_fits.Goals as goal
 
 pub returns : goal.returns

@@ -3,7 +3,6 @@ use native.Mathlib.Nat.{mul-le-mul}
 use native.Mathlib.Omega.{arith}
 use mathlib.Core.Path.{refl}
 use Prim.Native.Nat.{ℕ, ◌≤◌, ◌<◌}
-use borrow.Author.Rules.{rules}
 use Rattle.rdp_texels.proofs.grids.texture_bytes.Goals as goal
 
 lines : (l : ℕ) → l < 65536 → l ≤ 65535

@@ -1,5 +1,4 @@
 -- `rdp_texels::needs::copy_needs` meets its contract. Assumes nothing.
-use borrow.Author.Rules.{rules}
 use Rattle.rdp_texels.specs.Copy.{copy_needs}
 use Rattle.rdp_texels.proofs.needs.copy_needs.Goals as goal
 

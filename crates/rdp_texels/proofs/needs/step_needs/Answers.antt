@@ -1,6 +1,5 @@
 -- `rdp_texels::needs::step_needs` meets its contract. Assumes nothing.
 use Rattle.rdp_texels.specs.Copy.{step_needs}
-use borrow.Author.Rules.{rules}
 use Rattle.rdp_texels.proofs.needs.step_needs.Goals as goal
 
 pub returns : goal.returns

@@ -4,7 +4,6 @@ use Rattle.rdp_texels.proofs.GridLaws.{row_fits}
 use native.Mathlib.Omega.{arith}
 use mathlib.Core.Path.{refl, ap}
 use Prim.Native.Nat.{ℕ, ◌-◌, ◌≤◌, ◌<◌}
-use borrow.Author.Rules.{rules}
 use Rattle.rdp_texels.proofs.rows.copy_grid_row.Goals as goal
 
 row : (y bottom : ℕ) → y < bottom → bottom ≤ 16384 → y ≤ 16384

@@ -1,7 +1,6 @@
 -- `rdp_texels::rows::copy_kept_row` meets its contract. Assumes nothing.
 use Rattle.rdp_texels.specs.Texels.{copied}
 use mathlib.Core.Path.{sym, ◌∙◌}
-use borrow.Author.Rules.{rules}
 use Rattle.rdp_texels.proofs.rows.copy_kept_row.Goals as goal
 
 pub copy_grid_row-requires : goal.copy_grid_row-requires

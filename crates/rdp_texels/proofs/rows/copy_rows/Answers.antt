@@ -1,8 +1,6 @@
 -- `rdp_texels::rows::copy_rows` meets its contract. The invariant stands first. Assumes nothing.
-use Rattle.rdp_pixels.specs.Kept.{row_kept}
-use Rattle.rdp_texels.proofs.LoopLaws.{CopyDue, copy-first, copy-next, copy_done}
+use Rattle.rdp_texels.proofs.LoopLaws.{copy-first, copy-next, copy_done}
 use native.Mathlib.Omega.{arith}
-use Prim.Native.Nat.{◌-◌}
 use borrow.Author.Rules.{rules}
 use Rattle.rdp_texels.proofs.rows.copy_rows.Goals as goal
 

@@ -1,9 +1,7 @@
 -- `rdp_texels::rows::copy_rows` meets its contract. The invariant stands first. Assumes nothing.
 use Rattle.rdp_pixels.specs.Kept.{row_kept}
-use Rattle.rdp_texels.proofs.LoopLaws.{CopyDue, copy-first, copy-next, copy_done}
-use native.Mathlib.Omega.{arith}
+use Rattle.rdp_texels.proofs.LoopLaws.{CopyDue}
 use Prim.Native.Nat.{◌-◌}
-use borrow.Author.Rules.{rules}
 use Rattle.rdp_texels.proofs.rows.copy_rows.Given as goal
 
 abbrev pub invariant-loop-y : goal.invariant-loop-y

@@ -1,10 +1,7 @@
 -- `rdp_texels::rows::load_rows` meets its contract. The invariant stands first. Assumes nothing.
 use mathlib.Core.Bool.{true}
-use Rattle.rdp_texels.proofs.LoopLaws.{LoadDue, load-first, load-next, load-done}
-use native.Mathlib.Omega.{arith}
-use mathlib.Core.Path.{◌∙◌}
+use Rattle.rdp_texels.proofs.LoopLaws.{LoadDue}
 use Prim.Native.Nat.{◌-◌}
-use borrow.Author.Rules.{rules}
 use Rattle.rdp_texels.proofs.rows.load_rows.Given as goal
 
 abbrev pub invariant-loop-y : goal.invariant-loop-y

@@ -1,7 +1,6 @@
 -- `rdp_view::pixels::pixel_at` meets its contract: by the size number, whose bytes are in the image. Assumes nothing.
 use mathlib.Core.Path.{◌∙◌}
 use native.Mathlib.Omega.{arith}
-use borrow.Author.Rules.{rules}
 use Rattle.rdp_view.proofs.PixelLaws.{bytes-some, bytes-more, bytes-four, eight-at, sixteen-at, copied_at}
 use Rattle.rdp_view.proofs.pixels.pixel_at.Goals as goal
 

@@ -2,11 +2,10 @@
 use mathlib.Core.Path.{◌≡◌, ap, ◌∙◌}
 use Prim.Native.Nat.{◌+◌}
 use native.Mathlib.Omega.{arith}
-use borrow.Author.Rules.{rules}
 use lib.ListN.{length}
 use Rattle.rdp_words.specs.Words.{pasted}
 use Rattle.rdp_words.proofs.OverwriteLaws.{part-copied}
-use Rattle.rdp_view.proofs.PixelLaws.{length-rgba, Viewing, viewing-first, viewing-next, pixel-inside, pixel-room, same-long, all-written}
+use Rattle.rdp_view.proofs.PixelLaws.{length-rgba, viewing-first, viewing-next, pixel-inside, pixel-room, all-written}
 use Rattle.rdp_view.proofs.pixels.write.Goals as goal
 
 pub loop-left-init : goal.loop-left-init

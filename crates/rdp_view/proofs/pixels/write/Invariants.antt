@@ -1,12 +1,5 @@
 -- `rdp_view::pixels::write` meets its contract: what is written and what is due make the whole. Assumes nothing.
-use mathlib.Core.Path.{◌≡◌, ap, ◌∙◌}
-use Prim.Native.Nat.{◌+◌}
-use native.Mathlib.Omega.{arith}
-use borrow.Author.Rules.{rules}
-use lib.ListN.{length}
-use Rattle.rdp_words.specs.Words.{pasted}
-use Rattle.rdp_words.proofs.OverwriteLaws.{part-copied}
-use Rattle.rdp_view.proofs.PixelLaws.{length-rgba, Viewing, viewing-first, viewing-next, pixel-inside, pixel-room, same-long, all-written}
+use Rattle.rdp_view.proofs.PixelLaws.{Viewing}
 use Rattle.rdp_view.proofs.pixels.write.Given as goal
 
 abbrev pub invariant-loop-left : goal.invariant-loop-left

@@ -2,7 +2,6 @@
 use mathlib.Core.Path.{ap, sym, ◌∙◌}
 use Prim.Native.Nat.{ℕ, ◌*◌}
 use native.Mathlib.Nat.{mul-one}
-use borrow.Author.Rules.{rules}
 use Rattle.rdp_view.proofs.PixelLaws.{bytes_one, bytes-two, bytes-four}
 use Rattle.rdp_view.proofs.tests.image_bytes.Goals as goal
 

@@ -1,7 +1,6 @@
 -- `rdp_view::tests::is_unviewable` meets its contract: both sides and the size number. Assumes nothing.
 use mathlib.Core.Bool.{◌||◌}
 use lib.Dec.{eqb, ltb}
-use borrow.Author.Rules.{rules}
 use Rattle.rdp_view.proofs.tests.is_unviewable.Goals as goal
 
 pub returns : goal.returns
