@@ -1,5 +1,5 @@
 -- Document 000's bit lines, in its order, for the commands in the order of their numbers: the one place where bit positions stand, but for a tile's number in
--- rdp_state's `tileIn`. Decoding, encoding, refusal 15 and the fields as numbers are computed from these lists.
+-- rdp_state's `tile_in`. Decoding, encoding, refusal 15 and the fields as numbers are computed from these lists.
 use Rattle.std.specs.Prelude.{Bool, true, false, cond, List, [], ◌∷◌, ◌++◌, ℕ, ◌+◌, ◌-◌, ◌/◌, eqb}
 
 -- a bit line: the word of the command, its high and low bit there, and whether it is two's complement

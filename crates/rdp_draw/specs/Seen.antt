@@ -30,7 +30,7 @@ copy_words file t =
 abbrev pub load_words : List ℕ → ℕ → LoadWords
 load_words file t = record { image = word file 12; tile = word file (15 + t) }
 
--- the fill rectangle, the texture rectangle and the load at a place of a list; a Load Block has the fields of a Load Tile, see `blockArea`
+-- the fill rectangle, the texture rectangle and the load at a place of a list; a Load Block has the fields of a Load Tile, see `block_area`
 abbrev pub fill_at : List ℕ → List ℕ → ℕ → FillFields
 fill_at file list at = fill_fields (fill_words file) (word_at list at)
 

@@ -1,4 +1,4 @@
--- Only the address mod 4 matters for `colorByte`, and byte k of the colour rotated by p bytes is byte p + k of the colour. Assumes nothing.
+-- Only the address mod 4 matters for `color_byte`, and byte k of the colour rotated by p bytes is byte p + k of the colour. Assumes nothing.
 use mathlib.Core.Path.{◌≡◌, sym, ap, ◌∙◌}
 use Prim.Native.Nat.{ℕ, ◌+◌, ◌-◌, ◌*◌, ◌/◌, ◌%◌, ◌^◌, ◌≤◌, ◌<◌}
 use native.Mathlib.Nat.{mod-eq_of_lt}

@@ -1,4 +1,4 @@
--- Laws of `inRuns` and `areaInside`. Assumes nothing.
+-- Laws of `in_runs` and `area_inside`. Assumes nothing.
 use mathlib.Core.Path.{◌≡◌, sym, ◌∙◌}
 use mathlib.Core.Logic.{⊎_elim}
 use mathlib.Core.Bool.{true, false, ◌&&◌, false≢true}
@@ -93,7 +93,7 @@ module _ (r : Area) where
         (leb-true start r.first parts.0, leb-true area_end (start + len) parts.1))
         (or_is (area_empty r) (leb start r.first && leb area_end (start + len)) e)
 
-    -- `areaInside` is the test that every address of the area lies in memory
+    -- `area_inside` is the test that every address of the area lies in memory
     pub inside-sound : area_inside r start len ≡ true → (a : ℕ) → in_runs r.first r.size r.stride r.rows a ≡ true
         → (start ≤ a) × (a < start + len)
     inside-sound e a h =

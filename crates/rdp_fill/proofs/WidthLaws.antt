@@ -1,4 +1,4 @@
--- For every width alike, each byte of a pixel's value is `colorByte` of its own address. Assumes nothing.
+-- For every width alike, each byte of a pixel's value is `color_byte` of its own address. Assumes nothing.
 use mathlib.Core.Path.{◌≡◌, refl, sym, ap, ◌∙◌}
 use mathlib.Core.Logic.{◌⊎◌, inl, inr, ⊎_elim}
 use mathlib.Core.Bool.{Bool, true, false, cond}

@@ -1,4 +1,4 @@
--- Laws of `movesOver` and `some`. Assumes nothing.
+-- Laws of `moves_over` and `some`. Assumes nothing.
 use mathlib.Core.Path.{◌≡◌, refl, sym, ap, ap₂, ◌∙◌}
 use mathlib.Core.Bool.{Bool, true, false, ◌||◌, or-false}
 use mathlib.Core.List.{List, [], ◌∷◌, ◌++◌, append_assoc, append-nil}

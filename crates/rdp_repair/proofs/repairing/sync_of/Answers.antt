@@ -1,4 +1,4 @@
--- `rdp_repair::repairing::sync_of` meets its contract: each arm is a clause of `syncAt`. Assumes nothing.
+-- `rdp_repair::repairing::sync_of` meets its contract: each arm is a clause of `sync_at`. Assumes nothing.
 use mathlib.Core.Path.{sym, ap}
 use Prim.Native.Nat.{ℕ, pred}
 use Rattle.rdp_hazards.specs.Syncs.{sync_number}

@@ -1,4 +1,4 @@
--- `rdp_state::updates::slot_row` meets its contract: each arm is a line of `slotRow`. Assumes nothing.
+-- `rdp_state::updates::slot_row` meets its contract: each arm is a line of `slot_row`. Assumes nothing.
 use borrow.Author.Tests.{ne_eqb}
 use Rattle.rdp_state.specs.Replay.{slot_row}
 use Rattle.rdp_state.proofs.updates.slot_row.Goals as goal

@@ -1,4 +1,4 @@
--- `rdp_state::updates::wait_of` meets its contract: each arm is a line of `commandWait`. Assumes nothing.
+-- `rdp_state::updates::wait_of` meets its contract: each arm is a line of `command_wait`. Assumes nothing.
 use borrow.Author.Tests.{ne_eqb}
 use Rattle.rdp_hazards.specs.Syncs.{command_wait}
 use Rattle.rdp_state.proofs.updates.wait_of.Goals as goal
