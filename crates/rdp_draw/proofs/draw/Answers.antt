@@ -39,7 +39,7 @@ returns-then-found-ne0 c =
     let s = c.args in
     let m = memories s.memory.now s.texture.now in
     let r = c.first_refusal-found.ensures ∙ answer-acts s.list.now s.start m (accepts (goal.at.returns-then-found-ne0 c).Else-checked-ne0) c.if-texture-ne-TEXTURE_BYTES.false in
-    let kept = drawn-kept s.list.now s.start m _ r c.if-found-ne0.true in
+    let kept = drawn-kept s.list.now s.start m _ r (λ z. omega (arith, c.if-found-ne0.true, z)) in
     record { answer = r; memory = ap (λ x. x.memory) kept; texture = ap (λ x. x.texture) kept }
 
 pub act_all-requires : goal.act_all-requires

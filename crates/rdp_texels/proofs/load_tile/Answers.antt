@@ -20,7 +20,7 @@ unfolding load_texture
 returns-then-number-ne0 c =
     let s = c.args in
     let e = right-size (length s.texture.now) c.if-texture-ne-TEXTURE_BYTES.false c.load_refusal-number.ensures in
-    record { answer = e; texture = left_alone (loaded s.start s.memory.now (load_moves s.load) s.texture.now) e c.if-number-ne0.true }
+    record { answer = e; texture = left_alone (loaded s.start s.memory.now (load_moves s.load) s.texture.now) e (λ z. omega (arith, c.if-number-ne0.true, z)) }
 
 pub load_texels-requires : goal.load_texels-requires
 load_texels-requires c = (c.if-texture-ne-TEXTURE_BYTES.false, sym c.load_refusal-number.ensures ∙ c.if-number-ne0.false)

@@ -1,4 +1,5 @@
 -- `rdp_draw::refusals::refusal_at` meets its contract: a line for each number. Assumes nothing.
+use native.Mathlib.Omega.{arith}
 use Rattle.rdp_draw.proofs.DrawLaws.{refusal-fill, refusal-copy, refusal-load, refusal-block, refusal-17, refusal-10}
 use Rattle.rdp_draw.proofs.refusals.refusal_at.Goals as goal
 
@@ -32,7 +33,7 @@ returns-then-at-eq51 c =
 pub returns-then-at-eq48 : goal.returns-then-at-eq48
 returns-then-at-eq48 c =
     let a = c.args in
-    refusal-17 a.start a.len a.file.now a.list.now a.at.place a.at.number c.if-at-eq48.true
+    refusal-17 a.start a.len a.file.now a.list.now a.at.place a.at.number (omega (arith, c.if-at-eq48.true))
 
 pub returns : goal.returns
 returns c =
