@@ -4,7 +4,6 @@ use Rattle.rdp_pixels.specs.Kept.{line_kept}
 use Rattle.std.proofs.Common.{not, ap}
 use Rattle.rdp_pixels.proofs.row_kept.Goals as goal
 
--- `rdp_pixels::row_kept` meets its contract: each way rewrites with the flags that led there. Assumes nothing.
 pub returns-then-not-field : goal.returns-then-not-field
 unfolding line_kept
 returns-then-not-field c = simp (not-true c.args.«field» (ap not c.if-not-field.true))

@@ -6,7 +6,6 @@ use Rattle.rdp_text.specs.Text.{byte_in}
 use Rattle.rdp_text.proofs.FirstLaws.{written}
 use Rattle.rdp_text.proofs.lay.Given as goal
 
--- `rdp_text::lay` meets its contract: after i turns the first i bytes are written. Assumes nothing.
 abbrev pub invariant-loop-i : goal.invariant-loop-i
 invariant-loop-i l = (l.i ≤ length l.initial.out) × (l.out ≡ written (byte_in l.words) l.initial.out l.i)
 

@@ -2,7 +2,6 @@
 use borrow.Author.Tests.{eq-eqb, ne_eqb}
 use Rattle.rdp_text.proofs.mark.Goals as goal
 
--- `rdp_text::mark` meets its contract: its tests are the definition's. Assumes nothing.
 pub returns-then-row-eq0 : goal.returns-then-row-eq0
 returns-then-row-eq0 c = rw (eq-eqb _ _ c.if-row-eq0.true)
 

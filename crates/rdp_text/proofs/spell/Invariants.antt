@@ -6,7 +6,6 @@ use Rattle.rdp_text.specs.Text.{character_of}
 use Rattle.rdp_text.proofs.FirstLaws.{written}
 use Rattle.rdp_text.proofs.spell.Given as goal
 
--- `rdp_text::spell` meets its contract: after k turns the first k characters are written. Assumes nothing.
 abbrev pub invariant-loop-k : goal.invariant-loop-k
 invariant-loop-k l = (l.k ≤ length l.initial.text) × (l.text ≡ written (character_of l.row l.bytes) l.initial.text l.k)
 

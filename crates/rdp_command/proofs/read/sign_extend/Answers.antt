@@ -24,7 +24,6 @@ pub returns-then-raw-half : goal.returns-then-raw-half
 unfolding twos_complement
 returns-then-raw-half c = simp (lt-ltb _ _ c.if-raw-half.true) (to_z_pos w16 c.args.raw (omega arith))
 
--- src/fields.rt:11:1
 pub returns-else-raw-half : goal.returns-else-raw-half
 unfolding twos_complement
 returns-else-raw-half c =

@@ -14,9 +14,6 @@ laid g step =
     g.lower_right.x ∷ g.lower_right.y ∷ g.tile ∷ g.upper_left.x ∷ g.upper_left.y ∷
     get_or step 0 0 ∷ get_or step 1 0 ∷ get_or step 2 0 ∷ get_or step 3 0 ∷ []
 
--- cast-t5 : tie.Need-overflow-cast-t5
--- cast-t5 c = search rules
-
 pub returns : goal.returns
 returns c =
     let g = c.args.g in

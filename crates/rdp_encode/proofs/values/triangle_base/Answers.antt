@@ -24,15 +24,6 @@ laid g yl ym yh l h m =
     get_or l 0 0 ∷ get_or l 1 0 ∷ get_or l 2 0 ∷ get_or l 3 0 ∷ get_or h 0 0 ∷ get_or h 1 0 ∷ get_or h 2 0 ∷ get_or h 3 0 ∷
     get_or m 0 0 ∷ get_or m 1 0 ∷ get_or m 2 0 ∷ get_or m 3 0 ∷ []
 
--- cast-t6 : tie.Need-overflow-cast-t6
--- cast-t6 c = search rules
-
--- cast-t7 : tie.Need-overflow-cast-t7
--- cast-t7 c = search rules
-
--- cast-t8 : tie.Need-overflow-cast-t8
--- cast-t8 c = search rules
-
 pub returns : goal.returns
 returns c =
     let g = c.args.g in

@@ -4,7 +4,6 @@ use Rattle.rdp_hazards.specs.Hazards.{next_of, required_of, entry_of}
 use Rattle.rdp_hazards.proofs.HazardLaws.{agrees}
 use Rattle.rdp_hazards.proofs.table.step_table.Goals as goal
 
--- `rdp_hazards::table::step_table` meets its contract: one test, which antt computes over the whole table, says that it agrees with the rule. Assumes nothing.
 pub returns : goal.returns
 unfolding kind_of next_of required_of entry_of
 returns c = search agrees
