@@ -6,6 +6,10 @@ ghost use Rattle.rdp_words.specs.Words.{half_of, word_at, bytes_of, number_in, o
 ghost use Rattle.rdp_words.specs.Kinds.{words_of, is_among};
 ghost use Rattle.rdp_words.specs.Lengths.{command_words, whole_words, suffix_of, suffix_start};
 
+pub mod grounds;
+
+pub use grounds::{Answer, Ground, Refusal};
+
 // The four bytes from an index on as a number.
 fn half_at(list: &[u8], at: usize) -> u64
     requires { at + 4 ≤ length list.now }
