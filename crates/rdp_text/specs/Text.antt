@@ -1,11 +1,11 @@
 -- Words as the bytes of a list, and bytes as text in hexadecimal. A text has three characters for each byte: the end of a line where a row starts, else a
 -- space, and two digits.
-use Rattle.std.specs.Prelude.{cond, List, [], ◌∷◌, ◌++◌, ℕ, zero, suc, ◌+◌, ◌*◌, ◌-◌, ◌/◌, ◌%◌, ◌^◌, ltb, eqb, length, get_or}
+use Rattle.std.specs.Prelude.{cond, List, map, ℕ, ◌+◌, ◌*◌, ◌-◌, ◌/◌, ◌%◌, ◌^◌, ltb, eqb, length, get_or}
+use Rattle.std.specs.List.{range_with_len}
 
 -- f 0 to f (n - 1)
-unfoldable pub tabulated : (ℕ → ℕ) → ℕ → List ℕ
-tabulated f zero = []
-tabulated f (suc n) = tabulated f n ++ (f n ∷ [])
+abbrev pub tabulated : (ℕ → ℕ) → ℕ → List ℕ
+tabulated f n = map f (range_with_len 0 n)
 
 -- byte i of words, most significant byte first; 0 beyond them
 abbrev pub byte_in : List ℕ → ℕ → ℕ

@@ -10,22 +10,19 @@ pub mod words;
 fn byte_of(words: &[u64], i: usize) -> u8
     ensures { result ≡ byte_in words.now i }
 {
-    let place = i / 8;
-    if place < words.len() {
-        let shift = 8 * (7 - i % 8);
-        return ((words[place] >> shift) % 256) as u8;
-    }
-    0
+    let Some(word) = words.get(i / 8) else {
+        return 0;
+    };
+    let shift = 8 * (7 - i % 8);
+    ((*word >> shift) % 256) as u8
 }
 
 // Words as bytes, as many as there is room for; zeros beyond them.
 pub fn lay(words: &[u64], out: &mut [u8])
     ensures { out.new ≡ tabulated (byte_in words.now) (length out.old) }
 {
-    let mut i = 0;
-    while i < out.len() {
-        out[i] = byte_of(words, i);
-        i += 1;
+    for (i, byte) in out.iter_mut().enumerate() {
+        *byte = byte_of(words, i);
     }
 }
 
@@ -33,11 +30,10 @@ pub fn lay(words: &[u64], out: &mut [u8])
 fn digit(n: u8) -> u8
     ensures { result ≡ digit_of n }
 {
-    let d = n % 16;
-    if d < 10 {
-        return b'0' + d;
+    match n % 16 {
+        d @ 0..=9 => b'0' + d,
+        d => b'a' - 10 + d,
     }
-    b'a' - 10 + d
 }
 
 // What stands before byte i: the end of a line where it starts a row.
@@ -54,29 +50,26 @@ fn mark(i: usize, row: usize) -> u8
 }
 
 // Character k of the text of bytes in rows; 0 beyond it.
+#[tactic(auto, unfolding(crate::specs::Text::character_of))]
 fn character(bytes: &[u8], row: usize, k: usize) -> u8
     ensures { result ≡ character_of row bytes.now k }
 {
     let i = k / 3;
-    if i < bytes.len() {
-        if k % 3 == 0 {
-            return mark(i, row);
-        }
-        if k % 3 == 1 {
-            return digit(bytes[i] / 16);
-        }
-        return digit(bytes[i]);
+    let Some(byte) = bytes.get(i) else {
+        return 0;
+    };
+    match k % 3 {
+        0 => mark(i, row),
+        1 => digit(*byte / 16),
+        _ => digit(*byte),
     }
-    0
 }
 
 // The text of bytes in rows of `row`, three characters for each byte, as far as there is room; zeros beyond it.
 pub fn spell(bytes: &[u8], row: usize, text: &mut [u8])
     ensures { text.new ≡ tabulated (character_of row bytes.now) (length text.old) }
 {
-    let mut k = 0;
-    while k < text.len() {
-        text[k] = character(bytes, row, k);
-        k += 1;
+    for (k, letter) in text.iter_mut().enumerate() {
+        *letter = character(bytes, row, k);
     }
 }
