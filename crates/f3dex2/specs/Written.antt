@@ -5,7 +5,7 @@ use Rattle.rdp_words.specs.Kinds.{words_of}
 use Rattle.rdp_command.specs.Commands as rdp
 use Rattle.rdp_command.specs.Decode.{decode_of}
 use Rattle.rdp_command.specs.declared.Command.{Command}
-use Rattle.rdp_command.specs.declared.Decoded.TheVariants.{Whole}
+use Rattle.rdp_command.specs.Decode.{Whole}
 use Rattle.f3dex2.specs.Commands.{first_byte, Role, straight, rectangle, modes, list, end, unnamed, role_of}
 
 -- the RDP commands that a display list command becomes, by their numbers: "the command of the low six bits"; "each then writes one Set Other Modes"; a

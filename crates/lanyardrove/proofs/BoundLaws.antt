@@ -11,9 +11,9 @@ use Rattle.rdp_words.specs.Words.{word_at}
 use Rattle.rdp_words.specs.Lengths.{first_number}
 use Rattle.rdp_command.specs.Decode.{decode_of}
 use Rattle.rdp_encode.specs.Numbers.{fields_answer, from_numbers}
-use Rattle.rdp_command.specs.declared.Answer.{Answer}
-use Rattle.rdp_command.specs.declared.Decoded.{Decoded}
-use Rattle.rdp_command.specs.declared.Decoded.TheVariants.{Whole, Refused}
+use Rattle.rdp_words.specs.Grounds.{Answer}
+use Rattle.rdp_command.specs.Decode.{Decoded}
+use Rattle.rdp_command.specs.Decode.{Whole, Refused}
 use Rattle.rdp_words.proofs.PlaceLaws.{number_small}
 use Rattle.rdp_command.proofs.BoundLaws.{decode-refused, lines-most}
 use Rattle.rdp_encode.proofs.BoundLaws.{fields-decoded, fields-most, fields-place, from-refused, encode-most, encode-words}

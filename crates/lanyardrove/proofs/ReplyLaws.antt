@@ -7,10 +7,10 @@ use Rattle.rdp_words.specs.Lengths.{first_number}
 use Rattle.rdp_command.specs.Decode.{decode_of}
 use Rattle.rdp_encode.specs.Encode.{encode_answer, encode_out}
 use Rattle.rdp_encode.specs.Numbers.{fields_answer, fields_out, from_numbers}
-use Rattle.rdp_command.specs.declared.Answer.{Answer}
+use Rattle.rdp_words.specs.Grounds.{Answer}
 use Rattle.rdp_command.specs.declared.Command.{Command}
-use Rattle.rdp_command.specs.declared.Decoded.{Decoded}
-use Rattle.rdp_command.specs.declared.Decoded.TheVariants.{Whole, Refused}
+use Rattle.rdp_command.specs.Decode.{Decoded}
+use Rattle.rdp_command.specs.Decode.{Whole, Refused}
 use Rattle.lanyardrove.specs.Replies.{reply, plain, decoded_reply, decode_reply, decoded_fields, decode_fields, made_reply, encode_reply, made_bytes, encode_bytes}
 
 -- ---- a command's fields, written or not

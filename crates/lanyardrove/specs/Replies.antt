@@ -5,9 +5,9 @@ use Rattle.rdp_words.specs.Lengths.{first_number}
 use Rattle.rdp_command.specs.Decode.{decode_of}
 use Rattle.rdp_encode.specs.Encode.{encode_answer, encode_out}
 use Rattle.rdp_encode.specs.Numbers.{fields_answer, fields_out, from_numbers}
-use Rattle.rdp_command.specs.declared.Answer.{Answer}
-use Rattle.rdp_command.specs.declared.Decoded.{Decoded}
-use Rattle.rdp_command.specs.declared.Decoded.TheVariants.{Whole, Refused}
+use Rattle.rdp_words.specs.Grounds.{Answer}
+use Rattle.rdp_command.specs.Decode.{Decoded}
+use Rattle.rdp_command.specs.Decode.{Whole, Refused}
 use Rattle.rdp_hazards.specs.Hazards.{transition_of}
 use Rattle.rdp_check.specs.Check.{check_of}
 use Rattle.rdp_repair.specs.Repair.{RepairIs}

@@ -1,7 +1,7 @@
 -- Document 01, "Grounds" and their order: refusals in an order are a list, and of those that hold the first is answered.
 use Rattle.std.specs.Prelude.{ℕ, Bool, true, cond, not, List, [], ◌∷◌, ◌++◌, ◌⊎◌, ◌≡◌, T}
 use Rattle.rdp_command.specs.Decode.{answer}
-use Rattle.rdp_command.specs.declared.Answer.{Answer}
+use Rattle.rdp_words.specs.Grounds.{Answer}
 
 -- a ground of refusal: what it gives (its number, or number and place), and whether it holds
 pub record Ground (A : Type 0) : Type 0 where

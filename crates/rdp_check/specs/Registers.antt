@@ -4,8 +4,8 @@ use Rattle.rdp_command.specs.declared.Color.{Color}
 use Rattle.rdp_command.specs.declared.OtherModes.{OtherModes}
 use Rattle.rdp_command.specs.declared.TileDescriptor.{TileDescriptor}
 use Rattle.rdp_command.specs.declared.TexelCorner.{TexelCorner}
-use Rattle.rdp_command.specs.declared.Decoded.{Decoded}
-use Rattle.rdp_command.specs.declared.Decoded.TheVariants.{Whole, Refused}
+use Rattle.rdp_command.specs.Decode.{Decoded}
+use Rattle.rdp_command.specs.Decode.{Whole, Refused}
 use Rattle.rdp_command.specs.declared.Command.{Command}
 use Rattle.rdp_command.specs.declared.Command.TheVariants.{NoOperation, FillTriangle, TextureRectangle, TextureRectangleFlip, SyncLoad, SyncPipe, SyncTile, SyncFull, SetKeyGb, SetKeyR, SetConvert, SetScissor, SetPrimitiveDepth, SetOtherModes, LoadTlut, SetTileSize, LoadBlock, LoadTile, SetTile, FillRectangle, SetFillColor, SetFogColor, SetBlendColor, SetPrimitiveColor, SetEnvironmentColor, SetCombineMode, SetTextureImage, SetDepthImage, SetColorImage, Unassigned}
 use Rattle.rdp_check.specs.declared.FillColorRegister.{FillColorRegister}

@@ -1,20 +1,18 @@
 -- What decoding answers, by the tests that it makes. Assumes nothing.
 use Prim.Native.Nat.{ℕ, ◌/◌}
-use mathlib.Core.Bool.{Bool, true, false, cond, not}
+use mathlib.Core.Bool.{Bool, true, false, cond}
 use mathlib.Core.List.{List}
-use mathlib.Core.Path.{◌≡◌, refl, ap, sym, ◌∙◌}
+use mathlib.Core.Path.{◌≡◌, refl, ap, sym}
 use lib.Dec.{eqb, ltb}
 use lib.ListN.{length}
 use native.Mathlib.Omega.{arith}
 use borrow.Author.Tests.{ne_eqb, eqb-false}
-use Rattle.rdp_words.specs.Words.{word_at}
 use Rattle.rdp_words.specs.Kinds.{words_of}
 use Rattle.rdp_words.specs.Lengths.{first_number, whole_words}
-use Rattle.rdp_command.specs.Decode.{answer, own_word, own_words, command_in, decode_of, decoded_from}
-use Rattle.rdp_command.specs.declared.Answer.{Answer}
+use Rattle.rdp_command.specs.Decode.{answer, own_words, command_in, words_in, Whole, Refused, decode_of, decoded_from}
+use Rattle.rdp_words.specs.Grounds.{Answer}
 use Rattle.rdp_command.specs.declared.Command.{Command}
-use Rattle.rdp_command.specs.declared.Decoded.{Decoded}
-use Rattle.rdp_command.specs.declared.Decoded.TheVariants.{Whole, Refused}
+use Rattle.std.specs.Prelude.{Some}
 use Rattle.rdp_command.specs.declared.Base.{Base}
 
 -- ---- a test that answers a command or a refusal
@@ -56,25 +54,14 @@ pub whole : (bs : List ℕ) {r : Command} → (whole_words bs ≡ 0 → ⊥) →
 unfolding decode_of
 whole bs h e = rw (ne_eqb _ _ h) (ap Whole e)
 
-cond-not : (b : Bool) (x y : Decoded) → cond (not b) x y ≡ cond b y x
-cond-not true x y = refl
-cond-not false x y = refl
-
-abbrev first_base : List ℕ → Base
-first_base bs =
-    record {
-      ok = not (eqb (whole_words bs) 0);
-      number = first_number bs;
-      w0 = word_at bs 0;
-      w1 = own_word bs (whole_words bs) 1;
-      w2 = own_word bs (whole_words bs) 2;
-      w3 = own_word bs (whole_words bs) 3;
-    }
-
 -- the base of the first command gives what decoding answers
-pub first_gives : (bs : List ℕ) {b : Base} → b ≡ first_base bs → decoded_from 3 b ≡ decode_of bs
-unfolding decoded_from decode_of
-first_gives bs e = ap (decoded_from 3) e ∙ cond-not (eqb (whole_words bs) 0) _ _
+pub first_none : (bs : List ℕ) → whole_words bs ≡ 0 → Refused (answer 3 0) ≡ decode_of bs
+unfolding decode_of
+first_none bs none = rw none
+
+pub first_gives : (bs : List ℕ) → (whole_words bs ≡ 0 → ⊥) → {b : Base} → b.number ≡ first_number bs → words_in b ≡ own_words bs (whole_words bs) → decoded_from 3 (Some b) ≡ decode_of bs
+unfolding decode_of
+first_gives bs some number words = rw (ne_eqb _ _ some, number, words)
 
 cond-zero : (b : Bool) {x : ℕ} → (cond b 0 x ≡ 0 → ⊥) → cond b 0 x ≡ x
 cond-zero true p = absurd (p refl)

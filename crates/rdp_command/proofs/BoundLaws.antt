@@ -7,8 +7,8 @@ use lib.ListN.{length}
 use Rattle.rdp_command.specs.Layout.{layout}
 use Rattle.rdp_words.specs.Lengths.{first_number, whole_words}
 use Rattle.rdp_command.specs.Decode.{own_words, command_in, decode_of, answer}
-use Rattle.rdp_command.specs.declared.Answer.{Answer}
-use Rattle.rdp_command.specs.declared.Decoded.TheVariants.{Refused}
+use Rattle.rdp_words.specs.Grounds.{Answer}
+use Rattle.rdp_command.specs.Decode.{Refused}
 use Rattle.rdp_words.proofs.Tests.{below}
 use Rattle.rdp_command.proofs.AnswerLaws.{refusal-first}
 

@@ -13,7 +13,7 @@ use Rattle.rdp_command.specs.Commands.{number_of}
 use Rattle.rdp_words.specs.Lengths.{first_number, command_words, whole_words, suffix_of}
 use Rattle.rdp_command.specs.Decode.{own_words, command_in, decode_of, answer}
 use Rattle.rdp_command.specs.declared.Command.{Command}
-use Rattle.rdp_command.specs.declared.Decoded.TheVariants.{Whole, Refused}
+use Rattle.rdp_command.specs.Decode.{Whole, Refused}
 use Rattle.rdp_words.proofs.Tests.{by-test}
 use Rattle.rdp_words.proofs.KindLaws.{words-pos}
 use Rattle.rdp_words.proofs.WordLaws.{word-front}

@@ -14,7 +14,7 @@ use Rattle.rdp_command.specs.Decode.{own_word, own_words, command_in, decode_of}
 use Rattle.rdp_command.specs.Reads.{tile_area_in, block_in, textured_rectangle_in, other_modes_in, scissor_in, rectangle_in, fill_color_in, color_image_in}
 use Rattle.rdp_command.specs.declared.Command.{Command}
 use Rattle.rdp_command.specs.declared.Command.TheVariants.{FillTriangle, TextureRectangle, TextureRectangleFlip, SetOtherModes, SetScissor, SetColorImage, SetFillColor, FillRectangle, LoadTile, LoadTlut, LoadBlock}
-use Rattle.rdp_command.specs.declared.Decoded.TheVariants.{Whole}
+use Rattle.rdp_command.specs.Decode.{Whole}
 use Rattle.rdp_command.specs.declared.TriangleBase.{TriangleBase}
 use Rattle.rdp_command.specs.declared.TexturedRectangle.{TexturedRectangle}
 use Rattle.rdp_words.proofs.PlaceLaws.{is_whole}

@@ -13,7 +13,7 @@ use Rattle.rdp_words.proofs.Tests.{by-test}
 use Rattle.rdp_command.specs.Decode.{own_words, command_in, decode_of}
 use Rattle.rdp_command.specs.declared.Command.{Command}
 use Rattle.rdp_command.specs.declared.Command.TheVariants.{SyncLoad, SyncTile, SyncPipe}
-use Rattle.rdp_command.specs.declared.Decoded.TheVariants.{Whole, Refused}
+use Rattle.rdp_command.specs.Decode.{Whole, Refused}
 
 -- a sync by its number, kind and command: its word is whole, of one word, with the number first, and decodes to the command
 pub record SyncWord (n : ℕ) (k : Kind) (c : Command) : Type 0 where

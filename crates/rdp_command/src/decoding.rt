@@ -5,19 +5,21 @@ ghost use Rattle.rdp_command.specs.Decode.{command_in, decode_of, decoded_from};
 use crate::{read, words, *};
 
 // The base of the first command of a list, where its words are all there.
-pub fn first_command(list: &[u8]) -> Base
+pub fn first_command(list: &[u8]) -> Option<Base>
     ensures { decoded_from 3 result ≡ decode_of list.now }
 {
     let n = rdp_words::whole_words(list);
     let w0 = rdp_words::word_at(list, 0);
-    Base {
-        ok: n != 0,
+    if n == 0 {
+        return None;
+    }
+    Some(Base {
         number: rdp_words::number_in(w0),
         w0,
         w1: words::own_word(list, n, 1),
         w2: words::own_word(list, n, 2),
         w3: words::own_word(list, n, 3),
-    }
+    })
 }
 
 // The command of a base.

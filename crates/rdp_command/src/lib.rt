@@ -3,13 +3,15 @@
 
 ghost use Rattle.std.specs.Prelude.{◌≡◌};
 ghost use Rattle.rdp_words.specs.Words.{word_at};
-ghost use Rattle.rdp_command.specs.Decode.{decode_of, decoded_from};
+ghost use Rattle.rdp_command.specs.Decode.{decode_of, decoded, command_or};
 ghost use Rattle.rdp_command.specs.Reads.{head_of, fill_fields, load_fields, copy_fields, register_fields, tile_fields};
 
 mod decoding;
 mod read;
 mod registers;
 mod words;
+
+use rdp_words::{Ground, Refusal};
 
 // The commands, with their fields in the order of the wiki's bit lines.
 
@@ -468,25 +470,9 @@ pub enum Command {
     Unassigned(u8),
 }
 
-// The number of a refusal, 0 for acceptance, and its place in words; for `fields` of rdp_encode a count of numbers.
-#[repr(C)]
-#[derive(Clone, Copy)]
-pub struct Answer {
-    pub number: u32,
-    pub place: u32,
-}
-
-// What decoding answers: the command, or a refusal.
-#[derive(Clone, Copy)]
-pub enum Decoded {
-    Whole(Command),
-    Refused(Answer),
-}
-
-// The number of a command and its words before the suffix; those that it does not have are 0. Without ok there is no command.
+// The number of a command and its words before the suffix; those that it does not have are 0.
 #[derive(Clone, Copy)]
 pub struct Base {
-    pub ok: bool,
     pub number: u8,
     pub w0: u64,
     pub w1: u64,
@@ -574,22 +560,20 @@ pub fn tile_fields(descriptor: u64, size: u64) -> TileFields
     }
 }
 
-// The command of a base, or the refusal at 0.
-pub fn command_or(base: Base, refusal: u32) -> Decoded
-    ensures { result ≡ decoded_from refusal base }
+// The command of a base, or the refusal where there is none.
+pub fn command_or<E: Drop>(base: Option<Base>, refusal: E) -> Result<Command, E>
+    ensures { result ≡ command_or base refusal }
 {
-    if base.ok {
-        return Decoded::Whole(decoding::command_in(base));
-    }
-    Decoded::Refused(Answer {
-        number: refusal,
-        place: 0,
-    })
+    base.map(decoding::command_in).ok_or(refusal)
 }
 
 // The first command of a list, or 3 at 0 where its words are not all there. Bytes beyond its words are not read.
-pub fn decode(list: &[u8]) -> Decoded
-    ensures { result ≡ decode_of list.now }
+pub fn decode(list: &[u8]) -> Result<Command, Refusal>
+    ensures { decoded result ≡ decode_of list.now }
 {
-    command_or(decoding::first_command(list), 3)
+    let cut = Refusal {
+        ground: Ground::Cut,
+        place: 0,
+    };
+    command_or(decoding::first_command(list), cut)
 }

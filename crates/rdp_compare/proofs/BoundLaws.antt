@@ -9,7 +9,7 @@ use lib.ListN.{length}
 use Rattle.rdp_words.specs.Kinds.{words_of}
 use Rattle.rdp_words.specs.Lengths.{first_number}
 use Rattle.rdp_words.proofs.Tests.{by-test}
-use Rattle.rdp_command.specs.declared.Answer.{Answer}
+use Rattle.rdp_words.specs.Grounds.{Answer}
 use Rattle.rdp_check.specs.Commands.{commands_of, rest_of}
 use Rattle.rdp_check.specs.Refusals.{is_some}
 use Rattle.rdp_check.proofs.JoinLaws.{words_inside}

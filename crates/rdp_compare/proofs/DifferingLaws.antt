@@ -20,10 +20,10 @@ use Rattle.rdp_words.proofs.PlaceLaws.{number_small, words-there}
 use Rattle.rdp_words.proofs.OverwriteLaws.{take-overwrite, overwrite-none}
 use Rattle.rdp_command.specs.Layout.{layout}
 use Rattle.rdp_command.specs.Decode.{own_word, command_in, decode_of, decoded_from}
-use Rattle.rdp_command.specs.declared.Answer.{Answer}
+use Rattle.rdp_words.specs.Grounds.{Answer}
 use Rattle.rdp_command.specs.declared.Command.{Command}
-use Rattle.rdp_command.specs.declared.Decoded.{Decoded}
-use Rattle.rdp_command.specs.declared.Decoded.TheVariants.{Whole, Refused}
+use Rattle.rdp_command.specs.Decode.{Decoded}
+use Rattle.rdp_command.specs.Decode.{Whole, Refused}
 use Rattle.rdp_command.proofs.ReadLaws.{decodes}
 use Rattle.rdp_command.proofs.BoundLaws.{lines-most}
 use Rattle.rdp_encode.specs.Encode.{numbers_of}

@@ -20,8 +20,8 @@ use Rattle.rdp_command.specs.Layout.{Line, bits, other_modes_lines, layout}
 use Rattle.rdp_command.specs.Fields.{Value}
 use Rattle.rdp_command.specs.Commands.{values_of}
 use Rattle.rdp_command.specs.Decode.{decode_of}
-use Rattle.rdp_command.specs.declared.Decoded.{Decoded}
-use Rattle.rdp_command.specs.declared.Decoded.TheVariants.{Whole, Refused}
+use Rattle.rdp_command.specs.Decode.{Decoded}
+use Rattle.rdp_command.specs.Decode.{Whole, Refused}
 use Rattle.rdp_command.proofs.ReadLaws.{decodes, decoded-number}
 use Rattle.rdp_encode.specs.Placed.{number_of_value}
 use Rattle.rdp_encode.specs.Numbers.{value_from, values_from}

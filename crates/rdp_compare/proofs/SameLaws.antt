@@ -17,8 +17,8 @@ use Rattle.rdp_words.specs.Words.{same_bytes}
 use Rattle.rdp_command.specs.Commands.{number_of}
 use Rattle.rdp_command.specs.Decode.{decode_of}
 use Rattle.rdp_command.specs.declared.Command.{Command}
-use Rattle.rdp_command.specs.declared.Decoded.{Decoded}
-use Rattle.rdp_command.specs.declared.Decoded.TheVariants.{Whole, Refused}
+use Rattle.rdp_command.specs.Decode.{Decoded}
+use Rattle.rdp_command.specs.Decode.{Whole, Refused}
 use Rattle.rdp_command.proofs.ReadLaws.{decoded, decodes, decoded-number}
 use Rattle.rdp_encode.specs.Encode.{numbers_of, encode_out}
 use Rattle.rdp_encode.specs.Numbers.{from_numbers}

@@ -4,8 +4,8 @@ use mir.Val.{bool_byte}
 use Rattle.rdp_words.specs.Words.{same_bytes}
 use Rattle.rdp_words.specs.Lengths.{first_number, suffix_of}
 use Rattle.rdp_command.specs.Decode.{decode_of}
-use Rattle.rdp_command.specs.declared.Decoded.{Decoded}
-use Rattle.rdp_command.specs.declared.Decoded.TheVariants.{Whole, Refused}
+use Rattle.rdp_command.specs.Decode.{Decoded}
+use Rattle.rdp_command.specs.Decode.{Whole, Refused}
 use Rattle.rdp_encode.specs.Encode.{numbers_of}
 
 -- the fields of a command as numbers, in the order of the wiki's bit lines; none where it does not decode

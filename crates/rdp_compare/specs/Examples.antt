@@ -1,7 +1,7 @@
 -- Examples of the comparison: the words of two lists, the numbers that are lent, what is answered and written, and where the rest begins.
 use Rattle.std.specs.Prelude.{ℕ, ◌-◌, Bool, true, false, not, ◌&&◌, List, [], ◌∷◌, ◌++◌, ◌≡◌, eqb, length, replicate}
 use Rattle.rdp_words.specs.Words.{bytes_of_words, same_bytes}
-use Rattle.rdp_command.specs.declared.Answer.{Answer}
+use Rattle.rdp_words.specs.Grounds.{Answer}
 use Rattle.rdp_command.specs.Decode.{answer}
 use Rattle.rdp_compare.specs.Entries.{compare_answer, entries_after}
 use Rattle.rdp_compare.specs.Part.{in_first, in_second, rest_start}

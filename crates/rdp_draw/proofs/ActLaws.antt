@@ -10,10 +10,10 @@ use Rattle.rdp_words.specs.Kinds.{words_of}
 use Rattle.rdp_words.specs.Lengths.{first_number}
 use Rattle.rdp_words.proofs.Tests.{by-test}
 use Rattle.rdp_command.specs.Decode.{decode_of, answer}
-use Rattle.rdp_command.specs.declared.Answer.{Answer}
+use Rattle.rdp_words.specs.Grounds.{Answer}
 use Rattle.rdp_command.specs.declared.Command.{Command}
-use Rattle.rdp_command.specs.declared.Decoded.{Decoded}
-use Rattle.rdp_command.specs.declared.Decoded.TheVariants.{Whole, Refused}
+use Rattle.rdp_command.specs.Decode.{Decoded}
+use Rattle.rdp_command.specs.Decode.{Whole, Refused}
 use Rattle.rdp_command.proofs.SyncWordLaws.{sync-words}
 use Rattle.rdp_hazards.specs.Syncs.{Sync, load_sync, tile_sync, pipe_sync, sync_number}
 use Rattle.rdp_check.specs.Order.{Ground, first_of, placed}

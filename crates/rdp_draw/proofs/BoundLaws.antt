@@ -9,7 +9,7 @@ use lib.ListN.{length}
 use Rattle.rdp_words.specs.Kinds.{among, words_of}
 use Rattle.rdp_words.specs.Lengths.{first_number}
 use Rattle.rdp_command.specs.Decode.{decode_of}
-use Rattle.rdp_command.specs.declared.Answer.{Answer}
+use Rattle.rdp_words.specs.Grounds.{Answer}
 use Rattle.rdp_words.proofs.Tests.{by-test}
 use Rattle.rdp_check.specs.Order.{Ground, first_of}
 use Rattle.rdp_check.specs.Check.{check_refusals, check_of}

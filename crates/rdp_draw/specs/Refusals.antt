@@ -1,6 +1,6 @@
 -- Documents 01 and 02 (#106), the grounds of drawing and their order: when each holds, and which of those that hold is the first.
 use Rattle.std.specs.Prelude.{ℕ, ◌/◌, List, ◌∷◌, ◌++◌, ◌≡◌, length}
-use Rattle.rdp_command.specs.declared.Answer.{Answer}
+use Rattle.rdp_words.specs.Grounds.{Answer}
 use Rattle.rdp_check.specs.Order.{Among, IsFirst}
 use Rattle.rdp_check.specs.Check.{check_refusals}
 use Rattle.rdp_check.specs.Refusals as check

@@ -9,7 +9,7 @@ use Rattle.rdp_command.specs.declared.LoadWords.{LoadWords}
 use Rattle.rdp_command.specs.declared.FillFields.{FillFields}
 use Rattle.rdp_command.specs.declared.CopyFields.{CopyFields}
 use Rattle.rdp_command.specs.declared.LoadFields.{LoadFields}
-use Rattle.rdp_command.specs.declared.Answer.{Answer}
+use Rattle.rdp_words.specs.Grounds.{Answer}
 use Rattle.rdp_command.specs.Decode.{answer}
 use Rattle.rdp_check.specs.Order.{first_of}
 use Rattle.rdp_check.specs.Commands.{commands_of, rest_of}

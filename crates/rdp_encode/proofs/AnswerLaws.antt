@@ -12,7 +12,7 @@ use Rattle.rdp_command.specs.Commands.{command_of}
 use Rattle.rdp_encode.specs.Encode.{answer_with, out_with}
 use Rattle.rdp_encode.specs.Numbers.{values_from, numbers_fit, flags_agree, from_numbers}
 use Rattle.rdp_command.specs.declared.Command.{Command}
-use Rattle.rdp_command.specs.declared.Decoded.TheVariants.{Whole, Refused}
+use Rattle.rdp_command.specs.Decode.{Whole, Refused}
 use Rattle.rdp_words.proofs.Tests.{and-true}
 use Rattle.rdp_command.proofs.AnswerLaws.{accepted-of}
 use Rattle.rdp_command.specs.Decode.{answer}

@@ -16,9 +16,9 @@ use Rattle.rdp_words.specs.Lengths.{first_number, whole_words}
 use Rattle.rdp_command.specs.Decode.{own_words, command_in, decode_of, answer}
 use Rattle.rdp_encode.specs.Encode.{numbers_of, number_in_row, encodable, has_room, answer_with, encode_answer}
 use Rattle.rdp_encode.specs.Numbers.{numbers_fit, flags_agree, fields_answer, from_numbers}
-use Rattle.rdp_command.specs.declared.Answer.{Answer}
+use Rattle.rdp_words.specs.Grounds.{Answer}
 use Rattle.rdp_command.specs.declared.Command.{Command}
-use Rattle.rdp_command.specs.declared.Decoded.TheVariants.{Whole, Refused}
+use Rattle.rdp_command.specs.Decode.{Whole, Refused}
 use Rattle.rdp_words.proofs.Tests.{by-test}
 use Rattle.rdp_words.proofs.KindLaws.{words-most}
 use Rattle.rdp_command.proofs.AnswerLaws.{refusal-of, decoded-is}

@@ -25,11 +25,11 @@ use Rattle.rdp_command.specs.Commands.{command_of, number_of, values_of}
 use Rattle.rdp_encode.specs.Encode.{packed_word, numbers_of, number_in_row, encodable, answer_with, encode_answer}
 use Rattle.rdp_encode.specs.Numbers.{value_from, values_from, numbers_fit, flags_agree, from_numbers}
 use Rattle.rdp_command.specs.Decode.{decode_of}
-use Rattle.rdp_command.specs.declared.Answer.{Answer}
+use Rattle.rdp_words.specs.Grounds.{Answer}
 use Rattle.rdp_command.specs.declared.TriangleBase.{TriangleBase}
 use Rattle.rdp_command.specs.declared.Command.{Command}
 use Rattle.rdp_command.specs.declared.Command.TheVariants.{FillTriangle}
-use Rattle.rdp_command.specs.declared.Decoded.TheVariants.{Whole}
+use Rattle.rdp_command.specs.Decode.{Whole}
 use Rattle.rdp_words.proofs.Tests.{both, by-test, and-true}
 use Rattle.rdp_encode.proofs.TwosLaws.{signed-fits}
 use Rattle.rdp_command.proofs.Signed.{bool_le}

@@ -12,7 +12,7 @@ use Rattle.rdp_command.specs.Decode.{decode_of, answer}
 use Rattle.rdp_encode.specs.Encode.{base_words, encode_answer, encode_out}
 use Rattle.rdp_encode.specs.Kept.{bytes_kept}
 use Rattle.rdp_command.specs.declared.Command.{Command}
-use Rattle.rdp_command.specs.declared.Decoded.TheVariants.{Whole}
+use Rattle.rdp_command.specs.Decode.{Whole}
 use Rattle.rdp_command.proofs.AnswerLaws.{decoded-there, decoded-is}
 use Rattle.rdp_encode.proofs.WholeLaws.{decodes, suffix-back, accepted, output, answer-whole, output-whole}
 use Rattle.rdp_command.proofs.Laws.{number-decoded}

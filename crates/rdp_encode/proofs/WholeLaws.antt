@@ -20,7 +20,7 @@ use Rattle.rdp_command.specs.Decode.{own_words, command_in, decode_of, answer}
 use Rattle.rdp_encode.specs.Encode.{packed_word, packed_bytes, base_words, numbers_of, number_in_row, encodable, bytes_with, encoded_bytes, fixed_bits, has_room, verdict_of, answer_with, out_with, encode_answer, encode_out}
 use Rattle.rdp_encode.specs.Kept.{bytes_kept, word_kept}
 use Rattle.rdp_command.specs.declared.Command.{Command}
-use Rattle.rdp_command.specs.declared.Decoded.TheVariants.{Whole}
+use Rattle.rdp_command.specs.Decode.{Whole}
 use Rattle.rdp_words.proofs.Tests.{by-test, and-true}
 use Rattle.rdp_words.proofs.KindLaws.{words-pos}
 use Rattle.rdp_encode.proofs.TableLaws.{layout-readable}

@@ -8,10 +8,10 @@ use Rattle.rdp_command.specs.Fields.{Value, unsigned, signed}
 use Rattle.rdp_encode.specs.Placed.{all_fit}
 use Rattle.rdp_command.specs.Commands.{command_of}
 use Rattle.rdp_encode.specs.Encode.{numbers_of}
-use Rattle.rdp_command.specs.declared.Answer.{Answer}
+use Rattle.rdp_words.specs.Grounds.{Answer}
 use Rattle.rdp_command.specs.declared.Command.{Command}
-use Rattle.rdp_command.specs.declared.Decoded.{Decoded}
-use Rattle.rdp_command.specs.declared.Decoded.TheVariants.{Whole, Refused}
+use Rattle.rdp_command.specs.Decode.{Decoded}
+use Rattle.rdp_command.specs.Decode.{Whole, Refused}
 
 -- what writing a command's fields answers: 14 at the count needed, else 0 and the count
 unfoldable pub fields_answer : Command → List ℕ → Answer

@@ -10,7 +10,7 @@ use Rattle.rdp_command.specs.Commands.{number_of, values_of}
 use Rattle.rdp_words.specs.Lengths.{suffix_words}
 use Rattle.rdp_encode.specs.Encode.{numbers_of, number_in_row, bytes_with, answer_with, out_with}
 use Rattle.rdp_encode.specs.Numbers.{values_from, numbers_fit}
-use Rattle.rdp_command.specs.declared.Answer.{Answer}
+use Rattle.rdp_words.specs.Grounds.{Answer}
 use Rattle.rdp_command.specs.declared.Command.{Command}
 use Rattle.rdp_encode.specs.declared.values.Four.{Four}
 use Rattle.rdp_encode.specs.declared.values.Numbers.{Numbers}

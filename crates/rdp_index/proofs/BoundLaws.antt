@@ -11,7 +11,7 @@ use Rattle.rdp_words.specs.Words.{word_at, number_in}
 use Rattle.rdp_words.specs.Kinds.{among, words_of}
 use Rattle.rdp_words.specs.Lengths.{first_number, whole_words}
 use Rattle.rdp_words.proofs.Tests.{both, both_of, true_of, by-test}
-use Rattle.rdp_command.specs.declared.Answer.{Answer}
+use Rattle.rdp_words.specs.Grounds.{Answer}
 use Rattle.rdp_command.specs.Decode.{answer}
 use Rattle.rdp_hazards.specs.Hazards.{next_of}
 use Rattle.rdp_hazards.proofs.HazardLaws.{next_small}

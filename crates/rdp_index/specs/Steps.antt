@@ -3,7 +3,7 @@ use Rattle.std.specs.Prelude.{ℕ, ◌*◌, ◌/◌, ◌%◌, ◌≤◌, true, c
 use Rattle.rdp_words.specs.Words.{word_at, number_in}
 use Rattle.rdp_words.specs.Kinds.{words_of}
 use Rattle.rdp_words.specs.Lengths.{whole_words}
-use Rattle.rdp_command.specs.declared.Answer.{Answer}
+use Rattle.rdp_words.specs.Grounds.{Answer}
 use Rattle.rdp_command.specs.Decode.{answer}
 use Rattle.rdp_check.specs.Commands.{commands_of}
 use Rattle.rdp_index.specs.Index.{entries_of, index_answer, starts_at, replace_answer}

@@ -8,7 +8,7 @@ use native.Mathlib.Nat.{suc-ne-zero}
 use borrow.Author.Tests.{ne_eqb, eqb-true, eqb-false, lt-ltb, ltb-true}
 use lib.Dec.{eqb, ltb}
 use lib.ListN.{length}
-use Rattle.rdp_command.specs.declared.Answer.{Answer}
+use Rattle.rdp_words.specs.Grounds.{Answer}
 use Rattle.rdp_command.specs.Decode.{answer}
 use Rattle.rdp_repair.specs.declared.Repaired.{Repaired}
 use Rattle.rdp_words.proofs.Tests.{by-test, true_of}

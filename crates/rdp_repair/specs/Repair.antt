@@ -1,7 +1,7 @@
 -- Document 01, "Repair" and refusals 1 to 6, 19, 13, 14: what a least repair is, what the repair answers and what it writes.
 use Rattle.std.specs.Prelude.{ℕ, ◌*◌, ◌/◌, ◌<◌, ◌≤◌, cond, ◌||◌, List, [], ◌∷◌, ◌++◌, ◌≡◌, eqb, ltb, length, take, replicate}
 use Rattle.rdp_words.specs.Words.{overwrite}
-use Rattle.rdp_command.specs.declared.Answer.{Answer}
+use Rattle.rdp_words.specs.Grounds.{Answer}
 use Rattle.rdp_command.specs.Decode.{answer}
 use Rattle.rdp_check.specs.Order.{Ground, ground, first_of, IsFirst}
 use Rattle.rdp_check.specs.Commands.{commands_of, joined}

@@ -11,7 +11,7 @@ use lib.Dec.{eqb, ltb}
 use lib.ListN.{length, take, drop, length-take, length-drop, take-append-drop}
 use lib.Seq.{take_all}
 use Rattle.rdp_words.proofs.Tests.{true_of, false_of, by-test}
-use Rattle.rdp_command.specs.declared.Answer.{Answer}
+use Rattle.rdp_words.specs.Grounds.{Answer}
 use Rattle.rdp_command.specs.Decode.{answer}
 use Rattle.rdp_check.specs.Order.{Ground, first_of, Among, IsFirst}
 use Rattle.rdp_check.specs.Commands.{commands_of, rest_of, words_in}

@@ -14,7 +14,7 @@ use Rattle.rdp_check.specs.Commands.{rest_of}
 use Rattle.rdp_state.specs.declared.Standing.{Standing}
 use Rattle.rdp_state.specs.declared.Resumed.{Resumed}
 use Rattle.rdp_stream.specs.declared.Stream.{Stream}
-use Rattle.rdp_command.specs.declared.Answer.{Answer}
+use Rattle.rdp_words.specs.Grounds.{Answer}
 use Rattle.rdp_command.specs.Decode.{answer}
 use Rattle.rdp_stream.specs.declared.Fed.{Fed}
 use Rattle.rdp_stream.specs.Portions.{Feeding, accepted, remembering, after_byte, fed_bytes, closing_grounds, closed, answer_of}

@@ -1,7 +1,7 @@
 -- Document 02, #103: the refusals of a list that has arrived and is closed. "Commands complete within the first 32,768 bytes are judged first, then 1; at
 -- closing, 2, then 3."
 use Rattle.std.specs.Prelude.{ℕ, ◌/◌, ◌%◌, ◌<◌, not, List, [], ◌∷◌, ◌++◌, ◌≡◌, eqb, ltb, length, take}
-use Rattle.rdp_command.specs.declared.Answer.{Answer}
+use Rattle.rdp_words.specs.Grounds.{Answer}
 use Rattle.rdp_command.specs.Decode.{answer}
 use Rattle.rdp_check.specs.Order.{Ground, ground, IsFirst}
 use Rattle.rdp_check.specs.Commands.{commands_of, rest_of, words_in, joined}

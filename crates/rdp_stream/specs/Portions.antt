@@ -1,7 +1,7 @@
 -- Document 02, #103: a list that arrives in portions, as its bytes are taken one after the other.
 use Rattle.std.specs.Prelude.{ℕ, zero, suc, ◌+◌, ◌-◌, ◌/◌, ◌%◌, cond, not, List, [], ◌∷◌, ◌++◌, eqb, ltb, length}
 use Rattle.rdp_words.specs.Lengths.{whole_words}
-use Rattle.rdp_command.specs.declared.Answer.{Answer}
+use Rattle.rdp_words.specs.Grounds.{Answer}
 use Rattle.rdp_command.specs.Decode.{answer}
 use Rattle.rdp_check.specs.Order.{Ground, ground, first_of}
 use Rattle.rdp_check.specs.Check.{check_refusals, refusal_at}

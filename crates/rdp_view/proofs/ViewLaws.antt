@@ -11,7 +11,7 @@ use lib.ListN.{length, take, drop, length-drop}
 use lib.Seq.{take_all}
 use Rattle.rdp_words.specs.Words.{overwrite}
 use Rattle.rdp_words.proofs.Tests.{by-test, neither}
-use Rattle.rdp_command.specs.declared.Answer.{Answer}
+use Rattle.rdp_words.specs.Grounds.{Answer}
 use Rattle.rdp_command.specs.Decode.{answer}
 use Rattle.rdp_view.specs.View.{pixel_bytes, pixels, unfit, unviewable, image_outside, Framebuffer, pixel_count, view_grounds, view_answer, view_out}
 use Rattle.rdp_view.specs.Steps.{Enough}

@@ -1,7 +1,7 @@
 -- Document 02, #113: "a layer above drawing that turns a finished image (8, 16 or 32 bits, with width and height) into RGBA rows, four bytes a pixel".
 use Rattle.std.specs.Prelude.{ℕ, zero, suc, ◌+◌, ◌*◌, ◌-◌, ◌/◌, ◌%◌, Bool, cond, ◌||◌, List, [], ◌∷◌, ◌++◌, eqb, ltb, length, get_or, drop}
 use Rattle.rdp_words.specs.Words.{overwrite}
-use Rattle.rdp_command.specs.declared.Answer.{Answer}
+use Rattle.rdp_words.specs.Grounds.{Answer}
 use Rattle.rdp_command.specs.Decode.{answer}
 use Rattle.rdp_check.specs.Order.{Ground, ground, first_of}
 

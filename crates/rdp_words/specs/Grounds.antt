@@ -48,8 +48,8 @@ answered (Err refusal) = record { number = number_of refusal.ground; place = ref
 -- the papers' number of a ground, or 0 where nothing is refused
 abbrev pub number_if : Option Ground → ℕ
 number_if None = 0
-number_if (Some ground) = number_of ground
+number_if (Some g) = number_of g
 
 abbrev pub number_unless : Result (Unit {0}) Ground → ℕ
 number_unless (Ok _) = 0
-number_unless (Err ground) = number_of ground
+number_unless (Err g) = number_of g

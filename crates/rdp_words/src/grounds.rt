@@ -46,7 +46,7 @@ pub enum Ground {
 }
 
 impl From<Ground> for u32 {
-    ghost from_gives = { λ ground number. number ≡ number_of ground };
+    ghost from_gives = { λ g number. number ≡ number_of g };
 
     fn from(ground: Ground) -> u32 {
         match ground {

@@ -1,24 +1,20 @@
-use Prim.Native.Nat.{ℕ}
-use mathlib.Core.Bool.{not}
-use mathlib.Core.Path.{ap, ◌∙◌}
-use lib.Dec.{eqb}
+-- `rdp_command::decoding::first_command` meets its contract. Assumes nothing.
+use Rattle.std.proofs.Common.{ℕ, [], ◌∷◌, ap, sym, ◌∙◌}
 use Rattle.rdp_words.specs.Words.{number_in}
 use Rattle.rdp_command.specs.Decode.{own_word}
-use Rattle.rdp_command.proofs.AnswerLaws.{first_gives}
+use Rattle.rdp_command.proofs.AnswerLaws.{first_none, first_gives}
 use Rattle.rdp_command.proofs.decoding.first_command.Goals as goal
+
+pub returns-then-n-eq0 : goal.returns-then-n-eq0
+returns-then-n-eq0 c = first_none c.args.list.now (sym c.whole_words-n.ensures.0 ∙ c.if-n-eq0.true)
 
 pub returns : goal.returns
 returns c =
     let list = c.args.list.now in
     let n = c.whole_words-n.ensures.0 in
-    let w0 = c.word_at-w0.ensures in
-    first_gives list
+    first_gives list (λ none. c.if-n-eq0.false (n ∙ none)) (c.number_in.ensures ∙ ap number_in c.word_at-w0.ensures)
     (λ i.
-    record {
-      ok = not (eqb (n i) 0);
-      number = (c.number_in.ensures ∙ ap number_in w0) i;
-      w0 = w0 i;
-      w1 = (c.own_word.ensures ∙ ap (λ (k : ℕ). own_word list k 1) n) i;
-      w2 = (c.own_word-2.ensures ∙ ap (λ (k : ℕ). own_word list k 2) n) i;
-      w3 = (c.own_word-3.ensures ∙ ap (λ (k : ℕ). own_word list k 3) n) i;
-    })
+    c.word_at-w0.ensures i ∷
+    (c.own_word.ensures ∙ ap (λ (k : ℕ). own_word list k 1) n) i ∷
+    (c.own_word-2.ensures ∙ ap (λ (k : ℕ). own_word list k 2) n) i ∷
+    (c.own_word-3.ensures ∙ ap (λ (k : ℕ). own_word list k 3) n) i ∷ [])

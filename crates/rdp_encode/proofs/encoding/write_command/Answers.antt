@@ -10,7 +10,7 @@ use Rattle.rdp_words.specs.Kinds.{words_of}
 use Rattle.rdp_words.specs.Lengths.{suffix_words}
 use Rattle.rdp_encode.specs.Encode.{verdict_of, has_room, answer_with, out_with}
 use Rattle.rdp_encode.specs.Numbers.{numbers_fit}
-use Rattle.rdp_command.specs.declared.Answer.{Answer}
+use Rattle.rdp_words.specs.Grounds.{Answer}
 use Rattle.rdp_words.proofs.KindLaws.{words-most}
 use Rattle.rdp_words.proofs.Tests.{and-true}
 use Rattle.rdp_encode.proofs.AnswerLaws.{fit_parts}
