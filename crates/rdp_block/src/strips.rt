@@ -1,5 +1,6 @@
 // A Load Block as a strip of texels: what it needs, and whether its ends lie inside memory and texture memory.
 ghost use Rattle.std.specs.Prelude.{◌≡◌, suc, ◌+◌, ◌-◌, ◌*◌, ◌≤◌};
+ghost use Rattle.rdp_words.specs.Grounds.{number_unless};
 ghost use Rattle.rdp_texels.specs.Texels.{texel_address};
 ghost use Rattle.rdp_block.specs.Block.{block_count, block_needs};
 ghost use Rattle.rdp_block.specs.Strips.{SmallStrip, strip_of, flat, strip_refusal};
@@ -7,6 +8,7 @@ ghost use Rattle.rdp_block.specs.Strips.{SmallStrip, strip_of, flat, strip_refus
 use crate::Strip;
 use rdp_command::LoadFields;
 use rdp_texels::TEXTURE_BYTES;
+use rdp_words::Ground;
 
 // The texels from the first to the last.
 fn count_of(first: u16, last: u16) -> u64
@@ -68,16 +70,16 @@ fn flat_in(base: u64, count: u64, low: u64, size: u64) -> bool
     base - low + 2 * count <= size
 }
 
-// 12, else 18, else 0.
-pub fn strip_refusal(strip: Strip, start: u64, len: usize) -> u32
+// 12, else 18.
+pub fn strip_refusal(strip: Strip, start: u64, len: usize) -> Result<(), Ground>
     requires { SmallStrip strip }
-    ensures { result ≡ strip_refusal strip start len }
+    ensures { number_unless result ≡ strip_refusal strip start len }
 {
     if !flat_in(strip.address, strip.count, start, len as u64) {
-        return 12;
+        return Err(Ground::OutsideMemory);
     }
     if !flat_in(strip.ahead, strip.count, 0, TEXTURE_BYTES as u64) {
-        return 18;
+        return Err(Ground::OutsideTexture);
     }
-    0
+    Ok(())
 }

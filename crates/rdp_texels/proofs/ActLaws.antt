@@ -115,19 +115,17 @@ module _ (c : CopyFields) where
   pub copy-none : {q : Span} → q ≡ copy_span c → span_some q ≡ false → copy_moves c ≡ []
   copy-none = moves-none (row_kept c.scissor) (copy_grid c) (copy_span c) (copy_moves c) (copy_moves_lem c) (copy-even c) (copy-ends c)
 
--- ---- 16, and what a refusal leaves
+-- ---- 16, and what is left
 
-pub wrong_size : (size refusal : ℕ) → (size ≡ 4096 → ⊥) → 16 ≡ sized size refusal
-wrong_size size refusal ne = rw (ne_eqb size 4096 ne)
+module _ (size refusal : ℕ) (x y : List ℕ) where
+  pub stays-unsized : (size ≡ 4096 → ⊥) → x ≡ cond (eqb (sized size refusal) 0) y x
+  stays-unsized ne = rw (ne_eqb size 4096 ne)
 
-pub right-size : (size : ℕ) {r refusal : ℕ} → size ≡ 4096 → r ≡ refusal → r ≡ sized size refusal
-right-size size {r} {refusal} e h = rw (eq-eqb size 4096 e) h
+  pub stays-refused : size ≡ 4096 → 0 < refusal → x ≡ cond (eqb (sized size refusal) 0) y x
+  stays-refused e h = rw (eq-eqb size 4096 e, ne_eqb refusal 0 (λ z. omega arith))
 
-pub left_alone : {r n : ℕ} {x : List ℕ} (y : List ℕ) → r ≡ n → (r ≡ 0 → ⊥) → x ≡ cond (eqb n 0) y x
-left_alone {r} {n} {x} y e ne = rw (ne_eqb n 0 (λ h. ne (e ∙ h)))
-
-pub done : {r n : ℕ} (x : List ℕ) {y z : List ℕ} → r ≡ n → r ≡ 0 → y ≡ z → y ≡ cond (eqb n 0) z x
-done {r} {n} x e h same = rw (eq-eqb n 0 (sym e ∙ h)) same
+  pub moved : size ≡ 4096 → refusal ≡ 0 → y ≡ cond (eqb (sized size refusal) 0) y x
+  moved e z = rw (eq-eqb size 4096 e, z)
 
 -- what is left where nothing is refused
 module _ (start : ℕ) (memory texture : List ℕ) (size : length texture ≡ 4096) where

@@ -1,3 +1,4 @@
+pub mod GroundLaws
 pub mod TurnLaws
 pub mod PartLaws
 pub mod ExchangeLaws

@@ -1,11 +1,13 @@
 // The texels of a load and of a copy rectangle as a grid, and whether its corners lie inside memory and texture memory.
 ghost use Rattle.std.specs.Prelude.{◌≡◌, ◌+◌, ◌-◌, ◌*◌, ◌/◌, ◌<◌, ◌≤◌, leb};
+ghost use Rattle.rdp_words.specs.Grounds.{number_unless};
 ghost use Rattle.rdp_texels.specs.Texels.{ahead_of, behind_of};
 ghost use Rattle.rdp_texels.specs.Run.{run_fits};
 ghost use Rattle.rdp_texels.specs.Rows.{SmallGrid, SmallSpan, SmallStep, step_of, load_grid, load_span, copy_grid, copy_span, grid_of, grid_odd, bottom_from, lies, span_some, corners_refusal};
 
 use crate::{Grid, Span, Step, TEXTURE_BYTES};
 use rdp_command::{CopyFields, LoadFields, TextureStep};
+use rdp_words::Ground;
 
 // A whole number's part above 0, and its part below.
 fn ahead(z: i16) -> u64
@@ -223,27 +225,22 @@ pub fn is_some(span: Span) -> bool
     (span.left < span.right) & (span.top < span.bottom)
 }
 
-// 12, else 18, else 0.
-pub fn corners(grid: Grid, span: Span, start: u64, len: usize) -> u32
+// 12, else 18.
+pub fn corners(grid: Grid, span: Span, start: u64, len: usize) -> Result<(), Ground>
     requires { SmallGrid grid × SmallSpan span }
-    ensures { result ≡ corners_refusal grid span start len }
+    ensures { number_unless result ≡ corners_refusal grid span start len }
 {
     if !is_some(span) {
-        return 0;
+        return Ok(());
     }
     if !lies_in(grid.address, grid.pitch, span, start, len as u64) {
-        return 12;
+        return Err(Ground::OutsideMemory);
     }
-    if !lies_in(
-        grid.ahead,
-        grid.line,
-        span,
-        grid.behind,
-        TEXTURE_BYTES as u64,
-    ) {
-        return 18;
+    let size = TEXTURE_BYTES as u64;
+    if !lies_in(grid.ahead, grid.line, span, grid.behind, size) {
+        return Err(Ground::OutsideTexture);
     }
-    0
+    Ok(())
 }
 
 // Whether n bytes from one on are among `size`. Nothing is added to the first, which could wrap.

@@ -2,6 +2,7 @@
 #![tactic(auto)]
 
 ghost use Rattle.std.specs.Prelude.{◌≡◌, length};
+ghost use Rattle.rdp_words.specs.Grounds.{number_unless};
 ghost use Rattle.rdp_texels.specs.Texels.{loaded, copied};
 ghost use Rattle.rdp_texels.specs.Load.{load_needs, load_moves};
 ghost use Rattle.rdp_texels.specs.Copy.{copy_moves};
@@ -14,6 +15,7 @@ mod needs;
 mod rows;
 
 use rdp_command::{CopyFields, LoadFields};
+use rdp_words::Ground;
 
 // The size of texture memory.
 pub const TEXTURE_BYTES: usize = 4096;
@@ -58,12 +60,12 @@ pub fn load_needs(load: LoadFields) -> bool
     image & tile
 }
 
-// The first refusal of a Load Tile, of memory of `len` bytes that starts at address `start`: 17, 12, 18, or 0.
-pub fn load_refusal(load: LoadFields, start: u64, len: usize) -> u32
-    ensures { result ≡ load_refusal load start len }
+// The first refusal of a Load Tile, of memory of `len` bytes that starts at address `start`: 17, 12 or 18.
+pub fn load_refusal(load: LoadFields, start: u64, len: usize) -> Result<(), Ground>
+    ensures { number_unless result ≡ load_refusal load start len }
 {
     if !load_needs(load) {
-        return 17;
+        return Err(Ground::NotRgba16);
     }
     grids::corners(grids::load_grid(load), grids::load_span(load), start, len)
 }
@@ -92,28 +94,30 @@ fn load_texels(memory: &[u8], start: u64, texture: &mut [u8], load: LoadFields)
     }
 }
 
-// Loads a tile out of memory that starts at address `start`. The answer is 16, 17, 12 or 18, or 0; a refusal leaves texture memory as it was.
-pub fn load_tile(memory: &[u8], start: u64, texture: &mut [u8], load: LoadFields) -> u32
-    ensures answer { result ≡ sized (length texture.old) (load_refusal load start (length memory.now)) }
+// Loads a tile out of memory that starts at address `start`. The refusals are 16, 17, 12 and 18, in this order; they leave texture memory as it was.
+pub fn load_tile(
+    memory: &[u8],
+    start: u64,
+    texture: &mut [u8],
+    load: LoadFields,
+) -> Result<(), Ground>
+    ensures answer { number_unless result ≡ sized (length texture.old) (load_refusal load start (length memory.now)) }
     ensures texture { texture.new ≡ load_texture load start memory.now texture.old }
 {
     if texture.len() != TEXTURE_BYTES {
-        return 16;
+        return Err(Ground::NoTextureMemory);
     }
-    let number = load_refusal(load, start, memory.len());
-    if number != 0 {
-        return number;
-    }
+    load_refusal(load, start, memory.len())?;
     load_texels(memory, start, texture, load);
-    0
+    Ok(())
 }
 
-// The first refusal of a texture rectangle in COPY mode, on memory of `len` bytes that starts at address `start`: 17, 12, 18, or 0.
-pub fn copy_refusal(copy: CopyFields, start: u64, len: usize) -> u32
-    ensures { result ≡ copy_refusal copy start len }
+// The first refusal of a texture rectangle in COPY mode, on memory of `len` bytes that starts at address `start`: 17, 12 or 18.
+pub fn copy_refusal(copy: CopyFields, start: u64, len: usize) -> Result<(), Ground>
+    ensures { number_unless result ≡ copy_refusal copy start len }
 {
     if !needs::copy_needs(copy) {
-        return 17;
+        return Err(Ground::NotRgba16);
     }
     grids::corners(grids::copy_grid(copy), grids::copy_span(copy), start, len)
 }
@@ -131,18 +135,21 @@ fn copy_pixels(texture: &[u8], memory: &mut [u8], start: u64, copy: CopyFields)
     }
 }
 
-// Draws a texture rectangle in COPY mode into memory that starts at address `start`. The answer is 16, 17, 12 or 18, or 0; a refusal leaves memory as it was.
-pub fn copy_rectangle(texture: &[u8], memory: &mut [u8], start: u64, copy: CopyFields) -> u32
-    ensures answer { result ≡ sized (length texture.now) (copy_refusal copy start (length memory.old)) }
+// Draws a texture rectangle in COPY mode into memory that starts at address `start`. The refusals are 16, 17, 12 and 18, in this order; they leave memory as
+// it was.
+pub fn copy_rectangle(
+    texture: &[u8],
+    memory: &mut [u8],
+    start: u64,
+    copy: CopyFields,
+) -> Result<(), Ground>
+    ensures answer { number_unless result ≡ sized (length texture.now) (copy_refusal copy start (length memory.old)) }
     ensures memory { memory.new ≡ copy_memory copy start texture.now memory.old }
 {
     if texture.len() != TEXTURE_BYTES {
-        return 16;
+        return Err(Ground::NoTextureMemory);
     }
-    let refusal = copy_refusal(copy, start, memory.len());
-    if refusal != 0 {
-        return refusal;
-    }
+    copy_refusal(copy, start, memory.len())?;
     copy_pixels(texture, memory, start, copy);
-    0
+    Ok(())
 }

@@ -1,33 +1,21 @@
 -- `rdp_block::load_block` meets its contract. Assumes nothing.
-use Rattle.rdp_texels.specs.Texels.{loaded}
-use Rattle.rdp_block.specs.Block.{block_moves, block_texture, block_refusal}
-use Rattle.rdp_texels.proofs.ActLaws.{wrong_size, right-size, left_alone, done}
-use lib.ListN.{length}
-use native.Mathlib.Omega.{arith}
-use mathlib.Core.Path.{sym, ◌∙◌}
+use Rattle.rdp_texels.proofs.GroundLaws.{refused, allowed}
+use Rattle.rdp_texels.proofs.ActLaws.{stays-unsized, stays-refused, moved}
+use Rattle.std.proofs.Common.{◌∙◌}
+use Rattle.rdp_block.specs.Block.{block_texture}
 use Rattle.rdp_block.proofs.load_block.Goals as goal
 
-pub returns-then-texture-ne-TEXTURE_BYTES : goal.returns-then-texture-ne-TEXTURE_BYTES
+pub returns-then-texture-ne-TEXTURE_BYTES-clause-texture :
+    goal.returns-then-texture-ne-TEXTURE_BYTES-clause-texture
 unfolding block_texture
-returns-then-texture-ne-TEXTURE_BYTES c =
-    let s = c.args in
-    let e = wrong_size (length s.texture.now) (block_refusal s.load s.start (length s.memory.now)) c.if-texture-ne-TEXTURE_BYTES.true in
-    record { answer = e; texture = left_alone (loaded s.start s.memory.now (block_moves s.load) s.texture.now) e (λ h. omega arith) }
+returns-then-texture-ne-TEXTURE_BYTES-clause-texture c = stays-unsized _ _ _ _ c.if-texture-ne-TEXTURE_BYTES.true
 
-pub returns-then-number-ne0 : goal.returns-then-number-ne0
+pub returns-in_err-block_refusal-clause-texture : goal.returns-in_err-block_refusal-clause-texture
 unfolding block_texture
-returns-then-number-ne0 c =
-    let s = c.args in
-    let e = right-size (length s.texture.now) c.if-texture-ne-TEXTURE_BYTES.false c.block_refusal-number.ensures in
-    record { answer = e; texture = left_alone (loaded s.start s.memory.now (block_moves s.load) s.texture.now) e c.if-number-ne0.true }
+returns-in_err-block_refusal-clause-texture c =
+    stays-refused _ _ _ _ c.if-texture-ne-TEXTURE_BYTES.false (refused c.in_err-block_refusal.was c.block_refusal.ensures)
 
-pub load_texels-requires : goal.load_texels-requires
-load_texels-requires c = (c.if-texture-ne-TEXTURE_BYTES.false, sym c.block_refusal-number.ensures ∙ c.if-number-ne0.false)
-
-pub returns : goal.returns
+pub returns-clause-texture : goal.returns-clause-texture
 unfolding block_texture
-returns c =
-    let s = c.args in
-    let e = right-size (length s.texture.now) c.if-texture-ne-TEXTURE_BYTES.false c.block_refusal-number.ensures in
-    let h = c.if-number-ne0.false in
-    record { answer = sym h ∙ e; texture = done s.texture.now e h c.load_texels.ensures }
+returns-clause-texture c =
+    c.load_texels.ensures ∙ moved _ _ _ _ c.if-texture-ne-TEXTURE_BYTES.false (allowed c.in_ok-block_refusal.was c.block_refusal.ensures)
