@@ -1,8 +1,10 @@
 -- Document 01, "Four marks": the hazards that a list leaves, what a command requires of them and does to them.
-use Rattle.std.specs.Prelude.{ℕ, ◌+◌, ◌*◌, ◌%◌, ◌<◌, Bool, true, false, cond, ◌||◌, not, List, ◌≡◌, eqb, get_or}
+use Rattle.std.specs.Prelude.{ℕ, ◌+◌, ◌*◌, ◌%◌, ◌<◌, Bool, true, false, cond, ◌||◌, not, List, ◌≡◌, eqb, get_or, Option, Some, None}
 use Rattle.std.specs.Int.Bits.{bit_and, bit_or}
 use Rattle.rdp_words.specs.Kinds.{Kind, no_operation, unassigned, triangle, texture_rectangle, fill_rectangle, sync_load, sync_tile, sync_pipe, sync_full, load, set_tile, attribute, free, kind_of, has_bit}
-use Rattle.rdp_hazards.specs.declared.Transition.{Transition}
+use Rattle.rdp_hazards.specs.declared.Sync.{Sync}
+use Rattle.rdp_hazards.specs.declared.Sync.TheVariants.{Load, Tile, Pipe}
+use Rattle.rdp_hazards.specs.declared.Transition as declared
 
 -- the marks P, T, D and G
 pub record Hazards : Type 0 where
@@ -66,8 +68,24 @@ unfoldable pub required_of : ℕ → ℕ → ℕ
 required_of m n = required_by (kind_of n) (hazards_of m)
 
 -- the two with whether a sync is missing
+pub record Transition : Type 0 where
+  pub next : ℕ
+  pub missing : Bool
+  pub required : ℕ
+
 abbrev pub transition_of : ℕ → ℕ → Transition
 transition_of m n = record { next = next_of m n; missing = not (eqb (required_of m n) 0); required = required_of m n }
+
+-- the number of a sync that may be required
+abbrev pub code_in : Option Sync → ℕ
+code_in None = 0
+code_in (Some Load) = 1
+code_in (Some Tile) = 2
+code_in (Some Pipe) = 3
+
+-- a step's answer in these numbers
+abbrev pub stepped : declared.Transition → Transition
+stepped t = record { next = t.next; missing = not (eqb (code_in t.required) 0); required = code_in t.required }
 
 -- an entry of the table: the next hazards, 16 where a sync is missing, 32 times the sync required
 unfoldable pub entry_of : ℕ → ℕ → ℕ

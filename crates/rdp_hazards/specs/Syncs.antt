@@ -2,11 +2,19 @@
 use Rattle.std.specs.Prelude.{ℕ, ◌+◌, cond, List, [], ◌∷◌, eqb}
 use Rattle.rdp_words.specs.Words.{bare_word}
 use Rattle.rdp_words.specs.Lengths.{first_number}
+use Rattle.rdp_hazards.specs.declared.Sync as declared
+use Rattle.rdp_hazards.specs.declared.Sync.TheVariants.{Load, Tile, Pipe}
 
 pub data Sync : Type 0 where
   load_sync : Sync
   tile_sync : Sync
   pipe_sync : Sync
+
+-- the sync of the code
+abbrev pub sync_in : declared.Sync → Sync
+sync_in Load = load_sync
+sync_in Tile = tile_sync
+sync_in Pipe = pipe_sync
 
 abbrev pub sync_number : Sync → ℕ
 sync_number load_sync = 0x26

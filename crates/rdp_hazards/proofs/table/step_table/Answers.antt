@@ -4,6 +4,6 @@ use Rattle.rdp_hazards.specs.Hazards.{next_of, required_of, entry_of}
 use Rattle.rdp_hazards.proofs.HazardLaws.{agrees}
 use Rattle.rdp_hazards.proofs.table.step_table.Goals as goal
 
-pub returns : goal.returns
+pub invariant_of-result : goal.invariant_of-result
 unfolding kind_of next_of required_of entry_of
-returns c = search agrees
+invariant_of-result c = record { agrees = search agrees }
