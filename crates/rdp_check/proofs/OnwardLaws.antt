@@ -134,7 +134,7 @@ seen_at k =
     λ i.
     let m = sym k.modes i in
     let c = sym k.image i in
-    view (sym k.hazards i) (sym k.ended i) (code m.set (eqb m.modes.cycle_type 3)) (code c.set (eqb c.image.size 0)) (sym k.scissor i).set
+    view (sym k.hazards i) (sym k.ended i) (code m.set (eqb m.value.cycle_type 3)) (code c.set (eqb c.value.size 0)) (sym k.scissor i).set
 
 abbrev shown_in : Stop → Judged
 shown_in q = record { number = q.number; place = q.place; hazards = q.view.hazards; ended = q.view.rest.ended }

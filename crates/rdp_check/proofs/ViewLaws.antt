@@ -169,8 +169,8 @@ module _ (s : State) (c : List ℕ) where
   unfolding view_of
   seen-with g =
       let r = s.registers in
-      refused s.ended (is_unassigned (first_number c)) (draws (first_number c)) r.modes.other.set (eqb r.modes.other.modes.cycle_type 3) r.images.color.set
-      (eqb r.images.color.image.size 0) r.modes.scissor.set g
+      refused s.ended (is_unassigned (first_number c)) (draws (first_number c)) r.modes.other.set (eqb r.modes.other.value.cycle_type 3) r.images.color.set
+      (eqb r.images.color.value.size 0) r.modes.scissor.set g
 
   pub refusal-seen : (strict : Bool) → view_refusal strict (view_of s) (first_number c) ≡ refusal_at (refusals_by strict) s c
   unfolding view_of refusal_with own_refusals sync_refusals
@@ -183,7 +183,7 @@ module _ (s : State) (c : List ℕ) where
 -- what is seen of the registers
 abbrev seen : Registers → Bool × Bool × Bool × ℕ × ℕ
 seen r =
-    (r.modes.other.set, r.images.color.set, r.modes.scissor.set, r.modes.other.modes.cycle_type, r.images.color.image.size)
+    (r.modes.other.set, r.images.color.set, r.modes.scissor.set, r.modes.other.value.cycle_type, r.images.color.value.size)
 
 -- a command that sets none of them
 others : (r : Registers) (c : Command) → (number_of c ≡ 0x2F → ⊥) → (number_of c ≡ 0x3F → ⊥) → (number_of c ≡ 0x2D → ⊥) → seen (registers_after r c) ≡ seen r

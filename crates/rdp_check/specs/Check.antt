@@ -37,7 +37,7 @@ ready r = (r.modes.other.set && r.images.color.set) && r.modes.scissor.set
 
 -- FILL mode (cycle type 3) and a colour image of 4 bits (size 0)
 abbrev pub four_bit_fill : Registers → Bool
-four_bit_fill r = eqb r.modes.other.modes.cycle_type 3 && eqb r.images.color.image.size 0
+four_bit_fill r = eqb r.modes.other.value.cycle_type 3 && eqb r.images.color.value.size 0
 
 -- the refusals of a command, in the state before it: their numbers in their order, each with whether it holds
 abbrev pub Refusals : Type 0

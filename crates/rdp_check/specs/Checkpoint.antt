@@ -1,25 +1,26 @@
 -- Document 02, #103: the commands that a portion makes complete, judged from where the list stands.
 use Rattle.std.specs.Prelude.{ℕ, cond, not, List, [], ◌≡◌, ltb, eqb, length}
 use Rattle.rdp_command.specs.Reads.{other_modes_in, scissor_in, color_image_in}
+use Rattle.rdp_command.specs.declared.OtherModes.{OtherModes}
+use Rattle.rdp_command.specs.declared.Scissor.{Scissor}
+use Rattle.rdp_command.specs.declared.Image.{Image}
 use Rattle.rdp_check.specs.Commands.{commands_of}
 use Rattle.rdp_check.specs.Registers.{no_registers, with_modes, with_images, modes_of, images_of}
 use Rattle.rdp_check.specs.Check.{State, check_refusals, Judgement, outcome, judge}
-use Rattle.rdp_check.specs.declared.OtherModesRegister.{OtherModesRegister}
-use Rattle.rdp_check.specs.declared.ScissorRegister.{ScissorRegister}
-use Rattle.rdp_check.specs.declared.ImageRegister.{ImageRegister}
+use Rattle.rdp_check.specs.declared.Register.{Register}
 use Rattle.rdp_check.specs.declared.Registers.{Registers}
 use Rattle.rdp_check.specs.declared.Checkpoint.{Checkpoint}
 use Rattle.rdp_check.specs.declared.Judged.{Judged}
 
 -- a register by the word that last set it, 0 where none has come: such a word has the number of its command in it, so it is not 0
-abbrev pub other_modes_by : ℕ → OtherModesRegister
-other_modes_by w = record { set = not (eqb w 0); modes = other_modes_in w }
+abbrev pub other_modes_by : ℕ → Register OtherModes
+other_modes_by w = record { set = not (eqb w 0); value = other_modes_in w }
 
-abbrev pub scissor_by : ℕ → ScissorRegister
-scissor_by w = record { set = not (eqb w 0); scissor = scissor_in w }
+abbrev pub scissor_by : ℕ → Register Scissor
+scissor_by w = record { set = not (eqb w 0); value = scissor_in w }
 
-abbrev pub color_image_by : ℕ → ImageRegister
-color_image_by w = record { set = not (eqb w 0); image = color_image_in w }
+abbrev pub color_image_by : ℕ → Register Image
+color_image_by w = record { set = not (eqb w 0); value = color_image_in w }
 
 -- the registers that the check reads; those that it doesn't read are not set
 unfoldable pub registers_at : Checkpoint → Registers

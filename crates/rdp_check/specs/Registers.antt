@@ -1,31 +1,35 @@
 -- Document 01, "Words and lengths": the registers and the eight tile descriptors, at the start and after a decoded command.
 use Rattle.std.specs.Prelude.{ℕ, ◌%◌, true, false, List, get_or, set, replicate}
 use Rattle.rdp_command.specs.declared.Color.{Color}
+use Rattle.rdp_command.specs.declared.PrimitiveColor.{PrimitiveColor}
+use Rattle.rdp_command.specs.declared.KeyGb.{KeyGb}
+use Rattle.rdp_command.specs.declared.KeyR.{KeyR}
+use Rattle.rdp_command.specs.declared.Convert.{Convert}
 use Rattle.rdp_command.specs.declared.OtherModes.{OtherModes}
+use Rattle.rdp_command.specs.declared.PrimitiveDepth.{PrimitiveDepth}
+use Rattle.rdp_command.specs.declared.Scissor.{Scissor}
+use Rattle.rdp_command.specs.declared.Image.{Image}
 use Rattle.rdp_command.specs.declared.TileDescriptor.{TileDescriptor}
 use Rattle.rdp_command.specs.declared.TexelCorner.{TexelCorner}
 use Rattle.rdp_command.specs.Decode.{Decoded}
 use Rattle.rdp_command.specs.Decode.{Whole, Refused}
 use Rattle.rdp_command.specs.declared.Command.{Command}
 use Rattle.rdp_command.specs.declared.Command.TheVariants.{NoOperation, FillTriangle, TextureRectangle, TextureRectangleFlip, SyncLoad, SyncPipe, SyncTile, SyncFull, SetKeyGb, SetKeyR, SetConvert, SetScissor, SetPrimitiveDepth, SetOtherModes, LoadTlut, SetTileSize, LoadBlock, LoadTile, SetTile, FillRectangle, SetFillColor, SetFogColor, SetBlendColor, SetPrimitiveColor, SetEnvironmentColor, SetCombineMode, SetTextureImage, SetDepthImage, SetColorImage, Unassigned}
-use Rattle.rdp_check.specs.declared.FillColorRegister.{FillColorRegister}
-use Rattle.rdp_check.specs.declared.ColorRegister.{ColorRegister}
-use Rattle.rdp_check.specs.declared.PrimitiveColorRegister.{PrimitiveColorRegister}
-use Rattle.rdp_check.specs.declared.CombineRegister.{CombineRegister}
-use Rattle.rdp_check.specs.declared.KeyGbRegister.{KeyGbRegister}
-use Rattle.rdp_check.specs.declared.KeyRRegister.{KeyRRegister}
-use Rattle.rdp_check.specs.declared.ConvertRegister.{ConvertRegister}
-use Rattle.rdp_check.specs.declared.OtherModesRegister.{OtherModesRegister}
-use Rattle.rdp_check.specs.declared.PrimitiveDepthRegister.{PrimitiveDepthRegister}
-use Rattle.rdp_check.specs.declared.ScissorRegister.{ScissorRegister}
-use Rattle.rdp_check.specs.declared.ImageRegister.{ImageRegister}
-use Rattle.rdp_check.specs.declared.DepthImageRegister.{DepthImageRegister}
+use Rattle.rdp_check.specs.declared.Register.{Register}
+use Rattle.rdp_check.specs.declared.TileSize.{TileSize}
 use Rattle.rdp_check.specs.declared.Tile.{Tile}
 use Rattle.rdp_check.specs.declared.Colors.{Colors}
 use Rattle.rdp_check.specs.declared.Combiner.{Combiner}
 use Rattle.rdp_check.specs.declared.Modes.{Modes}
 use Rattle.rdp_check.specs.declared.Images.{Images}
 use Rattle.rdp_check.specs.declared.Registers.{Registers}
+
+-- a register that is not set, and one that a command has set
+abbrev pub unset : {A : Type 0} → A → Register A
+unset v = record { set = false; value = v }
+
+abbrev pub set_to : {A : Type 0} → A → Register A
+set_to v = record { set = true; value = v }
 
 -- the registers with one group of them, or one tile, replaced
 abbrev pub with_colors : Registers → Colors → Registers
@@ -44,16 +48,16 @@ abbrev pub with_tiles : Registers → List Tile → Registers
 with_tiles r ts = record { colors = r.colors; combiner = r.combiner; modes = r.modes; images = r.images; tiles = ts }
 
 -- the groups by their registers
-abbrev pub colors_of : FillColorRegister → ColorRegister → ColorRegister → PrimitiveColorRegister → ColorRegister → Colors
+abbrev pub colors_of : Register ℕ → Register Color → Register Color → Register PrimitiveColor → Register Color → Colors
 colors_of a b c d e = record { fill = a; fog = b; blend = c; primitive = d; environment = e }
 
-abbrev pub combiner_of : CombineRegister → KeyGbRegister → KeyRRegister → ConvertRegister → Combiner
+abbrev pub combiner_of : Register ℕ → Register KeyGb → Register KeyR → Register Convert → Combiner
 combiner_of a b c d = record { combine = a; key_gb = b; key_r = c; convert = d }
 
-abbrev pub modes_of : OtherModesRegister → PrimitiveDepthRegister → ScissorRegister → Modes
+abbrev pub modes_of : Register OtherModes → Register PrimitiveDepth → Register Scissor → Modes
 modes_of a b c = record { other = a; depth = b; scissor = c }
 
-abbrev pub images_of : ImageRegister → ImageRegister → DepthImageRegister → Images
+abbrev pub images_of : Register Image → Register Image → Register ℕ → Images
 images_of a b c = record { color = a; texture = b; depth = c }
 
 -- ---- the start: zero and not set
@@ -61,14 +65,14 @@ images_of a b c = record { color = a; texture = b; depth = c }
 abbrev pub no_color : Color
 no_color = record { red = 0; green = 0; blue = 0; alpha = 0 }
 
-abbrev pub no_color_register : ColorRegister
-no_color_register = record { set = false; color = no_color }
+abbrev pub no_color_register : Register Color
+no_color_register = unset no_color
 
 abbrev pub no_corner : TexelCorner
 no_corner = record { s = 0; t = 0 }
 
-abbrev pub no_image : ImageRegister
-no_image = record { set = false; image = record { format = 0; size = 0; width = 0; address = 0 } }
+abbrev pub no_image : Register Image
+no_image = unset (record { format = 0; size = 0; width = 0; address = 0 })
 
 abbrev pub no_other_modes : OtherModes
 no_other_modes =
@@ -140,32 +144,29 @@ no_descriptor =
       shift_s = 0;
     }
 
+abbrev pub no_size : TileSize
+no_size = record { upper_left = no_corner; lower_right = no_corner }
+
 abbrev pub no_tile : Tile
-no_tile = record { set = false; descriptor = no_descriptor; sized = false; upper_left = no_corner; lower_right = no_corner }
+no_tile = record { descriptor = unset no_descriptor; size = unset no_size }
 
 abbrev pub no_colors : Colors
 no_colors =
-    colors_of (record { set = false; color = 0 }) no_color_register no_color_register
-    (record { set = false; color = record { min_level = 0; prim_lod_frac = 0; color = no_color } })
-    no_color_register
+    colors_of (unset 0) no_color_register no_color_register (unset (record { min_level = 0; prim_lod_frac = 0; color = no_color })) no_color_register
 
 abbrev pub no_combiner : Combiner
 no_combiner =
-    combiner_of (record { set = false; mode = 0 })
-    (record { set = false; key = record { width_g = 0; width_b = 0; center_g = 0; scale_g = 0; center_b = 0; scale_b = 0 } })
-    (record { set = false; key = record { width_r = 0; center_r = 0; scale_r = 0 } })
-    (record { set = false; convert = record { k0 = 0; k1 = 0; k2 = 0; k3 = 0; k4 = 0; k5 = 0 } })
+    combiner_of (unset 0) (unset (record { width_g = 0; width_b = 0; center_g = 0; scale_g = 0; center_b = 0; scale_b = 0 }))
+    (unset (record { width_r = 0; center_r = 0; scale_r = 0 }))
+    (unset (record { k0 = 0; k1 = 0; k2 = 0; k3 = 0; k4 = 0; k5 = 0 }))
 
 abbrev pub no_modes : Modes
 no_modes =
-    modes_of (record { set = false; modes = no_other_modes }) (record { set = false; depth = record { z = 0; dz = 0 } })
-    (record {
-      set = false;
-      scissor = record { upper_left = record { x = 0; y = 0 }; «field» = false; odd = false; lower_right = record { x = 0; y = 0 } };
-    })
+    modes_of (unset no_other_modes) (unset (record { z = 0; dz = 0 }))
+    (unset (record { upper_left = record { x = 0; y = 0 }; «field» = false; odd = false; lower_right = record { x = 0; y = 0 } }))
 
 abbrev pub no_images : Images
-no_images = images_of no_image no_image (record { set = false; address = 0 })
+no_images = images_of no_image no_image (unset 0)
 
 unfoldable pub no_registers : Registers
 no_registers = record { colors = no_colors; combiner = no_combiner; modes = no_modes; images = no_images; tiles = replicate 8 no_tile }
@@ -178,14 +179,11 @@ tile_of ts i = get_or ts (i % 8) no_tile
 
 -- the tiles with one descriptor set, and with the size of one set
 unfoldable pub described_tiles : List Tile → TileDescriptor → List Tile
-described_tiles ts d =
-    let t = tile_of ts d.index in
-    set ts (d.index % 8) (record { set = true; descriptor = d; sized = t.sized; upper_left = t.upper_left; lower_right = t.lower_right })
+described_tiles ts d = set ts (d.index % 8) (record { descriptor = set_to d; size = (tile_of ts d.index).size })
 
 unfoldable pub sized_tiles : List Tile → ℕ → TexelCorner → TexelCorner → List Tile
 sized_tiles ts i first last =
-    let t = tile_of ts i in
-    set ts (i % 8) (record { set = t.set; descriptor = t.descriptor; sized = true; upper_left = first; lower_right = last })
+    set ts (i % 8) (record { descriptor = (tile_of ts i).descriptor; size = set_to (record { upper_left = first; lower_right = last }) })
 
 -- the registers after a command: each Set command its own register; the loads their tile's size, as document 000 says of each; of a Load Block the
 -- last value is dxt
@@ -198,27 +196,27 @@ registers_after r SyncLoad = r
 registers_after r SyncPipe = r
 registers_after r SyncTile = r
 registers_after r SyncFull = r
-registers_after r (SetKeyGb g) = with_combiner r (combiner_of r.combiner.combine (record { set = true; key = g }) r.combiner.key_r r.combiner.convert)
-registers_after r (SetKeyR g) = with_combiner r (combiner_of r.combiner.combine r.combiner.key_gb (record { set = true; key = g }) r.combiner.convert)
-registers_after r (SetConvert g) = with_combiner r (combiner_of r.combiner.combine r.combiner.key_gb r.combiner.key_r (record { set = true; convert = g }))
-registers_after r (SetScissor g) = with_modes r (modes_of r.modes.other r.modes.depth (record { set = true; scissor = g }))
-registers_after r (SetPrimitiveDepth g) = with_modes r (modes_of r.modes.other (record { set = true; depth = g }) r.modes.scissor)
-registers_after r (SetOtherModes g) = with_modes r (modes_of (record { set = true; modes = g }) r.modes.depth r.modes.scissor)
+registers_after r (SetKeyGb g) = with_combiner r (combiner_of r.combiner.combine (set_to g) r.combiner.key_r r.combiner.convert)
+registers_after r (SetKeyR g) = with_combiner r (combiner_of r.combiner.combine r.combiner.key_gb (set_to g) r.combiner.convert)
+registers_after r (SetConvert g) = with_combiner r (combiner_of r.combiner.combine r.combiner.key_gb r.combiner.key_r (set_to g))
+registers_after r (SetScissor g) = with_modes r (modes_of r.modes.other r.modes.depth (set_to g))
+registers_after r (SetPrimitiveDepth g) = with_modes r (modes_of r.modes.other (set_to g) r.modes.scissor)
+registers_after r (SetOtherModes g) = with_modes r (modes_of (set_to g) r.modes.depth r.modes.scissor)
 registers_after r (LoadTlut g) = with_tiles r (sized_tiles r.tiles g.tile g.upper_left g.lower_right)
 registers_after r (SetTileSize g) = with_tiles r (sized_tiles r.tiles g.tile g.upper_left g.lower_right)
 registers_after r (LoadBlock g) = with_tiles r (sized_tiles r.tiles g.tile g.upper_left (record { s = g.lower_right_s; t = g.dxt }))
 registers_after r (LoadTile g) = with_tiles r (sized_tiles r.tiles g.tile g.upper_left g.lower_right)
 registers_after r (SetTile g) = with_tiles r (described_tiles r.tiles g)
 registers_after r (FillRectangle g) = r
-registers_after r (SetFillColor n) = with_colors r (colors_of (record { set = true; color = n }) r.colors.fog r.colors.blend r.colors.primitive r.colors.environment)
-registers_after r (SetFogColor g) = with_colors r (colors_of r.colors.fill (record { set = true; color = g }) r.colors.blend r.colors.primitive r.colors.environment)
-registers_after r (SetBlendColor g) = with_colors r (colors_of r.colors.fill r.colors.fog (record { set = true; color = g }) r.colors.primitive r.colors.environment)
-registers_after r (SetPrimitiveColor g) = with_colors r (colors_of r.colors.fill r.colors.fog r.colors.blend (record { set = true; color = g }) r.colors.environment)
-registers_after r (SetEnvironmentColor g) = with_colors r (colors_of r.colors.fill r.colors.fog r.colors.blend r.colors.primitive (record { set = true; color = g }))
-registers_after r (SetCombineMode n) = with_combiner r (combiner_of (record { set = true; mode = n }) r.combiner.key_gb r.combiner.key_r r.combiner.convert)
-registers_after r (SetTextureImage g) = with_images r (images_of r.images.color (record { set = true; image = g }) r.images.depth)
-registers_after r (SetDepthImage n) = with_images r (images_of r.images.color r.images.texture (record { set = true; address = n }))
-registers_after r (SetColorImage g) = with_images r (images_of (record { set = true; image = g }) r.images.texture r.images.depth)
+registers_after r (SetFillColor n) = with_colors r (colors_of (set_to n) r.colors.fog r.colors.blend r.colors.primitive r.colors.environment)
+registers_after r (SetFogColor g) = with_colors r (colors_of r.colors.fill (set_to g) r.colors.blend r.colors.primitive r.colors.environment)
+registers_after r (SetBlendColor g) = with_colors r (colors_of r.colors.fill r.colors.fog (set_to g) r.colors.primitive r.colors.environment)
+registers_after r (SetPrimitiveColor g) = with_colors r (colors_of r.colors.fill r.colors.fog r.colors.blend (set_to g) r.colors.environment)
+registers_after r (SetEnvironmentColor g) = with_colors r (colors_of r.colors.fill r.colors.fog r.colors.blend r.colors.primitive (set_to g))
+registers_after r (SetCombineMode n) = with_combiner r (combiner_of (set_to n) r.combiner.key_gb r.combiner.key_r r.combiner.convert)
+registers_after r (SetTextureImage g) = with_images r (images_of r.images.color (set_to g) r.images.depth)
+registers_after r (SetDepthImage n) = with_images r (images_of r.images.color r.images.texture (set_to n))
+registers_after r (SetColorImage g) = with_images r (images_of (set_to g) r.images.texture r.images.depth)
 registers_after r (Unassigned n) = r
 
 -- after what decoding answers

@@ -38,8 +38,8 @@ view hazards ended modes image scissor =
 unfoldable pub view_of : State → View
 view_of s =
     let r = s.registers in
-    view s.hazards s.ended (code r.modes.other.set (eqb r.modes.other.modes.cycle_type 3))
-    (code r.images.color.set (eqb r.images.color.image.size 0)) r.modes.scissor.set
+    view s.hazards s.ended (code r.modes.other.set (eqb r.modes.other.value.cycle_type 3))
+    (code r.images.color.set (eqb r.images.color.value.size 0)) r.modes.scissor.set
 
 -- what is carried beside the hazards after a command, and the view after it
 unfoldable pub rest_after : Rest → Head → Rest

@@ -49,138 +49,58 @@ pub struct Judged {
     pub ended: bool,
 }
 
-// Each register has its value and whether the list has set it.
-#[repr(C)]
+// A register: its value, and whether the list has set it. No Option, since document 01 has registers start at zero and not set: `no_registers` and `none-set`
+// state the value of a register that is not set.
 #[derive(Clone, Copy)]
-pub struct FillColorRegister {
+pub struct Register<T> {
     pub set: bool,
-    pub color: u32,
+    pub value: T,
 }
 
-#[repr(C)]
+// The texels of a tile: its first corner, and its last.
 #[derive(Clone, Copy)]
-pub struct ColorRegister {
-    pub set: bool,
-    pub color: Color,
-}
-
-#[repr(C)]
-#[derive(Clone, Copy)]
-pub struct PrimitiveColorRegister {
-    pub set: bool,
-    pub color: PrimitiveColor,
-}
-
-#[repr(C)]
-#[derive(Clone, Copy)]
-pub struct CombineRegister {
-    pub set: bool,
-    pub mode: u64,
-}
-
-#[repr(C)]
-#[derive(Clone, Copy)]
-pub struct KeyGbRegister {
-    pub set: bool,
-    pub key: KeyGb,
-}
-
-#[repr(C)]
-#[derive(Clone, Copy)]
-pub struct KeyRRegister {
-    pub set: bool,
-    pub key: KeyR,
-}
-
-#[repr(C)]
-#[derive(Clone, Copy)]
-pub struct ConvertRegister {
-    pub set: bool,
-    pub convert: Convert,
-}
-
-#[repr(C)]
-#[derive(Clone, Copy)]
-pub struct OtherModesRegister {
-    pub set: bool,
-    pub modes: OtherModes,
-}
-
-#[repr(C)]
-#[derive(Clone, Copy)]
-pub struct PrimitiveDepthRegister {
-    pub set: bool,
-    pub depth: PrimitiveDepth,
-}
-
-#[repr(C)]
-#[derive(Clone, Copy)]
-pub struct ScissorRegister {
-    pub set: bool,
-    pub scissor: Scissor,
-}
-
-#[repr(C)]
-#[derive(Clone, Copy)]
-pub struct ImageRegister {
-    pub set: bool,
-    pub image: Image,
-}
-
-#[repr(C)]
-#[derive(Clone, Copy)]
-pub struct DepthImageRegister {
-    pub set: bool,
-    pub address: u32,
-}
-
-// A tile descriptor and its size, each with whether the list has set it.
-#[repr(C)]
-#[derive(Clone, Copy)]
-pub struct Tile {
-    pub set: bool,
-    pub descriptor: TileDescriptor,
-    pub sized: bool,
+pub struct TileSize {
     pub upper_left: TexelCorner,
     pub lower_right: TexelCorner,
 }
 
-#[repr(C)]
+#[derive(Clone, Copy)]
+pub struct Tile {
+    pub descriptor: Register<TileDescriptor>,
+    pub size: Register<TileSize>,
+}
+
 #[derive(Clone, Copy)]
 pub struct Colors {
-    pub fill: FillColorRegister,
-    pub fog: ColorRegister,
-    pub blend: ColorRegister,
-    pub primitive: PrimitiveColorRegister,
-    pub environment: ColorRegister,
+    pub fill: Register<u32>,
+    pub fog: Register<Color>,
+    pub blend: Register<Color>,
+    pub primitive: Register<PrimitiveColor>,
+    pub environment: Register<Color>,
 }
 
-#[repr(C)]
 #[derive(Clone, Copy)]
 pub struct Combiner {
-    pub combine: CombineRegister,
-    pub key_gb: KeyGbRegister,
-    pub key_r: KeyRRegister,
-    pub convert: ConvertRegister,
+    pub combine: Register<u64>,
+    pub key_gb: Register<KeyGb>,
+    pub key_r: Register<KeyR>,
+    pub convert: Register<Convert>,
 }
 
-#[repr(C)]
 #[derive(Clone, Copy)]
 pub struct Modes {
-    pub other: OtherModesRegister,
-    pub depth: PrimitiveDepthRegister,
-    pub scissor: ScissorRegister,
+    pub other: Register<OtherModes>,
+    pub depth: Register<PrimitiveDepth>,
+    pub scissor: Register<Scissor>,
 }
 
-#[repr(C)]
 #[derive(Clone, Copy)]
 pub struct Images {
-    pub color: ImageRegister,
-    pub texture: ImageRegister,
-    pub depth: DepthImageRegister,
+    pub color: Register<Image>,
+    pub texture: Register<Image>,
+    pub depth: Register<u32>,
 }
 
-#[repr(C)]
 #[derive(Clone, Copy)]
 pub struct Registers {
     pub colors: Colors,

@@ -8,7 +8,7 @@ use native.Mathlib.Omega.{arith}
 use borrow.Author.Tests.{ne_eqb, eqb-true, eqb-false, ltb-true}
 use lib.Dec.{T, eqb, ltb, eqb→eq, lit<}
 use lib.ListN.{length, get_or, set, take, replicate, length-set}
-use lib.Seq.{get_or-set_same, get_or-set_other, set-set, set_comm}
+use lib.Seq.{get_or-set_same, get_or-set_other}
 use Rattle.rdp_words.specs.Words.{word_at, number_in}
 use Rattle.rdp_words.specs.Kinds.{among, words_of}
 use Rattle.rdp_command.specs.Layout.{tile_area_lines, tile_descriptor_lines}
@@ -26,7 +26,7 @@ use Rattle.rdp_words.proofs.PlaceLaws.{number_small, is_whole}
 use Rattle.rdp_command.proofs.CommandLaws.{one_word}
 use Rattle.rdp_command.proofs.ReadLaws.{decodes, decoded-number}
 use Rattle.rdp_check.specs.Commands.{commands_from}
-use Rattle.rdp_check.specs.Registers.{no_tile, tile_of, no_registers, with_tiles, registers_after, after_decoded, described_tiles, sized_tiles}
+use Rattle.rdp_check.specs.Registers.{set_to, no_tile, tile_of, no_registers, with_tiles, registers_after, after_decoded, described_tiles, sized_tiles}
 use Rattle.rdp_state.specs.RegisterWords.{tile_in, slot_of, stored_at, words_after, tile_by, tiles_by, registers_by, is_set, word, registers_in}
 use Rattle.rdp_state.specs.Replay.{slot_row, slot_entry, slot_in, up_to, words_up_to, registers_up_to, setters}
 use Rattle.rdp_check.specs.declared.Tile.{Tile}
@@ -74,12 +74,6 @@ other-slot n t h k s = unless (among n setters) (slot-test (λ n t. cond (among 
 pub length-stored : (slot : ℕ) (ws : List ℕ) (w : ℕ) → length (stored_at slot ws w) ≡ length ws
 length-stored slot ws w = by-test (eqb slot 31) (λ t. rw t) (λ f. rw f (length-set ws slot w))
 
--- stored in slot 31 too, which is then put back
-pub stored_back : (slot : ℕ) (ws : List ℕ) (w x : ℕ) → set (set ws slot w) 31 x ≡ stored_at slot (set ws 31 x) w
-stored_back slot ws w x =
-    by-test (eqb slot 31) (λ t. rw t (ap (λ (j : ℕ). set (set ws j w) 31 x) (eqb-true slot 31 t) ∙ set-set ws 31 w x))
-    (λ f. rw f (set_comm ws slot 31 w x (eqb-false slot 31 f)))
-
 -- a command that sets no register leaves the words as they are
 pub words-kept : (ws : List ℕ) (n w : ℕ) → n < 64 → among n setters ≡ false → words_after ws n w ≡ ws
 words-kept ws n w h e = ap (λ (j : ℕ). stored_at j ws w) (other-slot n (tile_in w) h (tile-small w) (rw e tt))
@@ -124,14 +118,11 @@ mod-mod : (x : ℕ) → x % 8 % 8 ≡ x % 8
 mod-mod x = omega arith
 
 abbrev described_at : List Tile → ℕ → TileDescriptor → List Tile
-described_at ts i d =
-    let t = get_or ts i no_tile in
-    set ts i (record { set = true; descriptor = d; sized = t.sized; upper_left = t.upper_left; lower_right = t.lower_right })
+described_at ts i d = set ts i (record { descriptor = set_to d; size = (get_or ts i no_tile).size })
 
 abbrev sized_at : List Tile → ℕ → TexelCorner → TexelCorner → List Tile
 sized_at ts i first last =
-    let t = get_or ts i no_tile in
-    set ts i (record { set = t.set; descriptor = t.descriptor; sized = true; upper_left = first; lower_right = last })
+    set ts i (record { descriptor = (get_or ts i no_tile).descriptor; size = set_to (record { upper_left = first; lower_right = last }) })
 
 module _ (s : ℕ → Bool) (g : ℕ → ℕ) (w : ℕ) where
   described :
@@ -306,10 +297,10 @@ module _ (ws : List ℕ) (long : length ws ≡ 32) (c : List ℕ) (there : whole
 
 -- of the registers that a fill is drawn under
 pub record FillReads (ws : List ℕ) : Type 0 where
-  pub mode : (registers_in ws).modes.other.modes.cycle_type ≡ cycle_type_in (word ws 5)
-  pub scissor : (registers_in ws).modes.scissor.scissor ≡ scissor_in (word ws 3)
-  pub image : (registers_in ws).images.color.image ≡ color_image_in (word ws 14)
-  pub color : (registers_in ws).colors.fill.color ≡ fill_color_in (word ws 6)
+  pub mode : (registers_in ws).modes.other.value.cycle_type ≡ cycle_type_in (word ws 5)
+  pub scissor : (registers_in ws).modes.scissor.value ≡ scissor_in (word ws 3)
+  pub image : (registers_in ws).images.color.value ≡ color_image_in (word ws 14)
+  pub color : (registers_in ws).colors.fill.value ≡ fill_color_in (word ws 6)
 
 pub fill-reads : (ws : List ℕ) → FillReads ws
 unfolding registers_by
@@ -318,10 +309,10 @@ fill-reads ws = record { mode = refl; scissor = refl; image = refl; color = refl
 -- the registers that texels are loaded and copied under, but the tile
 pub record TextureReads (ws : List ℕ) : Type 0 where
   pub image-set : (registers_in ws).images.texture.set ≡ is_set ws 12
-  pub image : (registers_in ws).images.texture.image ≡ texture_image_in (word ws 12)
-  pub perspective : (registers_in ws).modes.other.modes.texture.persp_tex_en ≡ (other_modes_in (word ws 5)).texture.persp_tex_en
-  pub lookup : (registers_in ws).modes.other.modes.texture.tlut_en ≡ (other_modes_in (word ws 5)).texture.tlut_en
-  pub alpha-compare : (registers_in ws).modes.other.modes.pixel.alpha_compare_en ≡ (other_modes_in (word ws 5)).pixel.alpha_compare_en
+  pub image : (registers_in ws).images.texture.value ≡ texture_image_in (word ws 12)
+  pub perspective : (registers_in ws).modes.other.value.texture.persp_tex_en ≡ (other_modes_in (word ws 5)).texture.persp_tex_en
+  pub lookup : (registers_in ws).modes.other.value.texture.tlut_en ≡ (other_modes_in (word ws 5)).texture.tlut_en
+  pub alpha-compare : (registers_in ws).modes.other.value.pixel.alpha_compare_en ≡ (other_modes_in (word ws 5)).pixel.alpha_compare_en
 
 pub texture-reads : (ws : List ℕ) → TextureReads ws
 unfolding registers_by

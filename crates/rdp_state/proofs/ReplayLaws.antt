@@ -7,8 +7,7 @@ use native.Mathlib.Nat.{le_refl}
 use native.Mathlib.Omega.{arith}
 use borrow.Author.Tests.{lt-ltb, le-ltb}
 use lib.Dec.{T, eqb, ltb}
-use lib.ListN.{length, get_or, drop, set, replicate, length-set}
-use lib.Seq.{set-get_or}
+use lib.ListN.{length, drop, replicate}
 use Rattle.rdp_words.specs.Words.{word_at, number_in}
 use Rattle.rdp_words.specs.Kinds.{words_of}
 use Rattle.rdp_words.specs.Lengths.{first_number}
@@ -17,7 +16,7 @@ use Rattle.rdp_words.proofs.KindLaws.{words-most}
 use Rattle.rdp_check.specs.Commands.{commands_of, rest_of}
 use Rattle.rdp_check.specs.Registers.{no_registers}
 use Rattle.rdp_check.specs.Check.{State, start, after_command, Refusals, own_refusals, sync_refusals, check_refusals, refusal_at, Judgement, settle, judge, judge_list, outcome_within}
-use Rattle.rdp_state.specs.RegisterWords.{tile_in, slot_of, registers_in}
+use Rattle.rdp_state.specs.RegisterWords.{words_after, registers_in}
 use Rattle.rdp_state.specs.Resume.{waited_after}
 use Rattle.rdp_state.specs.Replay.{up_to, storing, applying, adding, words_up_to, registers_up_to, waited_up_to, end_of}
 use Rattle.rdp_check.specs.declared.Registers.{Registers}
@@ -27,16 +26,15 @@ use Rattle.rdp_check.proofs.JoinLaws.{command-some}
 use Rattle.rdp_check.proofs.AppendLaws.{judge-from}
 use Rattle.rdp_check.proofs.OrderLaws.{all_give}
 use Rattle.rdp_check.proofs.FirstLaws.{judge-gives}
-use Rattle.rdp_state.proofs.RegisterLaws.{stored_back, none-set, registers-up-to}
+use Rattle.rdp_state.proofs.RegisterLaws.{none-set, registers-up-to}
 
 -- ---- the loop
 
--- what holds at the head of the loop: the words after what is left, with slot 31 put back, are those after the list, and so are the cycles waited
-pub record Replayed (list : List ℕ) (end words unread : ℕ) (before : List ℕ) (waits : ℕ) (file : List ℕ) (waited at : ℕ) : Type 0 where
+-- what holds at the head of the loop: the words after what is left are those after the list, and so are the cycles waited
+pub record Replayed (list : List ℕ) (end words : ℕ) (before : List ℕ) (waits : ℕ) (file : List ℕ) (waited at : ℕ) : Type 0 where
   pub count : words ≡ length list / 8
   pub within : at ≤ words
-  pub long : length file ≡ 32
-  pub same : words_up_to end at (set file 31 unread) (commands_of (drop (8 * at) list)) ≡ words_up_to end 0 before (commands_of list)
+  pub same : words_up_to end at file (commands_of (drop (8 * at) list)) ≡ words_up_to end 0 before (commands_of list)
   pub sums : waited_up_to end at waited (commands_of (drop (8 * at) list)) ≡ waited_up_to end 0 waits (commands_of list)
 
 -- what the loop leaves
@@ -45,26 +43,18 @@ Leaves list end before waits file waited =
     (file ≡ words_up_to end 0 before (commands_of list)) × (waited ≡ waited_up_to end 0 waits (commands_of list))
 
 pub first :
-    (list : List ℕ) (end words unread : ℕ) (file : List ℕ) (waits : ℕ) → length file ≡ 32 → words ≡ length list / 8 → unread ≡ get_or file 31 0 →
-    Replayed list end words unread file waits file waits 0
-first list end words unread file waits l e u =
-    record {
-      count = e;
-      within = omega arith;
-      long = l;
-      same = ap (λ (f : List ℕ). words_up_to end 0 f (commands_of list)) (ap (set file 31) u ∙ set-get_or file 31 0);
-      sums = refl;
-    }
+    (list : List ℕ) (end words : ℕ) (file : List ℕ) (waits : ℕ) → words ≡ length list / 8 → Replayed list end words file waits file waits 0
+first list end words file waits e = record { count = e; within = omega arith; same = refl; sums = refl }
 
 pub still : {A : Type 0} (after : A → List ℕ → A) (end at : ℕ) (a : A) (cs : List (List ℕ)) → end ≤ at → up_to after end at a cs ≡ a
 unfolding up_to
 still after end at a [] h = refl
 still after end at a (c ∷ cs) h = rw (le-ltb _ _ h)
 
-module _ {list : List ℕ} {end words unread : ℕ} {before : List ℕ} {waits : ℕ} {file : List ℕ} {waited at : ℕ} (v : Replayed list end words unread before waits file waited at) where
-  pub ended : end ≤ at → Leaves list end before waits (set file 31 unread) waited
+module _ {list : List ℕ} {end words : ℕ} {before : List ℕ} {waits : ℕ} {file : List ℕ} {waited at : ℕ} (v : Replayed list end words before waits file waited at) where
+  pub ended : end ≤ at → Leaves list end before waits file waited
   ended h = (
-    sym (still storing end at (set file 31 unread) (commands_of (drop (8 * at) list)) h) ∙ v.same,
+    sym (still storing end at file (commands_of (drop (8 * at) list)) h) ∙ v.same,
     sym (still adding end at waited (commands_of (drop (8 * at) list)) h) ∙ v.sums,
   )
 
@@ -73,7 +63,10 @@ module _ {list : List ℕ} {end words unread : ℕ} {before : List ℕ} {waits :
     pub few : count ≤ 22
     few = rw (long, is) (words-most _ (number_small (word_at list at)))
 
-    pub past : words < at + count → Leaves list end before waits (set file 31 unread) waited
+    low : n % 64 ≡ n
+    low = let h : n < 64 = rw is (number_small (word_at list at)) in omega arith
+
+    pub past : words < at + count → Leaves list end before waits file waited
     unfolding up_to
     past h =
         let short : length list / 8 < at + words_of n = omega (arith, v.count) in
@@ -83,20 +76,19 @@ module _ {list : List ℕ} {end words unread : ℕ} {before : List ℕ} {waits :
     falls h = omega (arith, some_words list at n is)
 
     pub again :
-        at + count ≤ words → (w slot : ℕ) → w ≡ word_at list at → slot ≡ slot_of n (tile_in w) → (waited' : ℕ) → waited' ≡ waited_after waited n →
-        Replayed list end words unread before waits (set file slot w) waited' (at + count)
+        at + count ≤ words → (w : ℕ) → w ≡ word_at list at → (file' : List ℕ) → file' ≡ words_after file (n % 64) w → (waited' : ℕ) →
+        waited' ≡ waited_after waited n → Replayed list end words before waits file' waited' (at + count)
     unfolding up_to
-    again h w slot is-w is-slot waited' is-waited =
+    again h w is-w file' is-file waited' is-waited =
         let inside : at + words_of n ≤ length list / 8 = omega (arith, v.count) in
         record {
           count = v.count;
           within = h;
-          long = length-set file slot w ∙ v.long;
           same =
-              ap (λ (f : List ℕ). words_up_to end (at + count) f (commands_of (drop (8 * (at + count)) list))) (stored_back slot file w unread) ∙
               rw (
                 ← v.same,
-                is-slot,
+                is-file,
+                low,
                 is-w,
                 long,
                 commands-at list at n is inside,

@@ -6,7 +6,8 @@ use Rattle.rdp_command.specs.Layout.{key_gb_lines, key_r_lines, convert_lines, p
 use Rattle.rdp_command.specs.Groups.{nat_at, key_gb_of, key_r_of, convert_of, primitive_depth_of, color_of, primitive_color_of}
 use Rattle.rdp_command.specs.Reads.{fields_in, other_modes_in, scissor_in, fill_color_in, color_image_in, texture_image_in, tile_descriptor_in, tile_area_in}
 use Rattle.rdp_check.specs.Registers.{colors_of, combiner_of, modes_of, images_of}
-use Rattle.rdp_check.specs.declared.ColorRegister.{ColorRegister}
+use Rattle.rdp_command.specs.declared.Color.{Color}
+use Rattle.rdp_check.specs.declared.Register.{Register}
 use Rattle.rdp_check.specs.declared.Tile.{Tile}
 use Rattle.rdp_check.specs.declared.Colors.{Colors}
 use Rattle.rdp_check.specs.declared.Combiner.{Combiner}
@@ -39,43 +40,44 @@ words_after words n w = stored_at (slot_of n (tile_in w)) words w
 
 -- ---- the registers
 
+-- a register by whether it is set
+abbrev pub set_if : {A : Type 0} → Bool → A → Register A
+set_if s v = record { set = s; value = v }
+
 -- the registers by functions of the slots: whether the register is set, and its word
-abbrev pub color_by : Bool → ℕ → ColorRegister
-color_by s w = record { set = s; color = color_of (fields_in color_lines w) }
+abbrev pub color_by : Bool → ℕ → Register Color
+color_by s w = set_if s (color_of (fields_in color_lines w))
 
 abbrev pub colors_by : (ℕ → Bool) → (ℕ → ℕ) → Colors
 colors_by s w =
-    colors_of (record { set = s 6; color = fill_color_in (w 6) }) (color_by (s 7) (w 7)) (color_by (s 8) (w 8))
-    (record { set = s 9; color = primitive_color_of (fields_in primitive_color_lines (w 9)) })
+    colors_of (set_if (s 6) (fill_color_in (w 6))) (color_by (s 7) (w 7)) (color_by (s 8) (w 8))
+    (set_if (s 9) (primitive_color_of (fields_in primitive_color_lines (w 9))))
     (color_by (s 10) (w 10))
 
 abbrev pub combiner_by : (ℕ → Bool) → (ℕ → ℕ) → Combiner
 combiner_by s w =
-    combiner_of (record { set = s 11; mode = nat_at (fields_in combine_mode_lines (w 11)) 0 }) (record { set = s 0; key = key_gb_of (fields_in key_gb_lines (w 0)) })
-    (record { set = s 1; key = key_r_of (fields_in key_r_lines (w 1)) })
-    (record { set = s 2; convert = convert_of (fields_in convert_lines (w 2)) })
+    combiner_of (set_if (s 11) (nat_at (fields_in combine_mode_lines (w 11)) 0)) (set_if (s 0) (key_gb_of (fields_in key_gb_lines (w 0))))
+    (set_if (s 1) (key_r_of (fields_in key_r_lines (w 1))))
+    (set_if (s 2) (convert_of (fields_in convert_lines (w 2))))
 
 abbrev pub modes_by : (ℕ → Bool) → (ℕ → ℕ) → Modes
 modes_by s w =
-    modes_of (record { set = s 5; modes = other_modes_in (w 5) })
-    (record { set = s 4; depth = primitive_depth_of (fields_in primitive_depth_lines (w 4)) })
-    (record { set = s 3; scissor = scissor_in (w 3) })
+    modes_of (set_if (s 5) (other_modes_in (w 5)))
+    (set_if (s 4) (primitive_depth_of (fields_in primitive_depth_lines (w 4))))
+    (set_if (s 3) (scissor_in (w 3)))
 
 abbrev pub images_by : (ℕ → Bool) → (ℕ → ℕ) → Images
 images_by s w =
-    images_of (record { set = s 14; image = color_image_in (w 14) })
-    (record { set = s 12; image = texture_image_in (w 12) })
-    (record { set = s 13; address = nat_at (fields_in depth_image_lines (w 13)) 0 })
+    images_of (set_if (s 14) (color_image_in (w 14)))
+    (set_if (s 12) (texture_image_in (w 12)))
+    (set_if (s 13) (nat_at (fields_in depth_image_lines (w 13)) 0))
 
 -- a tile by the words of its descriptor and of its size
 abbrev pub tile_with : Bool → ℕ → Bool → ℕ → Tile
 tile_with set d sized a =
     record {
-      set = set;
-      descriptor = tile_descriptor_in d;
-      sized = sized;
-      upper_left = (tile_area_in a).upper_left;
-      lower_right = (tile_area_in a).lower_right;
+      descriptor = set_if set (tile_descriptor_in d);
+      size = set_if sized (record { upper_left = (tile_area_in a).upper_left; lower_right = (tile_area_in a).lower_right });
     }
 
 abbrev pub tile_by : (ℕ → Bool) → (ℕ → ℕ) → ℕ → Tile

@@ -1,5 +1,5 @@
 -- How the replay finds a slot, and what its loop promises. No public contract cites this.
-use Rattle.std.specs.Prelude.{ℕ, ◌+◌, ◌*◌, ◌/◌, ◌%◌, ◌^◌, cond, ◌||◌, List, [], ◌∷◌, eqb, ltb}
+use Rattle.std.specs.Prelude.{ℕ, ◌+◌, ◌*◌, ◌/◌, ◌%◌, ◌^◌, cond, ◌||◌, Option, Some, None, List, [], ◌∷◌, eqb, ltb}
 use Rattle.rdp_words.specs.Words.{word_at}
 use Rattle.rdp_words.specs.Kinds.{words_of}
 use Rattle.rdp_words.specs.Lengths.{first_number}
@@ -22,6 +22,10 @@ slot_entry n = slot_row (n / 8) / 2 ^ (8 * (n % 8)) % 256
 
 abbrev pub slot_in : ℕ → ℕ → ℕ
 slot_in entry t = entry % 32 + entry / 32 * t
+
+-- the slot of a register, where it is one
+abbrev pub set_slot : ℕ → Option ℕ
+set_slot slot = cond (eqb slot 31) None (Some slot)
 
 -- the commands that set a register
 abbrev pub setters : List ℕ

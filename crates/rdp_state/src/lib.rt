@@ -72,11 +72,9 @@ pub fn tile_in(w: u64) -> usize
 pub fn store(file: &mut [u64; 32], number: u8, word: u64)
     ensures { file.new ≡ words_after file.old (number % 64) word }
 {
-    let slot = updates::slot_of(number % 64, word);
-    if slot == slots::NONE {
-        return;
+    if let Some(slot) = updates::slot_of(number % 64, word) {
+        file[slot] = word;
     }
-    file[slot] = word;
 }
 
 // The check's answer with the registers after the last command; at a refusal, those before the refused command; at 1 or 2, the starting ones.
