@@ -24,7 +24,7 @@ use Rattle.rdp_check.proofs.OrderLaws.{first_gives}
 use Rattle.rdp_check.proofs.FirstLaws.{outcome-gives}
 use Rattle.rdp_check.proofs.BoundLaws.{place-most}
 use Rattle.rdp_index.specs.Index.{entry_count, wholeness, index_answer, room_answer, build_answer, refused_at, last_before, read_from, ask_entry, ask_of, starts_at, replace_answer}
-use Rattle.rdp_index.specs.declared.Asked.{Asked}
+use Rattle.rdp_index.specs.Index.{Asked}
 use Rattle.rdp_index.proofs.BuiltLaws.{count-built}
 use Rattle.rdp_index.proofs.NoteLaws.{index-facts}
 

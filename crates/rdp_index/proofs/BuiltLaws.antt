@@ -23,7 +23,7 @@ use Rattle.rdp_hazards.proofs.HazardLaws.{next_small}
 use Rattle.rdp_check.proofs.ListLaws.{head, tail, commands-head, commands-cut}
 use Rattle.rdp_check.proofs.JoinLaws.{Alone, AllAlone, command-some, parsed, words_append}
 use Rattle.rdp_index.specs.Index.{entries_from, entries_of, entry_count, refused_at, asked_at, last_before, read_from, read_entry, ask_entry, ask_of}
-use Rattle.rdp_index.specs.declared.Asked.{Asked}
+use Rattle.rdp_index.specs.Index.{Asked}
 use Rattle.rdp_index.proofs.ReadLaws.{ask-whole}
 
 -- ---- the full walk

@@ -2,9 +2,9 @@ pub mod ReadLaws
 pub mod NoteLaws
 pub mod SizeLaws
 pub mod BuiltLaws
-pub mod CopyLaws
 pub mod BoundLaws
 pub mod StartLaws
 pub mod ReplaceLaws
 pub mod RenewLaws
 pub mod IndexLaws
+pub mod GroundLaws

@@ -1,6 +1,5 @@
 -- The entries of a list, as the loop of building notes them. Assumes nothing.
 use mathlib.Core.Path.{◌≡◌, refl, sym, ap, ◌∙◌}
-use mathlib.Core.Bool.{true}
 use mathlib.Core.List.{List, [], ◌∷◌, ◌++◌, append-nil}
 use Prim.Native.Nat.{ℕ, zero, suc, ◌+◌, ◌*◌, ◌-◌, ◌/◌, ◌%◌, ◌≤◌, ◌<◌}
 use native.Mathlib.Nat.{suc-ne-zero}
@@ -9,7 +8,7 @@ use borrow.Author.Tests.{le-ltb, lt-ltb, eq-eqb, ne_eqb, ltb-true, ltb-false, eq
 use lib.Dec.{eqb, ltb}
 use lib.ListN.{length, get_or, take, drop, set, length-set}
 use lib.Seq.{drop-cons, take-suc-set, append_snoc, length-take-le}
-use Rattle.rdp_words.specs.Words.{word_at, number_in, overwrite, pasted}
+use Rattle.rdp_words.specs.Words.{word_at, number_in, overwrite}
 use Rattle.rdp_words.specs.Kinds.{words_of}
 use Rattle.rdp_words.specs.Lengths.{first_number}
 use Rattle.rdp_words.specs.Grounds.{Answer}
@@ -21,7 +20,7 @@ use Rattle.rdp_check.specs.Commands.{commands_of, rest_of, words_in}
 use Rattle.rdp_check.specs.Check.{State, start, after_command, no_refusals, judge, outcome_within}
 use Rattle.rdp_hazards.proofs.HazardLaws.{next_small}
 use Rattle.rdp_check.proofs.ListLaws.{command_at, commands-at, rest_at, command-number, commands-past, rest-past}
-use Rattle.rdp_index.specs.Index.{entries_from, entries_of, entry_count, index_answer, room_answer, build_out, BuildIs}
+use Rattle.rdp_index.specs.Index.{entries_from, entries_of, entry_count, index_answer, room_answer, build_answer, build_out, BuildIs}
 use Rattle.rdp_index.specs.Steps.{IndexIs}
 use Rattle.rdp_index.proofs.ReadLaws.{none_left}
 
@@ -263,28 +262,28 @@ module _ {list : List ℕ} {words : ℕ} {made : List ℕ} {at m left entries : 
 
 -- ---- building
 
-module _ (list old : List ℕ) (r : Answer) (made : List ℕ) (i : IndexIs list r made) where
+-- what is refused before the room counts is refused
+pub room-refused : (room : ℕ) (a : Answer) → (a.number ≡ 0 → ⊥) → room_answer room a ≡ a
+unfolding room_answer
+room-refused room a h = rw (ne_eqb _ _ h)
+
+-- where the room is taken, all entries fit
+pub record Taken (room found count : ℕ) : Type 0 where
+  pub all : count ≡ found
+  pub fits : found ≤ room
+
+pub room-taken : (room found count : ℕ) → answer 0 count ≡ room_answer room (answer 0 found) → Taken room found count
+unfolding room_answer
+room-taken room found count e =
+    by-test (ltb room found)
+    (λ t. absurd (suc-ne-zero 13 (sym (ap (λ (a : Answer). a.number) (rw t at e)))))
+    (λ f. record { all = ap (λ (a : Answer). a.place) (rw f at e); fits = ltb-false _ _ f })
+
+module _ (list old : List ℕ) (r : Answer) (is : r ≡ build_answer list old) where
   pub build-refused : (r.number ≡ 0 → ⊥) → BuildIs list old r old
-  unfolding room_answer build_out
-  build-refused h =
-      let n = ne_eqb r.number 0 h in
-      record { answers = rw (← i.answers, n); writes = rw (← i.answers, n, n) }
+  unfolding build_out
+  build-refused h = record { answers = is; writes = rw (← is, ne_eqb r.number 0 h) }
 
-  module _ (z : r.number ≡ 0) where
-    abbrev e : eqb r.number 0 ≡ true
-    e = eq-eqb r.number 0 z
-
-    pub build-small : length old / 2 < r.place → BuildIs list old (answer 14 r.place) old
-    unfolding room_answer build_out
-    build-small h =
-        let s = lt-ltb _ _ h in
-        record { answers = rw (← i.answers, e, s); writes = rw (← i.answers, e, s) }
-
-    pub build-room : r.place ≤ length old / 2 → (new : List ℕ) → new ≡ pasted 0 (drop 0 (take (2 * r.place) made)) old → BuildIs list old r new
-    unfolding room_answer build_out pasted
-    build-room h new w =
-        let s = le-ltb _ _ h in
-        record {
-          answers = rw (← i.answers, e, s);
-          writes = rw (← i.answers, e, s, e) (w ∙ ap (λ (l : List ℕ). overwrite l old) (i.entries z));
-        }
+  pub build-done : r.number ≡ 0 → (new : List ℕ) → new ≡ overwrite (entries_of list) old → BuildIs list old r new
+  unfolding build_out
+  build-done z new w = record { answers = is; writes = rw (← is, eq-eqb r.number 0 z) w }

@@ -184,22 +184,19 @@ module _ (list es : List ℕ) (place : ℕ) where
       unfolding ask_of
       ask-whole = rw (le-ltb 32768 (length list) short, eq-eqb _ _ words)
 
-      module _ (i : ℕ) (is : i ≡ last_before place es (length es / 2)) where
-        pub ask-none : i ≡ 0 → refused_at 26 place ≡ ask_of list es place
+      pub ask-none : last_before place es (length es / 2) ≡ 0 → refused_at 26 place ≡ ask_of list es place
+      unfolding ask_entry
+      ask-none z = sym (ask-whole ∙ ap (ask_entry list es place) z)
+
+      module _ (i : ℕ) (is : last_before place es (length es / 2) ≡ suc i) where
+        at_entry : ask_of list es place ≡ ask_entry list es place (suc i)
+        at_entry = ask-whole ∙ ap (ask_entry list es place) is
+
+        pub ask-high : 16 ≤ get_or es (2 * i + 1) 0 → refused_at 26 place ≡ ask_of list es place
         unfolding ask_entry
-        ask-none z = sym (ask-whole ∙ ap (ask_entry list es place) (sym is ∙ z))
+        ask-high h = rw (at_entry, le-ltb _ _ h)
 
-        module _ (some : i ≡ 0 → ⊥) where
-          at_entry : ask_of list es place ≡ ask_entry list es place (suc (i - 1))
-          at_entry =
-              let e : i ≡ suc (i - 1) = omega arith in
-              ask-whole ∙ ap (ask_entry list es place) (sym is ∙ e)
-
-          pub ask-high : 16 ≤ get_or es (2 * (i - 1) + 1) 0 → refused_at 26 place ≡ ask_of list es place
-          unfolding ask_entry
-          ask-high h = rw (at_entry, le-ltb _ _ h)
-
-          pub ask-read :
-              get_or es (2 * (i - 1) + 1) 0 < 16 → read_entry list place (get_or es (2 * (i - 1)) 0) (get_or es (2 * (i - 1) + 1) 0) ≡ ask_of list es place
-          unfolding ask_entry
-          ask-read h = rw (at_entry, lt-ltb _ _ h)
+        pub ask-read :
+            get_or es (2 * i + 1) 0 < 16 → read_entry list place (get_or es (2 * i) 0) (get_or es (2 * i + 1) 0) ≡ ask_of list es place
+        unfolding ask_entry
+        ask-read h = rw (at_entry, lt-ltb _ _ h)

@@ -2,13 +2,15 @@
 use mathlib.Core.Path.{◌≡◌, refl, sym, ap, ◌∙◌, subst}
 use mathlib.Core.Bool.{Bool, true, false, not}
 use mathlib.Core.List.{List, [], ◌∷◌, ◌++◌, nil≢cons, head-eq_of_cons-eq}
-use Prim.Native.Nat.{ℕ, zero, suc, ◌+◌, ◌*◌, ◌-◌, ◌/◌, ◌%◌, ◌≤◌}
+use Prim.Native.Nat.{ℕ, ◌+◌, ◌*◌, ◌-◌, ◌/◌, ◌%◌, ◌≤◌}
 use native.Mathlib.Nat.{le_refl, suc-ne-zero}
 use native.Mathlib.Omega.{arith}
 use borrow.Author.Tests.{le-ltb, eq-eqb, ne_eqb, ltb-false, eqb-true, eqb-false, not-false}
 use lib.Dec.{eqb, ltb}
-use lib.ListN.{length, take, drop, length-append}
-use lib.Seq.{get_or-take, take_at, drop_at}
+use lib.ListN.{length, take, drop, length-append, length-drop}
+use borrow.Rule.Slice.PartMut.{put_mid}
+use Rattle.std.proofs.lemmas.Slice.{between_is}
+use lib.Seq.{take_at, drop_at, length-take-le}
 use Rattle.rdp_words.specs.Words.{word_at, number_in, overwrite, pasted}
 use Rattle.rdp_words.specs.Kinds.{words_of}
 use Rattle.rdp_words.specs.Lengths.{first_number, whole_words}
@@ -21,29 +23,32 @@ use Rattle.rdp_check.proofs.ListLaws.{head, commands-head, commands-cut}
 use Rattle.rdp_check.proofs.JoinLaws.{Alone, AllAlone, head-long, head-alone, parsed, joined-whole, joined-append, commands-joined, rest-joined, length-joined, alone-append, words_append}
 use Rattle.rdp_index.specs.Index.{asked_at, entries_of, entry_count, index_answer, room_answer, build_answer, last_before, ask_of, starts_at, replace_answer, with_command, renewed, ReplaceIs}
 use Rattle.rdp_index.specs.Steps.{IndexIs, Fitting, ReplacementIs}
-use Rattle.rdp_index.specs.declared.Asked.{Asked}
-use Rattle.rdp_index.proofs.NoteLaws.{index-whole, Whole, index-facts}
+use Rattle.rdp_index.specs.Index.{Asked}
+use Rattle.rdp_index.proofs.NoteLaws.{index-whole, Whole, index-facts, room-refused}
 use Rattle.rdp_index.proofs.BuiltLaws.{hazards_through, commands-after, entries-count, ask-built}
 use Rattle.rdp_index.proofs.StartLaws.{Split, starts-split, starts-here}
 
 -- ---- the later entries
 
-last-take : (place n : ℕ) (xs : List ℕ) (i : ℕ) → 2 * i ≤ n → last_before place (take n xs) i ≡ last_before place xs i
-unfolding last_before
-last-take place n xs zero h = refl
-last-take place n xs (suc i) h =
-    rw (get_or-take n xs (2 * i) 0 (omega arith), last-take place n xs i (omega arith))
+-- a part of the entries that holds what the same part of others held
+pub part-copied :
+    (out src part : List ℕ) (from to : ℕ) → from ≤ to → to ≤ length src → part ≡ take (to - from) (drop from src) →
+    put_mid from (to - from) out part ≡ pasted from (drop from (take to src)) out
+unfolding pasted overwrite
+part-copied out src part from to h there is =
+    let long : length part ≡ to - from = ap length is ∙ length-take-le (to - from) (drop from src) (omega (arith, length-drop from src)) in
+    ap (λ (n : ℕ). take from out ++ (part ++ drop n (drop from out))) (sym long) ∙
+    ap (λ (l : List ℕ). take from out ++ (l ++ drop (length l) (drop from out))) (is ∙ between_is src from to)
 
 pub renew-by :
-    (list made : List ℕ) (r : Answer) → IndexIs list r made → (index_answer list).number ≡ 0 → (place kept : ℕ) → kept ≡ last_before place made r.place →
-    (old new : List ℕ) → new ≡ pasted (2 * kept) (drop (2 * kept) (take (2 * r.place) made)) old → new ≡ renewed (entries_of list) place old
+    (list made : List ℕ) (r : Answer) → IndexIs list r made → (index_answer list).number ≡ 0 → (place kept : ℕ) →
+    let front = take (2 * r.place) made in
+    kept ≡ last_before place front (length front / 2) →
+    (old new : List ℕ) → new ≡ pasted (2 * kept) (drop (2 * kept) front) old → new ≡ renewed (entries_of list) place old
 unfolding renewed
 renew-by list made r i z place kept is old new e =
-    let number : r.number ≡ 0 = ap (λ (a : Answer). a.number) i.answers ∙ z in
-    let built : take (2 * r.place) made ≡ entries_of list = i.entries number in
-    let count : r.place ≡ length (entries_of list) / 2 = ap (λ (a : Answer). a.place) i.answers ∙ (index-facts list z).counted in
-    let same : kept ≡ last_before place (entries_of list) (length (entries_of list) / 2) =
-    is ∙ sym (last-take place (2 * r.place) made r.place (omega arith)) ∙ (λ j. last_before place (built j) (count j)) in
+    let built = i.entries (ap (λ (a : Answer). a.number) i.answers ∙ z) in
+    let same = is ∙ ap (λ (l : List ℕ). last_before place l (length l / 2)) built in
     e ∙ (λ j. pasted (2 * same j) (drop (2 * same j) (built j)) old)
 
 -- ---- the refusals in their order
@@ -57,10 +62,6 @@ room_small : (room : ℕ) (a : Answer) → eqb a.number 0 ≡ true → ltb room 
 unfolding room_answer
 room_small room a t l = rw (t, l)
 
-room-refused : (room : ℕ) (a : Answer) → eqb a.number 0 ≡ false → room_answer room a ≡ a
-unfolding room_answer
-room-refused room a f = rw f
-
 room-zero : (room : ℕ) (a : Answer) → (room_answer room a).number ≡ 0 → (a.number ≡ 0) × (a.place ≤ room)
 room-zero room a z =
     by-test (eqb a.number 0)
@@ -68,7 +69,7 @@ room-zero room a z =
     by-test (ltb room a.place)
     (λ l. absurd (suc-ne-zero 13 (sym (ap (λ (x : Answer). x.number) (room_small room a t l)) ∙ z)))
     (λ g. (eqb-true _ _ t, ltb-false _ _ g)))
-    (λ f. absurd (eqb-false _ _ f (sym (ap (λ (x : Answer). x.number) (room-refused room a f)) ∙ z)))
+    (λ f. absurd (eqb-false _ _ f (sym (ap (λ (x : Answer). x.number) (room-refused room a (eqb-false _ _ f))) ∙ z)))
 
 module _ (list es : List ℕ) (place : ℕ) (new : List ℕ) (b : Answer) (is_b : b ≡ build_answer list es) where
   pub refuse-built : (b.number ≡ 0 → ⊥) → ReplacementIs list es place new b

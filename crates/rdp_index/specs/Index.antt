@@ -1,16 +1,17 @@
 -- Document 02, #111: the hazards before one command of a list, from entries that are kept at every 64th command.
-use Rattle.std.specs.Prelude.{ℕ, zero, suc, ◌+◌, ◌*◌, ◌/◌, ◌%◌, Bool, false, cond, ◌&&◌, ◌||◌, not, List, [], ◌∷◌, ◌≡◌, eqb, leb, ltb, length, get_or, take, drop}
+use Rattle.std.specs.Prelude.{ℕ, zero, suc, ◌+◌, ◌*◌, ◌/◌, ◌%◌, Bool, false, cond, ◌&&◌, ◌||◌, not, List, [], ◌∷◌, Result, Ok, Err, ◌≡◌, eqb, leb, ltb, length, get_or, take, drop}
 use Rattle.rdp_words.specs.Words.{word_at, number_in, overwrite, pasted}
 use Rattle.rdp_words.specs.Kinds.{words_of}
 use Rattle.rdp_words.specs.Lengths.{first_number, whole_words}
-use Rattle.rdp_words.specs.Grounds.{Answer}
+use Rattle.rdp_words.specs.declared.grounds.Refusal.{Refusal}
+use Rattle.rdp_words.specs.Grounds.{number_of, Answer}
 use Rattle.rdp_command.specs.Decode.{answer}
 use Rattle.rdp_hazards.specs.Hazards.{next_of}
 use Rattle.rdp_check.specs.Order.{ground, first_of}
 use Rattle.rdp_check.specs.Commands.{commands_of, rest_of}
 use Rattle.rdp_check.specs.Check.{no_refusals, Judgement, outcome_within}
 use Rattle.rdp_check.specs.Refusals.{is_some}
-use Rattle.rdp_index.specs.declared.Asked.{Asked}
+use Rattle.rdp_index.specs.declared.Asked.{Asked as Found}
 
 -- "at every 64th command, from the first, its place and the marks before it .., two an entry": the entries of commands from a place and hazards on, where k
 -- commands come before the next entry
@@ -56,6 +57,13 @@ pub record BuildIs (list old : List ℕ) (r : Answer) (new : List ℕ) : Type 0 
 
 -- ---- asking
 
+-- what a question answers in the papers' numbers: 0 or a refusal, the place, and at 0 the hazards before the command there and the number of commands read
+pub record Asked : Type 0 where
+  pub number : ℕ
+  pub place : ℕ
+  pub hazards : ℕ
+  pub read : ℕ
+
 -- "Place is the asked one, also at 0"
 abbrev pub asked_at : ℕ → ℕ → ℕ → Asked
 asked_at place m read = record { number = 0; place = place; hazards = m; read = read }
@@ -63,6 +71,11 @@ asked_at place m read = record { number = 0; place = place; hazards = m; read = 
 -- "a refusal: marks and number 0"
 abbrev pub refused_at : ℕ → ℕ → Asked
 refused_at number place = record { number = number; place = place; hazards = 0; read = 0 }
+
+-- the question at a place, by what it answers
+abbrev pub replied : ℕ → Result Found Refusal → Asked
+replied place (Ok found) = asked_at place found.hazards found.read
+replied place (Err refusal) = refused_at (number_of refusal.ground) refusal.place
 
 -- "the last entry whose place is not beyond the asked one", of the first i entries: its number and 1, or 0 where there is none
 unfoldable pub last_before : ℕ → List ℕ → ℕ → ℕ

@@ -1,12 +1,13 @@
 // Replacing one command by another of equal length: the refusals, the bytes and the entries.
 ghost use Rattle.std.specs.Prelude.{◌≡◌, ◌+◌, ◌*◌, ◌/◌, ◌≤◌, length};
+ghost use Rattle.rdp_words.specs.Grounds.{answered};
 ghost use Rattle.rdp_words.specs.Lengths.{whole_words};
 ghost use Rattle.rdp_check.specs.Commands.{commands_of};
-ghost use Rattle.rdp_index.specs.Index.{entries_of, index_answer, starts_at, with_command, renewed};
+ghost use Rattle.rdp_index.specs.Index.{entries_of, index_answer, last_before, starts_at, with_command, renewed};
 ghost use Rattle.rdp_index.specs.Steps.{ReplacementIs};
 
 use crate::{asking, noting};
-use rdp_command::Answer;
+use rdp_words::{Answer, Ground, Refusal};
 
 // Whether a command of the list starts at a place.
 fn starts_at(list: &[u8], place: usize) -> bool
@@ -14,6 +15,7 @@ fn starts_at(list: &[u8], place: usize) -> bool
 {
     let words = list.len() / 8;
     let mut at: usize = 0;
+    // The step is the command's own length.
     while at <= place {
         let next = at + rdp_words::words_of(rdp_words::number_at(list, at));
         if words < next {
@@ -29,34 +31,32 @@ fn starts_at(list: &[u8], place: usize) -> bool
 
 // What replacing answers.
 pub fn replacement(list: &[u8], entries: &[u32], place: u32, new: &[u8]) -> Answer
-    ensures { ReplacementIs list.now entries.now place new.now result }
+    ensures { ReplacementIs list.now entries.now place new.now (answered result) }
 {
-    let built = noting::room_answer(list, entries.len() / 2);
-    let number = built.number;
-    if number != 0 {
-        return built;
-    }
-    let asked = crate::ask(list, entries, place);
-    let refusal = asked.number;
-    if refusal != 0 {
-        return Answer {
-            number: refusal,
-            place: asked.place,
-        };
-    }
+    noting::room_answer(list, entries.len() / 2)?;
+    crate::ask(list, entries, place)?;
     let at = place as usize;
     if !starts_at(list, at) {
-        return Answer { number: 24, place };
+        return Err(Refusal {
+            ground: Ground::NotAtPlace,
+            place,
+        });
     }
     let words = rdp_words::whole_words(new);
     if words == 0 {
-        return Answer { number: 3, place };
+        return Err(Refusal {
+            ground: Ground::Cut,
+            place,
+        });
     }
     let old = rdp_words::words_of(rdp_words::number_at(list, at));
     if words != old {
-        return Answer { number: 25, place };
+        return Err(Refusal {
+            ground: Ground::OtherLength,
+            place,
+        });
     }
-    Answer { number: 0, place }
+    Ok(place)
 }
 
 // Writes the bytes of the first command of new at a place.
@@ -70,14 +70,24 @@ pub fn put_command(list: &mut [u8], place: u32, new: &[u8])
     rdp_words::copy(&mut list[at..end], &new[0..count]);
 }
 
+// How many entries stand up to the command at a place, its own included.
+fn kept(entries: &[u32], place: u32) -> usize
+    ensures { (result ≡ last_before place entries.now (length entries.now / 2)) × (result ≤ length entries.now / 2) }
+{
+    match asking::last_before(entries, place) {
+        Some(i) => i + 1,
+        None => 0,
+    }
+}
+
 // Writes the entries after the command at a place as they are built from the list.
 pub fn renew(list: &[u8], entries: &mut [u32], place: u32)
     requires { ((index_answer list.now).number ≡ 0) × ((index_answer list.now).place ≤ length entries.old / 2) }
     ensures { entries.new ≡ renewed (entries_of list.now) place entries.old }
 {
     let mut made = [0u32; 128];
-    let found = noting::index_into(list, &mut made);
-    let count = found.place as usize;
-    let kept = asking::last_before(&made, count, place);
-    noting::copy_part(entries, 2 * kept, &made, 2 * count);
+    let count = noting::index_into(list, &mut made).unwrap();
+    let end = 2 * count as usize;
+    let start = 2 * kept(&made[..end], place);
+    entries[start..end].copy_from_slice(&made[start..end]);
 }

@@ -1,39 +1,38 @@
 -- `rdp_index::ask` meets its contract: the refusals in their order, then the reading from the entry. Assumes nothing.
-use mathlib.Core.Path.{◌∙◌}
+use Rattle.std.proofs.Common.{refl, ◌∙◌}
+use Rattle.std.proofs.lemmas.Result.{err_from_is_err_and}
 use Rattle.rdp_index.proofs.ReadLaws.{ask-none, ask-high, ask-read}
 use Rattle.rdp_index.proofs.SizeLaws.{size_none, size-ask}
+use Rattle.rdp_index.proofs.GroundLaws.{number-some}
 use borrow.Author.Rules.{rules}
 use Rattle.rdp_index.proofs.ask.Goals as goal
 
-pub returns-then-number-ne0 : goal.returns-then-number-ne0
-returns-then-number-ne0 c =
+pub returns-in_err-size_answer : goal.returns-in_err-size_answer
+returns-in_err-size_answer c =
     let a = c.args in
-    c.refused.ensures ∙ size-ask a.list.now _ c.size_answer-size.ensures c.if-number-ne0.true a.entries.now a.place
+    let p = err_from_is_err_and c.from_residual.result c.from_residual.ensures.1 in
+    rw (p.1, p.2) (size-ask a.list.now _ c.in_err-size_answer.ensures (number-some _) a.entries.now a.place)
 
-pub returns-then-i-eq0 : goal.returns-then-i-eq0
-returns-then-i-eq0 c =
+pub returns-in_default : goal.returns-in_default
+returns-in_default c =
     let a = c.args in
-    let s = size_none a.list.now _ c.size_answer-size.ensures c.if-number-ne0.false in
-    c.refused-then-i-eq0.ensures ∙
-    ask-none a.list.now a.entries.now a.place s.short s.words _ c.last_before-i.ensures.0 c.if-i-eq0.true
+    let s = size_none a.list.now _ c.in_ok-size_answer.ensures refl in
+    ask-none a.list.now a.entries.now a.place s.short s.words c.in_default.ensures
 
 pub returns-then-hazards-ge16 : goal.returns-then-hazards-ge16
 returns-then-hazards-ge16 c =
     let a = c.args in
-    let s = size_none a.list.now _ c.size_answer-size.ensures c.if-number-ne0.false in
-    c.refused-then-hazards-ge16.ensures ∙
-    ask-high a.list.now a.entries.now a.place s.short s.words _ c.last_before-i.ensures.0
-    c.if-i-eq0.false c.if-hazards-ge16.true
+    let s = size_none a.list.now _ c.in_ok-size_answer.ensures refl in
+    ask-high a.list.now a.entries.now a.place s.short s.words _ c.in-Some.ensures.0 c.if-hazards-ge16.true
 
 pub read_on-requires : goal.read_on-requires
 read_on-requires c =
-    let s = size_none c.args.list.now c.size_answer-size.result c.size_answer-size.ensures c.if-number-ne0.false in
+    let s = size_none c.args.list.now _ c.in_ok-size_answer.ensures refl in
     search (rules, s.short, s.words)
 
 pub returns : goal.returns
 returns c =
     let a = c.args in
-    let s = size_none a.list.now _ c.size_answer-size.ensures c.if-number-ne0.false in
+    let s = size_none a.list.now _ c.in_ok-size_answer.ensures refl in
     c.read_on.ensures ∙
-    ask-read a.list.now a.entries.now a.place s.short s.words _ c.last_before-i.ensures.0
-    c.if-i-eq0.false c.if-hazards-ge16.false
+    ask-read a.list.now a.entries.now a.place s.short s.words _ c.in-Some.ensures.0 c.if-hazards-ge16.false

@@ -1,24 +1,26 @@
 -- `rdp_index::replace` meets its contract, by those of what it calls: the new list has as many entries as the old one. Assumes nothing.
-use mathlib.Core.Path.{ap, ◌∙◌}
-use native.Mathlib.Omega.{arith}
+use Rattle.std.proofs.Common.{refl, ap, ◌∙◌, arith}
+use Rattle.std.proofs.lemmas.Result.{err_from_is_err_and}
 use Rattle.rdp_index.specs.Index.{index_answer}
 use Rattle.rdp_index.proofs.ReplaceLaws.{replaced, new-whole, replace-refused, replace-done}
+use Rattle.rdp_index.proofs.GroundLaws.{number-some}
 use Rattle.rdp_index.proofs.replace.Goals as goal
 
-pub returns-then-number-ne0 : goal.returns-then-number-ne0
-returns-then-number-ne0 c =
+pub returns-in_err-taken : goal.returns-in_err-taken
+returns-in_err-taken c =
     let a = c.before.before.args in
-    replace-refused a.list.now a.entries.now a.place a.new.now _ c.replacement-answer.ensures c.if-number-ne0.true
+    let p = err_from_is_err_and c.from_residual.result c.from_residual.ensures.1 in
+    rw (p.1, p.2) (replace-refused a.list.now a.entries.now a.place a.new.now _ c.in_err-taken.ensures (number-some _))
 
 pub put_command-requires : goal.put_command-requires
 put_command-requires c =
     let a = c.before.before.args in
-    (replaced a.list.now a.entries.now a.place a.new.now (c.replacement-answer.ensures.fits c.if-number-ne0.false)).inside
+    (replaced a.list.now a.entries.now a.place a.new.now (c.in_ok-taken.ensures.fits refl)).inside
 
 pub renew-requires : goal.renew-requires
 renew-requires c =
     let a = c.before.before.before.args in
-    let f = c.replacement-answer.ensures.fits c.if-number-ne0.false in
+    let f = c.in_ok-taken.ensures.fits refl in
     let n = new-whole a.list.now a.entries.now a.place a.new.now f in (
       ap (λ l. (index_answer l).number) c.put_command.ensures ∙ n.0,
       omega (arith, ap (λ l. (index_answer l).place) c.put_command.ensures, n.1, f.room),
@@ -27,5 +29,4 @@ renew-requires c =
 pub returns : goal.returns
 returns c =
     let a = c.before.before.before.args in
-    replace-done a.list.now a.entries.now a.place a.new.now _ c.replacement-answer.ensures c.if-number-ne0.false _ _
-    c.put_command.ensures c.renew.ensures
+    replace-done a.list.now a.entries.now a.place a.new.now _ c.in_ok-taken.ensures refl _ _ c.put_command.ensures c.renew.ensures

@@ -12,7 +12,7 @@ loop-read-init c =
     first _ _ _ _ p.1.0 p.1.1.0 p.1.1.1
 
 pub returns-then-asked-at : goal.returns-then-asked-at
-returns-then-asked-at c = c.refused.ensures ∙ outside c.loop-read.invariant c.if-asked-at.true
+returns-then-asked-at c = outside c.loop-read.invariant c.if-asked-at.true
 
 pub overflow_sub-words : goal.overflow_sub-words
 overflow_sub-words c =
@@ -20,7 +20,6 @@ overflow_sub-words c =
 
 pub returns-then-words-at : goal.returns-then-words-at
 returns-then-words-at c =
-    c.refused-then-words-at.ensures ∙
     cut c.loop-read.invariant c.loop-read-test.true c.if-asked-at.false _ c.number_at-number.ensures _
     c.words_of-count.ensures c.if-words-at.true
 
@@ -41,4 +40,4 @@ loop-read-preserved c =
     c.words_of-count.ensures c.if-words-at.false c.if-at-asked.false _ next
 
 pub returns : goal.returns
-returns c = c.refused-2.ensures ∙ ended c.loop-read.invariant c.loop-read-test.false
+returns c = ended c.loop-read.invariant c.loop-read-test.false

@@ -1,16 +1,15 @@
 -- `rdp_index::noting::room_answer` meets its contract, by the index and the room. Assumes nothing.
-use borrow.Author.Tests.{lt-ltb, le-ltb, eq-eqb, ne_eqb}
+use Rattle.std.proofs.Common.{sym, ap, ◌∙◌}
+use Rattle.std.proofs.lemmas.Result.{err_from_is_err_and}
 use Rattle.rdp_index.specs.Index.{room_answer}
+use Rattle.rdp_index.proofs.NoteLaws.{room-refused}
+use Rattle.rdp_index.proofs.GroundLaws.{number-some}
 use Rattle.rdp_index.proofs.noting.room_answer.Goals as goal
 
-pub returns-then-number-ne0 : goal.returns-then-number-ne0
-unfolding room_answer
-returns-then-number-ne0 c = rw (← c.index_into-found.ensures.answers, ne_eqb _ _ c.if-number-ne0.true)
-
-pub returns-then-room-place : goal.returns-then-room-place
-unfolding room_answer
-returns-then-room-place c = rw (← c.index_into-found.ensures.answers, eq-eqb _ _ c.if-number-ne0.false, lt-ltb _ _ c.if-room-place.true)
+pub returns-in_err-found : goal.returns-in_err-found
+returns-in_err-found c =
+    let p = err_from_is_err_and c.from_residual.result c.from_residual.ensures.1 in
+    rw (p.1, p.2) (sym (room-refused _ _ (number-some _)) ∙ ap (room_answer c.args.room) c.in_err-found.ensures.answers)
 
 pub returns : goal.returns
-unfolding room_answer
-returns c = rw (← c.index_into-found.ensures.answers, eq-eqb _ _ c.if-number-ne0.false, le-ltb _ _ c.if-room-place.false)
+returns c = c.fitting.ensures ∙ ap (room_answer c.args.room) c.in_ok-found.ensures.answers
