@@ -1,10 +1,9 @@
 // A question: the entry that it starts at, and the commands that it reads.
 ghost use Rattle.std.specs.Prelude.{◌≡◌, suc, ◌/◌, ◌%◌, ◌≤◌, ◌<◌, length, MatchOption};
-ghost use Rattle.rdp_hazards.specs.Hazards.{Agrees};
 ghost use Rattle.rdp_index.specs.Index.{replied, last_before, read_entry};
 
 use crate::Asked;
-use rdp_hazards::hazards;
+use rdp_hazards::{StepTable, hazards};
 use rdp_words::{Ground, Refusal};
 
 // Of the entries the last one whose place is not beyond the asked one.
@@ -22,13 +21,13 @@ pub fn last_before(entries: &[u32], place: u32) -> Option<usize>
 
 // Reads commands from a place and hazards on: at most 64, and none that starts past the asked place or outside the list.
 pub fn read_on(
-    table: &[u8; 1024],
+    table: &StepTable,
     list: &[u8],
     start: u32,
     before: u8,
     place: u32,
 ) -> Result<Asked, Refusal>
-    requires { Agrees table.now × ((length list.now % 8 ≡ 0) × ((length list.now ≤ 32768) × (before < 16))) }
+    requires { (length list.now % 8 ≡ 0) × (length list.now ≤ 32768) × (before < 16) }
     ensures { replied place result ≡ read_entry list.now place start before }
 {
     let none = Refusal {
@@ -57,7 +56,7 @@ pub fn read_on(
                 read: read + 1,
             });
         }
-        hazards = hazards::next(table, hazards, number);
+        hazards = hazards::next(&table.entries, hazards, number);
         at += count;
     }
     Err(none)

@@ -2,16 +2,15 @@
 ghost use Rattle.std.specs.Prelude.{◌≡◌, ◌%◌, ◌≤◌, length};
 ghost use Rattle.rdp_words.specs.Grounds.{answered};
 ghost use Rattle.rdp_command.specs.Decode.{answer};
-ghost use Rattle.rdp_hazards.specs.Hazards.{Agrees};
 ghost use Rattle.rdp_index.specs.Index.{index_answer, room_answer};
 ghost use Rattle.rdp_index.specs.Steps.{size_answer, IndexIs};
 
-use rdp_hazards::{hazards, table};
+use rdp_hazards::{StepTable, hazards, table};
 use rdp_words::{Answer, Ground, Refusal};
 
 // The commands of a list of whole words, in order: where `left` is 0 an entry is noted.
-fn note(table: &[u8; 1024], list: &[u8], made: &mut [u32]) -> Answer
-    requires { Agrees table.now × ((length list.now % 8 ≡ 0) × ((length list.now ≤ 32768) × (length made.old ≡ 128))) }
+fn note(table: &StepTable, list: &[u8], made: &mut [u32]) -> Answer
+    requires { (length list.now % 8 ≡ 0) × (length list.now ≤ 32768) × (length made.old ≡ 128) }
     ensures { IndexIs list.now (answered result) made.new }
 {
     let words = list.len() / 8;
@@ -32,13 +31,13 @@ fn note(table: &[u8; 1024], list: &[u8], made: &mut [u32]) -> Answer
         if left == 0 {
             made[2 * entries] = at as u32;
             made[2 * entries + 1] = hazards as u32;
-            hazards = hazards::next(table, hazards, number);
+            hazards = hazards::next(&table.entries, hazards, number);
             at += count;
             left = 63;
             entries += 1;
             continue;
         }
-        hazards = hazards::next(table, hazards, number);
+        hazards = hazards::next(&table.entries, hazards, number);
         at += count;
         left -= 1;
     }

@@ -9,7 +9,7 @@ use Rattle.rdp_index.proofs.asking.read_on.Goals as goal
 pub loop-read-init : goal.loop-read-init
 loop-read-init c =
     let p = c.requires in
-    first _ _ _ _ p.1.0 p.1.1.0 p.1.1.1
+    first _ _ _ _ p.0 p.1 p.2
 
 pub returns-then-asked-at : goal.returns-then-asked-at
 returns-then-asked-at c = outside c.loop-read.invariant c.if-asked-at.true
@@ -35,7 +35,7 @@ overflow_add-at c =
 
 pub loop-read-preserved : goal.loop-read-preserved
 loop-read-preserved c =
-    let next = c.next-hazards.ensures ∙ next-read _ c.requires.0 _ _ c.loop-read.invariant.low (rw c.number_at-number.ensures (number_small _)) in
+    let next = c.next-hazards.ensures ∙ next-read _ c.args.table.now.agrees _ _ c.loop-read.invariant.low (rw c.number_at-number.ensures (number_small _)) in
     again c.loop-read.invariant c.loop-read-test.true c.if-asked-at.false _ c.number_at-number.ensures _
     c.words_of-count.ensures c.if-words-at.false c.if-at-asked.false _ next
 

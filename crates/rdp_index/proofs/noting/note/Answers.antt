@@ -9,7 +9,7 @@ use Rattle.rdp_index.proofs.NoteLaws.{first, few-entries, ended, cut, falls, aga
 use Rattle.rdp_index.proofs.noting.note.Goals as goal
 
 pub loop-at-init : goal.loop-at-init
-loop-at-init c = let p = c.requires in first _ _ p.1.0 p.1.1.0 p.1.1.1
+loop-at-init c = let p = c.requires in first _ _ p.0 p.1 p.2
 
 pub returns-then-words-at : goal.returns-then-words-at
 returns-then-words-at c =
@@ -61,7 +61,7 @@ loop-at-smaller-then-left-eq0 c =
 
 pub loop-at-preserved-then-left-eq0 : goal.loop-at-preserved-then-left-eq0
 loop-at-preserved-then-left-eq0 c =
-    let next = c.next-hazards.ensures ∙ next-read _ c.requires.0 _ _ c.loop-at.invariant.low (rw c.number_at-number.ensures (number_small _)) in
+    let next = c.next-hazards.ensures ∙ next-read _ c.args.table.now.agrees _ _ c.loop-at.invariant.low (rw c.number_at-number.ensures (number_small _)) in
     again-noted c.loop-at.invariant c.loop-at-test.true _ c.number_at-number.ensures _ c.words_of-count.ensures
     c.if-words-at.false _ next c.if-left-eq0.true
 
@@ -71,7 +71,7 @@ loop-at-smaller c =
 
 pub loop-at-preserved : goal.loop-at-preserved
 loop-at-preserved c =
-    let next = c.next-hazards-in-loop-at.ensures ∙ next-read _ c.requires.0 _ _ c.loop-at.invariant.low (rw c.number_at-number.ensures (number_small _)) in
+    let next = c.next-hazards-in-loop-at.ensures ∙ next-read _ c.args.table.now.agrees _ _ c.loop-at.invariant.low (rw c.number_at-number.ensures (number_small _)) in
     again c.loop-at.invariant c.loop-at-test.true _ c.number_at-number.ensures _ c.words_of-count.ensures
     c.if-words-at.false _ next c.if-left-eq0.false
 
