@@ -1,5 +1,5 @@
 -- Documents 01 and 02: the numbers of the grounds, and an answer as the papers give it: 0 and a count, or the number of a ground and its place.
-use Rattle.std.specs.Prelude.{ℕ, Option, Some, None, Result, Ok, Err}
+use Rattle.std.specs.Prelude.{ℕ, ◌≢◌, Option, Some, None, Result, Ok, Err}
 use Rattle.rdp_words.specs.declared.grounds.Ground.{Ground}
 use Rattle.rdp_words.specs.declared.grounds.Ground.TheVariants.{TooLong, NotWords, Cut, AfterSyncFull, Unset, FillOnFourBits, LoadMissing, TileMissing, PipeMissing, NotDrawn, Unaligned, OutsideMemory, WorkTooShort, OutputTooShort, NotEncodable, NoTextureMemory, NotRgba16, OutsideTexture, Unassigned, NoCommand, TooManyCommands, Unknown, Invalid, NotAtPlace, OtherLength, NoEntry, Unviewable, Damaged}
 use Rattle.rdp_words.specs.declared.grounds.Refusal.{Refusal}
@@ -34,6 +34,10 @@ number_of OtherLength = 25
 number_of NoEntry = 26
 number_of Unviewable = 27
 number_of Damaged = 28
+
+-- a number that no ground has
+abbrev pub IsNoGround : ℕ → Type 0
+IsNoGround number = (ground : Ground) → number_of ground ≢ number
 
 -- a number and a place: 0 where nothing is refused
 pub record Answer : Type 0 where

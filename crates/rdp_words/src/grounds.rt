@@ -1,6 +1,6 @@
 // The numbered grounds of documents 01 and 02, and what a refusal says: its ground and its place.
-ghost use Rattle.std.specs.Prelude.{◌≡◌};
-ghost use Rattle.rdp_words.specs.Grounds.{number_of};
+ghost use Rattle.std.specs.Prelude.{◌≡◌, MatchResult};
+ghost use Rattle.rdp_words.specs.Grounds.{number_of, IsNoGround};
 
 // The grounds, in the order of their numbers: 1 is the first.
 #[derive(Clone, Copy, Debug, PartialEq, Eq)]
@@ -79,6 +79,50 @@ impl From<Ground> for u32 {
             Ground::Unviewable => 27,
             Ground::Damaged => 28,
         }
+    }
+}
+
+// Of a number that no ground has.
+#[derive(Clone, Copy, Debug, PartialEq, Eq)]
+pub struct NoGround;
+
+impl TryFrom<u32> for Ground {
+    type Error = NoGround;
+
+    ghost try_from_gives = { λ number result. MatchResult result (λ ground. number_of ground ≡ number) (λ _. IsNoGround number) };
+
+    fn try_from(number: u32) -> Result<Ground, NoGround> {
+        Ok(match number {
+            1 => Ground::TooLong,
+            2 => Ground::NotWords,
+            3 => Ground::Cut,
+            4 => Ground::AfterSyncFull,
+            5 => Ground::Unset,
+            6 => Ground::FillOnFourBits,
+            7 => Ground::LoadMissing,
+            8 => Ground::TileMissing,
+            9 => Ground::PipeMissing,
+            10 => Ground::NotDrawn,
+            11 => Ground::Unaligned,
+            12 => Ground::OutsideMemory,
+            13 => Ground::WorkTooShort,
+            14 => Ground::OutputTooShort,
+            15 => Ground::NotEncodable,
+            16 => Ground::NoTextureMemory,
+            17 => Ground::NotRgba16,
+            18 => Ground::OutsideTexture,
+            19 => Ground::Unassigned,
+            20 => Ground::NoCommand,
+            21 => Ground::TooManyCommands,
+            22 => Ground::Unknown,
+            23 => Ground::Invalid,
+            24 => Ground::NotAtPlace,
+            25 => Ground::OtherLength,
+            26 => Ground::NoEntry,
+            27 => Ground::Unviewable,
+            28 => Ground::Damaged,
+            _ => return Err(NoGround),
+        })
     }
 }
 

@@ -8,7 +8,7 @@ ghost use Rattle.rdp_words.specs.Lengths.{command_words, whole_words, suffix_of,
 
 pub mod grounds;
 
-pub use grounds::{Answer, Ground, Refusal};
+pub use grounds::{Answer, Ground, NoGround, Refusal};
 
 // The four bytes from an index on as a number.
 fn half_at(list: &[u8], at: usize) -> u64
