@@ -14,11 +14,10 @@ use Rattle.rdp_check.specs.Order.{ground, first_of}
 use Rattle.rdp_check.specs.Commands.{commands_of, rest_of}
 use Rattle.rdp_check.specs.Check.{State, after_command, own_refusals, sync_refusals, check_refusals, refusal_at, Judgement, at_end, settle, judge}
 use Rattle.rdp_check.specs.Checkpoint.{registers_at, state_at, judged_of, check_from, StandsAt}
-use Rattle.rdp_check.specs.View.{code, view, view_of, stop_at, stop_of, low_of, judge_view, judged_view}
+use Rattle.rdp_check.specs.View.{Stop, code, view, view_of, stop_at, stop_of, low_of, judge_view, judged_view}
 use Rattle.rdp_check.specs.declared.Checkpoint.{Checkpoint}
-use Rattle.rdp_check.specs.declared.Judged.{Judged}
+use Rattle.rdp_check.specs.Checkpoint.{Judged}
 use Rattle.rdp_check.specs.declared.walk.View.{View}
-use Rattle.rdp_check.specs.declared.walk.Stop.{Stop}
 use Rattle.rdp_hazards.proofs.HazardLaws.{next_low, required-low}
 use Rattle.rdp_check.proofs.JoinLaws.{AllAlone, parsed, command-some, commands-words}
 use Rattle.rdp_check.proofs.AppendLaws.{ending, judge-ending, judge-from}

@@ -10,11 +10,10 @@ use Rattle.rdp_words.proofs.PlaceLaws.{words-there}
 use Rattle.rdp_check.specs.Commands.{commands_of, rest_of}
 use Rattle.rdp_check.specs.Check.{State, start, after_command, refusal_at, Judgement, settle, judge, judge_list, checked}
 use Rattle.rdp_check.specs.Cause.{cause_of}
-use Rattle.rdp_check.specs.View.{refusals_by, view_of, stop_of, settle_view, judge_view, judged_view}
-use Rattle.rdp_check.specs.declared.Checked.{Checked}
+use Rattle.rdp_check.specs.View.{Stop, refusals_by, view_of, stop_of, settle_view, judge_view, judged_view}
+use Rattle.rdp_check.specs.Check.{Checked}
 use Rattle.rdp_check.specs.declared.walk.Rest.{Rest}
 use Rattle.rdp_check.specs.declared.walk.View.{View}
-use Rattle.rdp_check.specs.declared.walk.Stop.{Stop}
 use Rattle.rdp_check.proofs.JoinLaws.{Alone, AllAlone, command-some, parsed}
 use Rattle.rdp_check.proofs.ViewLaws.{refusal-seen, view-after}
 

@@ -19,6 +19,9 @@ use Rattle.rdp_check.specs.Registers.{registers_after, after_decoded}
 use Rattle.rdp_hazards.specs.Marks.{draws}
 use Rattle.rdp_check.specs.Check.{State, after_command, ready, four_bit_fill, own_refusals, sync_refusals, refusal_at}
 use Rattle.rdp_check.specs.Order.{ground, first_of}
+use Rattle.std.specs.Prelude.{Option}
+use Rattle.rdp_words.specs.Grounds.{number_if}
+use Rattle.rdp_words.specs.declared.grounds.Ground.{Ground}
 use Rattle.rdp_check.specs.View.{code, code_refusal, view, view_of, rest_after, view_after, or_else, missing, refusal_with, refusals_by, rest_refusal, own_refusal, view_refusal, sets_rest, is_watched, Watches, AdvancedIs}
 use Rattle.rdp_check.specs.declared.Registers.{Registers}
 use Rattle.rdp_command.specs.declared.Head.{Head}
@@ -124,7 +127,7 @@ module _ (strict : Bool) (v : View) (h : Head) (small : h.number < 64) (e : ℕ)
   required-fits = rw required-is (fits strict)
 
   pub advanced :
-      (d r n : ℕ) → d ≡ own_refusal v.rest h.number → r ≡ refusal_with v.rest.ended d q → n ≡ words_of h.number →
+      (d : ℕ) (r : Option Ground) (n : ℕ) → d ≡ own_refusal v.rest h.number → number_if r ≡ refusal_with v.rest.ended d q → n ≡ words_of h.number →
       (after : Rest) → after ≡ rest_after v.rest h → AdvancedIs strict v h (record { refusal = r; words = n; view = record { hazards = e % 16; rest = after } })
   advanced d r n is-d is-r is-n after is-after =
       record { refusal = is-r ∙ rw (is-d, required-is); words = is-n; after = λ i. record { hazards = parts.next i; rest = is-after i } }

@@ -14,10 +14,9 @@ use Rattle.rdp_words.specs.Kinds.{is_among, words_of}
 use Rattle.rdp_command.specs.Reads.{head_of}
 use Rattle.rdp_hazards.specs.Hazards.{next_of, entry_of}
 use Rattle.rdp_check.specs.Commands.{commands_from, rest_from}
-use Rattle.rdp_check.specs.View.{view_after, refusal_with, view_refusal, Watches, stop_at, settle_view, judge_view, judged_view}
+use Rattle.rdp_check.specs.View.{Stop, view_after, refusal_with, view_refusal, Watches, stop_at, settle_view, judge_view, judged_view}
 use Rattle.rdp_command.specs.declared.Head.{Head}
 use Rattle.rdp_check.specs.declared.walk.View.{View}
-use Rattle.rdp_check.specs.declared.walk.Stop.{Stop}
 use Rattle.rdp_hazards.proofs.HazardLaws.{next_small, EntryParts, entry-parts}
 use Rattle.rdp_words.proofs.KindLaws.{words-one}
 use Rattle.rdp_words.proofs.PlaceLaws.{number_small, some_words}

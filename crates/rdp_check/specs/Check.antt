@@ -1,5 +1,5 @@
 -- Document 01, "Grounds": the refusals of a list, command by command, in their order.
-use Rattle.std.specs.Prelude.{ℕ, zero, suc, ◌+◌, ◌*◌, ◌/◌, ◌%◌, Bool, false, cond, ◌&&◌, ◌||◌, not, List, [], ◌∷◌, ◌++◌, ltb, eqb, length}
+use Rattle.std.specs.Prelude.{ℕ, zero, suc, ◌+◌, ◌*◌, ◌/◌, ◌%◌, Bool, false, cond, ◌&&◌, ◌||◌, not, List, [], ◌∷◌, ◌++◌, ltb, eqb, length, Result, Ok, Err}
 use Rattle.rdp_words.specs.Kinds.{words_of, is_unassigned}
 use Rattle.rdp_words.specs.Lengths.{first_number}
 use Rattle.rdp_command.specs.Decode.{decode_of}
@@ -10,7 +10,10 @@ use Rattle.rdp_hazards.specs.Marks.{draws}
 use Rattle.rdp_check.specs.Cause.{cause_of}
 use Rattle.rdp_check.specs.Registers.{no_registers, after_decoded}
 use Rattle.rdp_check.specs.declared.Registers.{Registers}
-use Rattle.rdp_check.specs.declared.Checked.{Checked}
+use Rattle.rdp_words.specs.Grounds.{number_of}
+use Rattle.rdp_words.specs.declared.grounds.Refusal.{Refusal}
+use Rattle.rdp_check.specs.declared.Accepted.{Accepted}
+use Rattle.rdp_check.specs.declared.Refused.{Refused}
 
 -- the state after some commands: the hazards as a number, whether a Sync Full has come, and the registers
 pub record State : Type 0 where
@@ -110,6 +113,22 @@ outcome_within words refusals list =
 -- the check: at most 32,768 bytes
 abbrev pub outcome_of : List ℕ → Judgement
 outcome_of list = outcome_within 4096 check_refusals list
+
+-- the number of the first refusal, 0 where the list is accepted; its place in words; the hazards there; and its cause
+pub record Checked : Type 0 where
+  pub number : ℕ
+  pub place : ℕ
+  pub hazards : ℕ
+  pub cause : ℕ
+
+-- what the check of a list answers, in the papers' numbers; where the list is accepted the cause is the list's whole words
+abbrev pub checked_in : List ℕ → Result Accepted Refused → Checked
+checked_in list (Ok a) = record { number = 0; place = a.words; hazards = a.hazards; cause = length list / 8 }
+checked_in list (Err r) = record { number = number_of r.ground; place = r.place; hazards = r.hazards; cause = r.cause }
+
+-- a refusal alone
+abbrev pub refusal_in : Refused → Refusal
+refusal_in r = record { ground = r.ground; place = r.place }
 
 abbrev pub checked : List ℕ → Judgement → Checked
 checked list o = record { number = o.number; place = o.place; hazards = o.state.hazards; cause = cause_of list o.number o.place }

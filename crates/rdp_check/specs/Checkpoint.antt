@@ -1,5 +1,5 @@
 -- Document 02, #103: the commands that a portion makes complete, judged from where the list stands.
-use Rattle.std.specs.Prelude.{ℕ, cond, not, List, [], ◌≡◌, ltb, eqb, length}
+use Rattle.std.specs.Prelude.{ℕ, Bool, cond, not, List, [], ◌≡◌, ltb, eqb, length}
 use Rattle.rdp_command.specs.Reads.{other_modes_in, scissor_in, color_image_in}
 use Rattle.rdp_command.specs.declared.OtherModes.{OtherModes}
 use Rattle.rdp_command.specs.declared.Scissor.{Scissor}
@@ -10,7 +10,8 @@ use Rattle.rdp_check.specs.Check.{State, check_refusals, Judgement, outcome, jud
 use Rattle.rdp_check.specs.declared.Register.{Register}
 use Rattle.rdp_check.specs.declared.Registers.{Registers}
 use Rattle.rdp_check.specs.declared.Checkpoint.{Checkpoint}
-use Rattle.rdp_check.specs.declared.Judged.{Judged}
+use Rattle.rdp_words.specs.Grounds.{answered}
+use Rattle.rdp_check.specs.declared.Judged as told
 
 -- a register by the word that last set it, 0 where none has come: such a word has the number of its command in it, so it is not 0
 abbrev pub other_modes_by : ℕ → Register OtherModes
@@ -33,6 +34,17 @@ registers_at b =
 -- the state there
 abbrev pub state_at : Checkpoint → State
 state_at b = record { hazards = b.hazards; ended = b.ended; registers = registers_at b }
+
+-- the number of the first refusal of some commands, 0 where none is refused; its place, or that after the last; and the hazards and whether a Sync Full has come there
+pub record Judged : Type 0 where
+  pub number : ℕ
+  pub place : ℕ
+  pub hazards : ℕ
+  pub ended : Bool
+
+-- what is told of them, in the papers' numbers
+abbrev pub judged_in : told.Judged → Judged
+judged_in j = record { number = (answered j.outcome).number; place = (answered j.outcome).place; hazards = j.hazards; ended = j.ended }
 
 -- number and place of an outcome, with what it has of its state
 abbrev pub judged_of : Judgement → Judged

@@ -12,22 +12,35 @@ use Rattle.rdp_check.specs.Check.{State, Refusals, check_refusals, repair_refusa
 use Rattle.rdp_check.specs.declared.walk.Rest.{Rest}
 use Rattle.rdp_check.specs.declared.walk.View.{View}
 use Rattle.rdp_check.specs.declared.walk.Advanced.{Advanced}
-use Rattle.rdp_check.specs.declared.walk.Stop.{Stop}
-use Rattle.rdp_check.specs.declared.walk.Caused.{Caused}
+use Rattle.rdp_check.specs.declared.walk.Seen.{Seen}
+use Rattle.rdp_check.specs.declared.walk.Seen.TheVariants.{Unset, Plain, Special}
+use Rattle.rdp_check.specs.declared.walk.Stop as walked
+use Rattle.rdp_check.specs.declared.walk.Caused as walked_whole
+use Rattle.rdp_words.specs.Grounds.{number_if}
 
--- a register that a draw needs: 0 not set, 2 set to what the other must not meet, 1 set to anything else
-abbrev pub code : Bool → Bool → ℕ
-code false special = 0
-code true false = 1
-code true true = 2
+-- a register that a draw needs: special where it is set to what the other must not meet
+abbrev pub code : Bool → Bool → Seen
+code false special = Unset
+code true false = Plain
+code true true = Special
 
--- the refusal of a draw, or 0, by the codes of modes (2 is FILL) and colour image (2 is 4 bits), and whether the scissor is set
-abbrev pub code_refusal : ℕ → ℕ → Bool → ℕ
+abbrev pub is_set : Seen → Bool
+is_set Unset = false
+is_set Plain = true
+is_set Special = true
+
+abbrev pub is_special : Seen → Bool
+is_special Unset = false
+is_special Plain = false
+is_special Special = true
+
+-- the refusal of a draw, or 0, by the modes (special is FILL) and colour image (special is 4 bits), and whether the scissor is set
+abbrev pub code_refusal : Seen → Seen → Bool → ℕ
 code_refusal modes image scissor =
-    cond (not ((not (eqb modes 0) && not (eqb image 0)) && scissor)) 5 (cond (eqb modes 2 && eqb image 2) 6 0)
+    cond (not ((is_set modes && is_set image) && scissor)) 5 (cond (is_special modes && is_special image) 6 0)
 
 -- what is carried: the hazards, whether a Sync Full has come, and these three
-abbrev pub view : ℕ → Bool → ℕ → ℕ → Bool → View
+abbrev pub view : ℕ → Bool → Seen → Seen → Bool → View
 view hazards ended modes image scissor =
     record {
       hazards = hazards;
@@ -108,11 +121,19 @@ Watches numbers r = Numbers numbers (is_watched r)
 
 -- what one step of the walk gives
 pub record AdvancedIs (strict : Bool) (v : View) (h : Head) (r : Advanced) : Type 0 where
-  pub refusal : r.refusal ≡ view_refusal strict v h.number
+  pub refusal : number_if r.refusal ≡ view_refusal strict v h.number
   pub words : r.words ≡ words_of h.number
   pub after : r.view ≡ view_after v h
 
--- where a walk ends
+-- where a walk ends: the number of the refusal or 0, its place, and what is carried there
+pub record Stop : Type 0 where
+  pub number : ℕ
+  pub place : ℕ
+  pub view : View
+
+abbrev pub stopped : walked.Stop → Stop
+stopped s = record { number = number_if s.refused; place = s.place; view = s.view }
+
 abbrev pub stop_at : ℕ → ℕ → View → Stop
 stop_at number place v = record { number = number; place = place; view = v }
 
@@ -141,6 +162,13 @@ judge_view strict v at (c ∷ cs) rest =
 
 abbrev pub judged_view : Bool → View → ℕ → List ℕ → Stop
 judged_view strict v at bs = judge_view strict v at (commands_of bs) (rest_of bs)
+
+pub record Caused : Type 0 where
+  pub stop : Stop
+  pub cause : ℕ
+
+abbrev pub caused : walked_whole.Caused → Caused
+caused c = record { stop = stopped c.stop; cause = c.cause }
 
 -- with the cause of a refusal where the bytes are a whole list, else with their whole words
 abbrev pub caused_by : Bool → List ℕ → Stop → Caused

@@ -1,9 +1,12 @@
 // The command that caused the refusal of another: the latest that set the mark which that one needs cleared.
 ghost use Rattle.std.specs.Prelude.{cond, true, [], ◌≡◌, ◌/◌, ◌<◌, length};
-ghost use Rattle.rdp_words.specs.Kinds.{is_among};
+ghost use Rattle.rdp_words.specs.Grounds.{number_if};
+ghost use Rattle.rdp_words.specs.Kinds.{between, is_among};
 ghost use Rattle.rdp_check.specs.Commands.{commands_of, rest_of};
 ghost use Rattle.rdp_check.specs.Cause.{awaited, latest, cause_of};
 ghost use Rattle.rdp_check.specs.View.{Numbers, IsJudged};
+
+use rdp_words::Ground;
 
 // Command numbers, a bit for each: the textured draws and the loads.
 const READS_TILE: u64 = 0x0000_0030_0000_CC00 | rdp_words::LOADS;
@@ -47,17 +50,27 @@ fn latest_among(numbers: u64, list: &[u8], other: usize) -> usize
     found
 }
 
+// Whether a sync is missing: 7, 8 and 9.
+fn misses_sync(refused: Option<Ground>) -> bool
+    ensures { result ≡ between 7 9 (number_if refused) }
+{
+    matches!(
+        refused,
+        Some(Ground::LoadMissing | Ground::TileMissing | Ground::PipeMissing)
+    )
+}
+
 // The cause of a refusal of a whole list by 7, 8 or 9, by a second walk up to its place; at every other answer the whole words.
-pub fn cause_of(list: &[u8], number: u32, place: u32, whole: bool) -> usize
-    requires { whole ≡ true → IsJudged list.now number place }
-    ensures { result ≡ cond whole (cause_of list.now number place) (length list.now / 8) }
+pub fn cause_of(list: &[u8], refused: Option<Ground>, place: u32, whole: bool) -> usize
+    requires { whole ≡ true → IsJudged list.now (number_if refused) place }
+    ensures { result ≡ cond whole (cause_of list.now (number_if refused) place) (length list.now / 8) }
 {
     let words = list.len() / 8;
-    if !(whole & ((7 <= number) & (number <= 9))) {
+    if !(whole & misses_sync(refused)) {
         return words;
     }
     let at = place as usize;
-    let refused = rdp_words::number_at(list, at);
-    let numbers = awaited_by(refused);
+    let number = rdp_words::number_at(list, at);
+    let numbers = awaited_by(number);
     latest_among(numbers, &list[0..8 * at], words)
 }

@@ -2,8 +2,8 @@
 #![tactic(auto)]
 
 ghost use Rattle.std.specs.Prelude.{◌≡◌};
-ghost use Rattle.rdp_check.specs.Check.{check_of, repair_check_of};
-ghost use Rattle.rdp_check.specs.Checkpoint.{check_from};
+ghost use Rattle.rdp_check.specs.Check.{check_of, repair_check_of, checked_in, refusal_in};
+ghost use Rattle.rdp_check.specs.Checkpoint.{check_from, judged_in};
 
 mod cause;
 mod hazards;
@@ -14,16 +14,34 @@ use rdp_command::{
     Color, Convert, Image, KeyGb, KeyR, OtherModes, PrimitiveColor, PrimitiveDepth, Scissor,
     TexelCorner, TileDescriptor,
 };
+use rdp_words::{Answer, Ground, Refusal};
 
-// The number of the first refusal, 0 where the list is accepted; its place in words; the hazards there; and the place of the command that caused it, at
-// 7, 8 and 9, at every other number the list's whole words.
-#[repr(C)]
-#[derive(Clone, Copy)]
-pub struct Checked {
-    pub number: u32,
+// A list that is accepted: its words, and the hazards after it.
+#[derive(Clone, Copy, Debug, PartialEq, Eq)]
+pub struct Accepted {
+    pub words: u32,
+    pub hazards: u8,
+}
+
+// The first refusal of a list; its place in words; the hazards there; and the place of the command that caused it, at 7, 8 and 9, at every other ground the
+// list's whole words.
+#[derive(Clone, Copy, Debug, PartialEq, Eq)]
+pub struct Refused {
+    pub ground: Ground,
     pub place: u32,
     pub hazards: u8,
     pub cause: usize,
+}
+
+impl From<Refused> for Refusal {
+    ghost from_gives = { λ r refusal. refusal ≡ refusal_in r };
+
+    fn from(refused: Refused) -> Refusal {
+        Refusal {
+            ground: refused.ground,
+            place: refused.place,
+        }
+    }
 }
 
 // Where a list stands between two of its commands, as far as the check reads it: the words that last set the other modes, the colour image and the scissor,
@@ -38,13 +56,10 @@ pub struct Checkpoint {
     pub ended: bool,
 }
 
-// The number of the first refusal of some commands, 0 where none is refused; its place, or that after the last; and the hazards and whether a Sync Full has
-// come there.
-#[repr(C)]
+// Of some commands the place after the last, or the first refusal; and the hazards and whether a Sync Full has come there.
 #[derive(Clone, Copy)]
 pub struct Judged {
-    pub number: u32,
-    pub place: u32,
+    pub outcome: Answer,
     pub hazards: u8,
     pub ended: bool,
 }
@@ -115,31 +130,33 @@ pub const MOST_WORDS: u32 = 4096;
 
 pub const MOST_BYTES: usize = 8 * MOST_WORDS as usize;
 
-// The first refusal of a list, with the hazards there and its cause: 1 and 2 of the list, then 3 to 9 and 19 of its commands in order; 0 at the number of words
-// where none holds.
-pub fn check(list: &[u8]) -> Checked
-    ensures { result ≡ check_of list.now }
+// The first refusal of a list, with the hazards there and its cause: 1 and 2 of the list, then 3 to 9 and 19 of its commands in order; its words where none
+// holds.
+pub fn check(list: &[u8]) -> Result<Accepted, Refused>
+    ensures { checked_in list.now result ≡ check_of list.now }
 {
     walk::check_within(list, MOST_WORDS as usize, true)
 }
 
 // The check that comes before a repair: of at most 2,048 words, and with 7 to 9 passed over.
-pub fn check_for_repair(list: &[u8]) -> Checked
-    ensures { result ≡ repair_check_of list.now }
+pub fn check_for_repair(list: &[u8]) -> Result<Accepted, Refused>
+    ensures { checked_in list.now result ≡ repair_check_of list.now }
 {
     walk::check_within(list, 2048, false)
 }
 
-// The first refusal of the whole commands of bytes, 4 to 9 and 19, from a checkpoint on; 0 after them where none holds. A command whose words are not all
-// there is not looked at. Of more than 32,768 bytes none is judged: 1 at 4,096.
+// The first refusal of the whole commands of bytes, 4 to 9 and 19, from a checkpoint on; the place after them where none holds. A command whose words are not
+// all there is not looked at. Of more than 32,768 bytes none is judged: 1 at 4,096.
 pub fn check_from(before: Checkpoint, bytes: &[u8]) -> Judged
-    ensures { result ≡ check_from before bytes.now }
+    ensures { judged_in result ≡ check_from before bytes.now }
 {
     let hazards = before.hazards;
     if MOST_BYTES < bytes.len() {
         return Judged {
-            number: 1,
-            place: MOST_WORDS,
+            outcome: Err(Refusal {
+                ground: Ground::TooLong,
+                place: MOST_WORDS,
+            }),
             hazards,
             ended: before.ended,
         };
@@ -150,8 +167,7 @@ pub fn check_from(before: Checkpoint, bytes: &[u8]) -> Judged
     let rest = view.rest;
     let after = onward::hazards_after(place, hazards, view.hazards);
     Judged {
-        number: stop.number,
-        place,
+        outcome: stop.outcome(),
         hazards: after,
         ended: rest.ended,
     }

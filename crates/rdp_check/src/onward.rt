@@ -3,20 +3,22 @@ ghost use Rattle.std.specs.Prelude.{cond, [], ◌≡◌, ◌≤◌, eqb, length}
 ghost use Rattle.rdp_check.specs.Commands.{commands_of};
 ghost use Rattle.rdp_check.specs.Check.{check_refusals, judge};
 ghost use Rattle.rdp_check.specs.Checkpoint.{state_at};
-ghost use Rattle.rdp_check.specs.View.{code, view_of, stop_of, low_of};
+ghost use Rattle.rdp_words.specs.Grounds.{number_if};
+ghost use Rattle.rdp_check.specs.View.{code, view_of, stopped, stop_of, low_of};
 
-use crate::walk::{Rest, Stop, View};
+use crate::walk::{Rest, Seen, Stop, View};
 use crate::{Checkpoint, walk};
 use rdp_command::FillWords;
+use rdp_words::Ground;
 
-// The code of a register.
-fn code_of(set: bool, special: bool) -> u8
+// A register as the walk sees it.
+fn code_of(set: bool, special: bool) -> Seen
     ensures { result ≡ code set special }
 {
     if set {
         return walk::set_code(special);
     }
-    0
+    Seen::Unset
 }
 
 // What the walk carries beside the hazards, out of the words that last set it.
@@ -46,20 +48,26 @@ fn rest_at(before: Checkpoint) -> Rest
     }
 }
 
-// A command that is cut is no refusal here.
-fn uncut(number: u32) -> u32
-    ensures { result ≡ cond (eqb number 3) 0 number }
+fn is_cut(refused: Option<Ground>) -> bool
+    ensures { result ≡ eqb (number_if refused) 3 }
 {
-    if number == 3 {
-        return 0;
+    matches!(refused, Some(Ground::Cut))
+}
+
+// A command that is cut is no refusal here.
+fn uncut(refused: Option<Ground>) -> Option<Ground>
+    ensures { number_if result ≡ cond (eqb (number_if refused) 3) 0 (number_if refused) }
+{
+    if is_cut(refused) {
+        return None;
     }
-    number
+    refused
 }
 
 // Where the walk over the whole words ends.
 pub fn stop_from(before: Checkpoint, bytes: &[u8]) -> Stop
     requires { length bytes.now ≤ 32768 }
-    ensures { result ≡ stop_of (judge check_refusals (low_of (state_at before)) 0 (commands_of bytes.now) []) }
+    ensures { stopped result ≡ stop_of (judge check_refusals (low_of (state_at before)) 0 (commands_of bytes.now) []) }
 {
     let words = bytes.len() / 8;
     let end = 8 * words;
@@ -67,10 +75,10 @@ pub fn stop_from(before: Checkpoint, bytes: &[u8]) -> Stop
     let rest = rest_at(before);
     let caused = walk::walk_on(&bytes[..end], View { hazards, rest }, true, false);
     let stop = caused.stop;
-    let number = uncut(stop.number);
+    let refused = uncut(stop.refused);
     let view = stop.view;
     Stop {
-        number,
+        refused,
         place: stop.place,
         view,
     }

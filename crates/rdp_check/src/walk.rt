@@ -1,12 +1,14 @@
 // The walk over a list's commands that finds the first refusal.
-ghost use Rattle.std.specs.Prelude.{cond, true, ◌≡◌, ◌*◌, ◌%◌, ◌<◌, ◌≤◌, length};
-ghost use Rattle.rdp_hazards.specs.Hazards.{Agrees, entry_of};
-ghost use Rattle.rdp_check.specs.Check.{start, outcome_within, checked};
-ghost use Rattle.rdp_check.specs.View.{refusals_by, code, view_of, rest_after, rest_refusal, own_refusal, refusal_with, Watches, AdvancedIs, stop_at, judged_view, caused_by};
+ghost use Rattle.std.specs.Prelude.{cond, true, ◌≡◌, ◌*◌, ◌%◌, ◌^◌, ◌<◌, ◌≤◌, length};
+ghost use Rattle.rdp_words.specs.Grounds.{answered, number_if};
+ghost use Rattle.rdp_hazards.specs.Hazards.{entry_of};
+ghost use Rattle.rdp_check.specs.Check.{start, outcome_within, checked, checked_in};
+ghost use Rattle.rdp_check.specs.View.{refusals_by, code, is_set, is_special, view_of, rest_after, rest_refusal, own_refusal, missing, refusal_with, Watches, AdvancedIs, stopped, stop_at, judged_view, caused, caused_by};
 
-use crate::{Checked, cause, hazards};
+use crate::{Accepted, Refused, cause, hazards};
 use rdp_command::Head;
-use rdp_hazards::table;
+use rdp_hazards::{StepTable, table};
+use rdp_words::{Answer, Ground, Refusal};
 
 // Command numbers, a bit for each: the commands that set what the walk carries beside the hazards (Sync Full, Set Scissor, Set Other Modes, Set Color
 // Image) with the unassigned numbers, these and the draws, and all commands.
@@ -16,13 +18,34 @@ const WATCHED_AND_DRAWS: u64 = WATCHED | rdp_words::DRAWS;
 
 const ALL: u64 = 0xFFFF_FFFF_FFFF_FFFF;
 
-// What few commands change of what the walk carries: whether a Sync Full has come; modes (0 not set, 1 set, 2 set to FILL); colour image (0 not set, 1
-// set, 2 set to 4 bits); and whether the scissor is set.
+// A register that a draw needs: special where it is set to what the other must not meet, FILL mode or a colour image of 4 bits.
+#[derive(Clone, Copy)]
+pub enum Seen {
+    Unset,
+    Plain,
+    Special,
+}
+
+impl Seen {
+    fn is_set(self) -> bool
+        ensures { result ≡ is_set self }
+    {
+        !matches!(self, Seen::Unset)
+    }
+
+    fn is_special(self) -> bool
+        ensures { result ≡ is_special self }
+    {
+        matches!(self, Seen::Special)
+    }
+}
+
+// What few commands change of what the walk carries: whether a Sync Full has come; the modes; the colour image; and whether the scissor is set.
 #[derive(Clone, Copy)]
 pub struct Rest {
     pub ended: bool,
-    pub modes: u8,
-    pub image: u8,
+    pub modes: Seen,
+    pub image: Seen,
     pub scissor: bool,
 }
 
@@ -33,20 +56,35 @@ pub struct View {
     pub rest: Rest,
 }
 
-// The refusal of a command or 0, its words, and the view after it.
+// The refusal of a command, its words, and the view after it.
 #[derive(Clone, Copy)]
 pub struct Advanced {
-    pub refusal: u32,
+    pub refusal: Option<Ground>,
     pub words: usize,
     pub view: View,
 }
 
-// Where a walk ends: the refusal, or 0; its place; and what is carried there.
+// Where a walk ends: the refusal, if there is one; its place; and what is carried there.
 #[derive(Clone, Copy)]
 pub struct Stop {
-    pub number: u32,
+    pub refused: Option<Ground>,
     pub place: u32,
     pub view: View,
+}
+
+impl Stop {
+    // The place, or the refusal.
+    pub fn outcome(self) -> Answer
+        ensures { answered result ≡ record { number = number_if self.refused; place = self.place } }
+    {
+        match self.refused {
+            None => Ok(self.place),
+            Some(ground) => Err(Refusal {
+                ground,
+                place: self.place,
+            }),
+        }
+    }
 }
 
 // Where a walk ends, and the cause of a refusal by 7, 8 or 9.
@@ -56,21 +94,31 @@ pub struct Caused {
     pub cause: usize,
 }
 
-// The first refusal of a command, or 0: 4, then 19 or its refusal as a draw, then a missing sync.
-fn refusal(ended: bool, own: u8, required: u8) -> u32
+// 7, 8 or 9 where a sync is required: 1 Load, 2 Tile, 3 Pipe, as the table has it.
+fn missing(required: u8) -> Option<Ground>
     requires { required ≤ 3 }
-    ensures { result ≡ refusal_with ended own required }
+    ensures { number_if result ≡ missing required }
+{
+    match required {
+        1 => Some(Ground::LoadMissing),
+        2 => Some(Ground::TileMissing),
+        3 => Some(Ground::PipeMissing),
+        _ => None,
+    }
+}
+
+// The first refusal of a command: 4, then 19 or its refusal as a draw, then a missing sync.
+fn refusal(ended: bool, own: Option<Ground>, required: u8) -> Option<Ground>
+    requires { required ≤ 3 }
+    ensures { number_if result ≡ refusal_with ended (number_if own) required }
 {
     if ended {
-        return 4;
+        return Some(Ground::AfterSyncFull);
     }
-    if own != 0 {
-        return own as u32;
+    match own {
+        Some(_) => own,
+        None => missing(required),
     }
-    if required == 0 {
-        return 0;
-    }
-    6 + required as u32
 }
 
 // The rest before the first command: nothing is set.
@@ -79,33 +127,33 @@ fn no_rest() -> Rest
 {
     Rest {
         ended: false,
-        modes: 0,
-        image: 0,
+        modes: Seen::Unset,
+        image: Seen::Unset,
         scissor: false,
     }
 }
 
-// The code of a register that is set.
-pub fn set_code(special: bool) -> u8
+// A register that is set.
+pub fn set_code(special: bool) -> Seen
     ensures { result ≡ code true special }
 {
     if special {
-        return 2;
+        return Seen::Special;
     }
-    1
+    Seen::Plain
 }
 
-// The refusal of a draw, or 0.
-fn draw_refusal(rest: Rest) -> u8
-    ensures { result ≡ rest_refusal rest }
+// The refusal of a draw.
+fn draw_refusal(rest: Rest) -> Option<Ground>
+    ensures { number_if result ≡ rest_refusal rest }
 {
-    if !(((rest.modes != 0) & (rest.image != 0)) & rest.scissor) {
-        return 5;
+    if !((rest.modes.is_set() & rest.image.is_set()) & rest.scissor) {
+        return Some(Ground::Unset);
     }
-    if (rest.modes == 2) & (rest.image == 2) {
-        return 6;
+    if rest.modes.is_special() & rest.image.is_special() {
+        return Some(Ground::FillOnFourBits);
     }
-    0
+    None
 }
 
 // The numbers of the commands that the walk has to look into: those that set what it carries, unassigned ones, draws where they are refused, and all after a
@@ -116,10 +164,10 @@ fn watched_of(rest: Rest) -> u64
     if rest.ended {
         return ALL;
     }
-    if draw_refusal(rest) == 0 {
-        return WATCHED;
+    match draw_refusal(rest) {
+        None => WATCHED,
+        Some(_) => WATCHED_AND_DRAWS,
     }
-    WATCHED_AND_DRAWS
 }
 
 // The rest after a command.
@@ -169,18 +217,18 @@ fn clear_below(strict: bool) -> u8
     0xFF
 }
 
-// 19 of an unassigned number; the refusal of a command as a draw; or 0.
-fn own_refusal(rest: Rest, number: u8) -> u8
+// 19 of an unassigned number, or the refusal of a command as a draw.
+fn own_refusal(rest: Rest, number: u8) -> Option<Ground>
     requires { number < 64 }
-    ensures { result ≡ own_refusal rest number }
+    ensures { number_if result ≡ own_refusal rest number }
 {
     if rdp_words::is_among(rdp_words::UNASSIGNED, number) {
-        return 19;
+        return Some(Ground::Unassigned);
     }
     if rdp_words::is_among(rdp_words::DRAWS, number) {
         return draw_refusal(rest);
     }
-    0
+    None
 }
 
 // One command, whose entry in the table is given.
@@ -204,24 +252,24 @@ fn advance(e: u8, v: View, strict: bool, h: Head) -> Advanced
     }
 }
 
-// The end of the walk: a refusal, or 0, at a place, with what is carried there.
-fn answer(number: u32, place: usize, hazards: u8, rest: Rest) -> Stop
+// The end of the walk: a refusal, or none, at a place, with what is carried there.
+fn answer(refused: Option<Ground>, place: usize, hazards: u8, rest: Rest) -> Stop
     requires { place ≤ 4096 }
-    ensures { result ≡ stop_at number place (record { hazards = hazards; rest = rest }) }
+    ensures { stopped result ≡ stop_at (number_if refused) place (record { hazards = hazards; rest = rest }) }
 {
     Stop {
-        number,
+        refused,
         place: place as u32,
         view: View { hazards, rest },
     }
 }
 
-// The commands of a list of whole words, in order, from a view on: the first refusal, or 0 at the number of words. Most commands need not be looked into
+// The commands of a list of whole words, in order, from a view on: the first refusal, or none at the number of words. Most commands need not be looked into
 // and miss no sync: the way that they take touches nothing but the hazards, and not even these where they stay, so that the next command need not wait
 // for them.
-fn walk(table: &[u8; 1024], list: &[u8], words: usize, view: View, strict: bool) -> Stop
-    requires { Agrees table.now × ((length list.now ≡ 8 * words) × ((words ≤ 4096) × (view.hazards < 16))) }
-    ensures { result ≡ judged_view strict view 0 list.now }
+fn walk(table: &StepTable, list: &[u8], words: usize, view: View, strict: bool) -> Stop
+    requires { (length list.now ≡ 8 * words) × ((words ≤ 4096) × (view.hazards < 16)) }
+    ensures { stopped result ≡ judged_view strict view 0 list.now }
 {
     let mut hazards = view.hazards;
     let mut rest = view.rest;
@@ -238,25 +286,24 @@ fn walk(table: &[u8; 1024], list: &[u8], words: usize, view: View, strict: bool)
                 if e == hazards {
                     continue;
                 }
-                hazards = rdp_hazards::hazards::next(table, hazards, number);
+                hazards = rdp_hazards::hazards::next(&table.entries, hazards, number);
                 continue;
             }
             let count = rdp_words::words_of(number);
             if words - at < count {
-                return answer(3, at, hazards, rest);
+                return answer(Some(Ground::Cut), at, hazards, rest);
             }
-            hazards = rdp_hazards::hazards::next(table, hazards, number);
+            hazards = rdp_hazards::hazards::next(&table.entries, hazards, number);
             at += count;
             continue;
         }
         let advanced = advance(e, View { hazards, rest }, strict, head);
         let count = advanced.words;
         if words - at < count {
-            return answer(3, at, hazards, rest);
+            return answer(Some(Ground::Cut), at, hazards, rest);
         }
-        let refusal = advanced.refusal;
-        if refusal != 0 {
-            return answer(refusal, at, hazards, rest);
+        if let Some(ground) = advanced.refusal {
+            return answer(Some(ground), at, hazards, rest);
         }
         let next = advanced.view;
         hazards = next.hazards;
@@ -264,53 +311,62 @@ fn walk(table: &[u8; 1024], list: &[u8], words: usize, view: View, strict: bool)
         watched = watched_of(rest);
         at += count;
     }
-    answer(0, words, hazards, rest)
+    answer(None, words, hazards, rest)
 }
 
 // The walk over a list of whole words from a view on; where they are the whole list, also the cause of a refusal by 7, 8 or 9. The one place that calls the
 // walk, which the compiler then puts here: the check, the repair and the portions all come by.
 pub fn walk_on(list: &[u8], view: View, strict: bool, whole: bool) -> Caused
     requires { (length list.now % 8 ≡ 0) × ((length list.now ≤ 32768) × ((view.hazards < 16) × (whole ≡ true → view ≡ view_of start))) }
-    ensures { result ≡ caused_by whole list.now (judged_view strict view 0 list.now) }
+    ensures { caused result ≡ caused_by whole list.now (judged_view strict view 0 list.now) }
 {
     let words = list.len() / 8;
     let table = table::step_table();
     let stop = walk(&table, list, words, view, strict);
-    let cause = cause::cause_of(list, stop.number, stop.place, whole);
+    let cause = cause::cause_of(list, stop.refused, stop.place, whole);
     Caused { stop, cause }
 }
 
+// A list of which no command is judged.
+fn unjudged(ground: Ground, place: usize, words: usize) -> Refused
+    requires { place < 2 ^ 32 }
+    ensures { result ≡ record { ground = ground; place = place; hazards = 0; cause = words } }
+{
+    Refused {
+        ground,
+        place: place as u32,
+        hazards: 0,
+        cause: words,
+    }
+}
+
 // The first refusal of a list that may have so many words, with its cause: 1 and 2 of the list, then those of its commands.
-pub fn check_within(list: &[u8], most: usize, strict: bool) -> Checked
+pub fn check_within(list: &[u8], most: usize, strict: bool) -> Result<Accepted, Refused>
     requires { most ≤ 4096 }
-    ensures { result ≡ checked list.now (outcome_within most (refusals_by strict) list.now) }
+    ensures { checked_in list.now result ≡ checked list.now (outcome_within most (refusals_by strict) list.now) }
 {
     let len = list.len();
     let words = len / 8;
     if 8 * most < len {
-        return Checked {
-            number: 1,
-            place: most as u32,
-            hazards: 0,
-            cause: words,
-        };
+        return Err(unjudged(Ground::TooLong, most, words));
     }
     if len % 8 != 0 {
-        return Checked {
-            number: 2,
-            place: words as u32,
-            hazards: 0,
-            cause: words,
-        };
+        return Err(unjudged(Ground::NotWords, words, words));
     }
     let rest = no_rest();
     let caused = walk_on(list, View { hazards: 0, rest }, strict, true);
     let stop = caused.stop;
-    let view = stop.view;
-    Checked {
-        number: stop.number,
-        place: stop.place,
-        hazards: view.hazards,
-        cause: caused.cause,
+    let hazards = stop.view.hazards;
+    match stop.refused {
+        None => Ok(Accepted {
+            words: stop.place,
+            hazards,
+        }),
+        Some(ground) => Err(Refused {
+            ground,
+            place: stop.place,
+            hazards,
+            cause: caused.cause,
+        }),
     }
 }

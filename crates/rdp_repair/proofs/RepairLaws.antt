@@ -17,7 +17,7 @@ use Rattle.rdp_repair.specs.Best.{best, plan, repaired_bytes, least_cycles}
 use Rattle.rdp_repair.specs.Work.{basis_of, noted_number, noted_of, kept_words_in, kept_of, kept_all, noted_in, work_of, options_in, inserts_of, Below, due_bytes, WholeList, NotedIs, BackwardIs, answered_by, Repairs}
 use Rattle.rdp_repair.specs.Repair.{LeastRepair, Repairable, repair_answer, repair_of, out_after, work_after, RepairsBy, RepairIs}
 use Rattle.rdp_repair.specs.Afresh.{without, LeastAfresh, AfreshIs}
-use Rattle.rdp_check.specs.declared.Checked.{Checked}
+use Rattle.rdp_check.specs.Check.{Checked}
 use Rattle.rdp_repair.specs.declared.Repaired.{Repaired}
 use Rattle.rdp_repair.specs.declared.repairing.Noted.{Noted}
 use Rattle.rdp_words.proofs.Tests.{by-test, false_of}

@@ -11,7 +11,7 @@ use Rattle.rdp_check.specs.Commands.{commands_of}
 use Rattle.rdp_check.specs.Check.{check_refusals, Judgement, judge}
 use Rattle.rdp_check.specs.Checkpoint.{judged_of, check_from, StandsAt}
 use Rattle.rdp_check.specs.declared.Checkpoint.{Checkpoint}
-use Rattle.rdp_check.specs.declared.Judged.{Judged}
+use Rattle.rdp_check.specs.Checkpoint.{Judged}
 use Rattle.rdp_check.proofs.JoinLaws.{parsed}
 use Rattle.rdp_check.proofs.FirstLaws.{judge-gives}
 use Rattle.rdp_check.proofs.OnwardLaws.{from-over, from-state}

@@ -3,3 +3,4 @@ pub mod KindLaws
 pub mod WordLaws
 pub mod PlaceLaws
 pub mod OverwriteLaws
+pub mod GroundLaws

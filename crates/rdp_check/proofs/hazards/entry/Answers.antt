@@ -2,4 +2,4 @@
 use Rattle.rdp_check.proofs.hazards.entry.Goals as goal
 
 pub returns : goal.returns
-returns c = let p = c.requires in p.0 _ _ p.1.0 p.1.1
+returns c = let p = c.requires in c.args.table.now.agrees _ _ p.0 p.1

@@ -1,7 +1,7 @@
 -- `rdp_check::onward::rest_at` meets its contract, by those of what it calls. Assumes nothing.
 use mathlib.Core.Bool.{Bool, not}
 use mathlib.Core.Path.{◌∙◌, ap}
-use Prim.Native.Nat.{ℕ}
+use Rattle.rdp_check.specs.declared.walk.Seen.{Seen}
 use lib.Dec.{eqb}
 use Rattle.rdp_command.specs.declared.FillFields.{FillFields}
 use Rattle.rdp_check.specs.View.{code, view_of}
@@ -9,7 +9,7 @@ use Rattle.rdp_check.specs.Checkpoint.{registers_at}
 use Rattle.rdp_check.specs.declared.walk.Rest.{Rest}
 use Rattle.rdp_check.proofs.onward.rest_at.Goals as goal
 
-abbrev built : Bool → ℕ → ℕ → Bool → Rest
+abbrev built : Bool → Seen → Seen → Bool → Rest
 built ended modes image scissor = record { ended = ended; modes = modes; image = image; scissor = scissor }
 
 pub returns : goal.returns

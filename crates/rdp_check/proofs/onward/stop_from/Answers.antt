@@ -33,4 +33,4 @@ returns c =
     let e = ap (λ q. q.stop) c.walk_on-caused.ensures in
     whole-commands s a.bytes.now _
     (e ∙ (λ i. judged_view true (record { hazards = a.before.hazards % 16; rest = c.rest_at-rest.ensures i }) 0 (take (8 * (length a.bytes.now / 8)) a.bytes.now))) _
-    c.uncut-number.ensures
+    c.uncut-refused.ensures

@@ -1,21 +1,19 @@
 -- `rdp_check::walk::refusal` meets its contract: the refusals are tested in their order. Assumes nothing.
-use borrow.Author.Tests.{eq-eqb, ne_eqb}
+use Rattle.std.proofs.Common.{ap, sym, ◌∙◌}
+use Rattle.rdp_words.specs.Grounds.{number_if}
 use Rattle.rdp_check.specs.View.{refusal_with}
 use Rattle.rdp_check.proofs.ViewLaws.{or-else}
+use Rattle.rdp_words.proofs.GroundLaws.{refused-number}
 use Rattle.rdp_check.proofs.walk.refusal.Goals as goal
 
 pub returns-then-ended : goal.returns-then-ended
 unfolding refusal_with
 returns-then-ended c = rw c.if-ended.true
 
-pub returns-then-own-ne0 : goal.returns-then-own-ne0
+pub returns-in-Some : goal.returns-in-Some
 unfolding refusal_with
-returns-then-own-ne0 c = rw c.if-ended.false (or-else _ _ c.if-own-ne0.true)
+returns-in-Some c = rw c.if-ended.false (or-else (number_if c.args.own) _ (λ z. refused-number _ (sym (ap number_if c.in-Some.is) ∙ z)))
 
-pub returns-then-required-eq0 : goal.returns-then-required-eq0
+pub returns-in-None : goal.returns-in-None
 unfolding refusal_with
-returns-then-required-eq0 c = rw (c.if-ended.false, c.if-own-ne0.false, eq-eqb _ _ c.if-required-eq0.true)
-
-pub returns : goal.returns
-unfolding refusal_with
-returns c = rw (c.if-ended.false, c.if-own-ne0.false, ne_eqb _ _ c.if-required-eq0.false)
+returns-in-None c = rw (c.if-ended.false, c.in-None.is) c.missing.ensures

@@ -13,11 +13,11 @@ returns-in-45 c = rw c.in-45.is
 
 pub returns-in-47 : goal.returns-in-47
 unfolding rest_after
-returns-in-47 c = rw (c.set_code.ensures, c.in-47.is)
+returns-in-47 c = rw (c.set_code-r.ensures, c.in-47.is)
 
 pub returns-in-63 : goal.returns-in-63
 unfolding rest_after
-returns-in-63 c = rw (c.set_code-in-63.ensures, c.in-63.is)
+returns-in-63 c = rw (c.set_code-r-in-63.ensures, c.in-63.is)
 
 pub returns-in_default : goal.returns-in_default
 unfolding rest_after

@@ -1,6 +1,8 @@
 -- `rdp_check::walk::walk` meets its contract. The loop's invariant: the judgement of what is left is that of the whole list from the first view, and the numbers that are
 -- watched are those of the commands that must be. The measure is what is left of the words. Assumes nothing.
-use mathlib.Core.Path.{ap, ◌∙◌}
+use mathlib.Core.Path.{ap, sym, ◌∙◌}
+use Rattle.rdp_words.specs.Grounds.{number_if}
+use Rattle.rdp_words.proofs.GroundLaws.{refused-number}
 use Prim.Native.Nat.{◌<◌}
 use native.Mathlib.Omega.{arith}
 use Rattle.rdp_hazards.proofs.HazardLaws.{next-read}
@@ -11,10 +13,10 @@ use Rattle.std.proofs.Common.{not, ap}
 use Rattle.rdp_check.proofs.walk.walk.Goals as goal
 
 pub loop-at-init : goal.loop-at-init
-loop-at-init c = let p = c.requires in (first _ _ _ _ p.1.1.1 p.1.0 p.1.1.0, c.watched_of-watched.ensures)
+loop-at-init c = let p = c.requires in (first _ _ _ _ p.1.1 p.0 p.1.0, c.watched_of-watched.ensures)
 
 pub entry-e-requires : goal.entry-e-requires
-entry-e-requires c = (c.requires.0, (c.loop-at.invariant.0.low, rw c.head_at-head.ensures (number_small _)))
+entry-e-requires c = (c.loop-at.invariant.0.low, rw c.head_at-head.ensures (number_small _))
 
 pub overflow_add-at : goal.overflow_add-at
 overflow_add-at c = let w = c.loop-at.invariant.0 in omega (arith, c.loop-at-test.true, w.few)
@@ -25,7 +27,7 @@ loop-at-smaller-then-e-hazards c = omega (arith, c.loop-at-test.true)
 pub loop-at-preserved-then-e-hazards : goal.loop-at-preserved-then-e-hazards
 loop-at-preserved-then-e-hazards c =
     let l = c.loop-at in
-    let agree = c.requires.0 in
+    let agree = c.args.table.now.agrees in
     let small : c.head_at-head.result.number < 64 = rw c.head_at-head.ensures (number_small _) in
     let q = turn l.invariant.0 _ l.invariant.1 c.loop-at-test.true _ c.head_at-head.ensures _ c.entry-e.ensures _ c.is_among.ensures _ c.clear_below-clear.ensures c.if-e-clear.true in
     (quick-one q (stays q c.if-e-hazards.true) _ c.is_among-then-e-clear.ensures (ap not c.if-not-is_among.true), l.invariant.1)
@@ -36,7 +38,7 @@ loop-at-smaller-then-not-is_among c = omega (arith, c.loop-at-test.true)
 pub loop-at-preserved-then-not-is_among : goal.loop-at-preserved-then-not-is_among
 loop-at-preserved-then-not-is_among c =
     let l = c.loop-at in
-    let agree = c.requires.0 in
+    let agree = c.args.table.now.agrees in
     let small : c.head_at-head.result.number < 64 = rw c.head_at-head.ensures (number_small _) in
     let q = turn l.invariant.0 _ l.invariant.1 c.loop-at-test.true _ c.head_at-head.ensures _ c.entry-e.ensures _ c.is_among.ensures _ c.clear_below-clear.ensures c.if-e-clear.true in
     (quick-one q (c.next-hazards.ensures ∙ next-read _ agree _ _ l.invariant.0.low small) _ c.is_among-then-e-clear.ensures (ap not c.if-not-is_among.true), l.invariant.1)
@@ -62,7 +64,7 @@ loop-at-smaller-then-e-clear c =
 pub loop-at-preserved-then-e-clear : goal.loop-at-preserved-then-e-clear
 loop-at-preserved-then-e-clear c =
     let l = c.loop-at in
-    let agree = c.requires.0 in
+    let agree = c.args.table.now.agrees in
     let small : c.head_at-head.result.number < 64 = rw c.head_at-head.ensures (number_small _) in
     let q = turn l.invariant.0 _ l.invariant.1 c.loop-at-test.true _ c.head_at-head.ensures _ c.entry-e.ensures _ c.is_among.ensures _ c.clear_below-clear.ensures c.if-e-clear.true in
     (quick q (c.next-hazards-then-e-clear.ensures ∙ next-read _ agree _ _ l.invariant.0.low small) _ c.words_of-count.ensures c.if-words-at.false, l.invariant.1)
@@ -83,14 +85,14 @@ returns-then-words-at-2 c =
     c.answer-then-words-at-2.ensures ∙
     past c.loop-at.invariant.0 c.loop-at-test.true _ (ap (λ x. x.number) c.head_at-head.ensures) _ c.advance-advanced.ensures.words c.if-words-at-2.true
 
-pub answer-requires-then-refusal-ne0 : goal.answer-requires-then-refusal-ne0
-answer-requires-then-refusal-ne0 c = let w = c.loop-at.invariant.0 in omega (arith, w.within, w.few)
+pub answer-requires-in-Some : goal.answer-requires-in-Some
+answer-requires-in-Some c = let w = c.loop-at.invariant.0 in omega (arith, w.within, w.few)
 
-pub returns-then-refusal-ne0 : goal.returns-then-refusal-ne0
-returns-then-refusal-ne0 c =
+pub returns-in-Some : goal.returns-in-Some
+returns-in-Some c =
     let a = c.advance-advanced.ensures in
-    c.answer-then-refusal-ne0.ensures ∙
-    refused c.loop-at.invariant.0 c.loop-at-test.true _ (ap (λ x. x.number) c.head_at-head.ensures) _ a.words c.if-words-at-2.false _ a.refusal c.if-refusal-ne0.true
+    c.answer-in-Some.ensures ∙
+    refused c.loop-at.invariant.0 c.loop-at-test.true _ (ap (λ x. x.number) c.head_at-head.ensures) _ a.words c.if-words-at-2.false _ (sym (ap number_if c.in-Some.is) ∙ a.refusal) (refused-number _)
 
 pub overflow_add-at-in-loop-at : goal.overflow_add-at-in-loop-at
 overflow_add-at-in-loop-at c = let w = c.loop-at.invariant.0 in omega (arith, c.if-words-at-2.false, w.within, w.few)
@@ -103,7 +105,7 @@ pub loop-at-preserved : goal.loop-at-preserved
 loop-at-preserved c =
     let h = c.head_at-head.ensures in
     let a = c.advance-advanced.ensures in (
-      again c.loop-at.invariant.0 c.loop-at-test.true _ (ap (λ x. x.number) h) _ a.words c.if-words-at-2.false _ a.refusal c.if-refusal-ne0.false _ (a.after ∙ ap (view_after _) h),
+      again c.loop-at.invariant.0 c.loop-at-test.true _ (ap (λ x. x.number) h) _ a.words c.if-words-at-2.false _ a.refusal (ap number_if c.in_default.is) _ (a.after ∙ ap (view_after _) h),
       c.watched_of-watched-in-loop-at.ensures,
     )
 
