@@ -10,7 +10,7 @@ use lib.Seq.{take_all, drop-cons, set_at, append_snoc, take-suc, length-take-le,
 use Rattle.rdp_words.specs.Words.{overwrite, pasted}
 
 -- out, with the first i elements of src copied to its front
-abbrev pub copied : List ℕ → List ℕ → ℕ → List ℕ
+abbrev pub copied : {A : Type 0} → List A → List A → ℕ → List A
 copied out src i = take i src ++ drop i out
 
 pub length-copied : (out src : List ℕ) (i : ℕ) → i ≤ length src → i ≤ length out → length (copied out src i) ≡ length out
@@ -30,17 +30,17 @@ copied_all out src = ap (λ (r : List ℕ). r ++ drop (length src) out) (take-le
 
 -- ---- elements written at the front
 
-pub overwrite-is : (new old : List ℕ) (n : ℕ) → length new ≡ n → overwrite new old ≡ new ++ drop n old
+pub overwrite-is : {A : Type 0} (new old : List A) (n : ℕ) → length new ≡ n → overwrite new old ≡ new ++ drop n old
 unfolding overwrite
 overwrite-is new old n e = ap (λ (k : ℕ). new ++ drop k old) e
 
 -- copied as far as both go
-pub copied-both : (out src : List ℕ) (i : ℕ) → i ≡ min (length out) (length src) → copied out src i ≡ overwrite (take (length out) src) out
-copied-both out src i e =
-    let front : List ℕ = take (length out) src in
+pub copied-both : {A : Type 0} (out src : List A) (i : ℕ) → i ≡ min (length out) (length src) → copied out src i ≡ overwrite (take (length out) src) out
+copied-both {A} out src i e =
+    let front : List A = take (length out) src in
     let size : length front ≡ i = length-take (length out) src ∙ sym e in
     let same : front ≡ take i src = sym (take_all i front (omega (arith, size))) ∙ take-take i (length out) src (omega arith) in
-    ap (λ (r : List ℕ). r ++ drop i out) (sym same) ∙ sym (overwrite-is front out i size)
+    ap (λ (r : List A). r ++ drop i out) (sym same) ∙ sym (overwrite-is front out i size)
 
 pub take-overwrite : (new old : List ℕ) (n : ℕ) → length new ≡ n → take n (overwrite new old) ≡ new
 unfolding overwrite

@@ -39,11 +39,11 @@ abbrev pub bare_word : ℕ → List ℕ
 bare_word n = n ∷ 0 ∷ 0 ∷ 0 ∷ 0 ∷ 0 ∷ 0 ∷ 0 ∷ []
 
 -- a list with elements written at its front
-unfoldable pub overwrite : List ℕ → List ℕ → List ℕ
+unfoldable pub overwrite : {A : Type 0} → List A → List A → List A
 overwrite new old = new ++ drop (length new) old
 
 -- a list with elements written from index a on
-unfoldable pub pasted : ℕ → List ℕ → List ℕ → List ℕ
+unfoldable pub pasted : {A : Type 0} → ℕ → List A → List A → List A
 pasted a new old = take a old ++ overwrite new (drop a old)
 
 -- elements written to an index, and the index after them: what private functions of the repair and of the comparison promise

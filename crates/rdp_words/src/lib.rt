@@ -10,24 +10,22 @@ pub mod grounds;
 
 pub use grounds::{Answer, Ground, NoGround, Refusal};
 
-// The four bytes from an index on as a number.
-fn half_at(list: &[u8], at: usize) -> u64
-    requires { at + 4 ≤ length list.now }
-    ensures { (result ≡ half_of (drop at list.now)) × (result < 2 ^ 32) }
-{
-    (list[at] as u64) * 0x100_0000
-        + (list[at + 1] as u64) * 0x1_0000
-        + (list[at + 2] as u64) * 0x100
-        + (list[at + 3] as u64)
-}
-
 // The word at a place of a list; 0 where the list has no whole word there.
 pub fn word_at(list: &[u8], place: usize) -> u64
     ensures { result ≡ word_at list.now place }
 {
     if place < list.len() / 8 {
         let at = 8 * place;
-        half_at(list, at) * 0x1_0000_0000 + half_at(list, at + 4)
+        u64::from_be_bytes([
+            list[at],
+            list[at + 1],
+            list[at + 2],
+            list[at + 3],
+            list[at + 4],
+            list[at + 5],
+            list[at + 6],
+            list[at + 7],
+        ])
     } else {
         0
     }
@@ -37,16 +35,7 @@ pub fn word_at(list: &[u8], place: usize) -> u64
 pub fn bytes_of(w: u64) -> [u8; 8]
     ensures { result ≡ bytes_of w }
 {
-    [
-        ((w >> 56) % 0x100) as u8,
-        ((w >> 48) % 0x100) as u8,
-        ((w >> 40) % 0x100) as u8,
-        ((w >> 32) % 0x100) as u8,
-        ((w >> 24) % 0x100) as u8,
-        ((w >> 16) % 0x100) as u8,
-        ((w >> 8) % 0x100) as u8,
-        (w % 0x100) as u8,
-    ]
+    w.to_be_bytes()
 }
 
 // The number of the command that begins with a word.
@@ -126,15 +115,9 @@ pub fn suffix(list: &[u8]) -> &[u8]
 }
 
 // Copies src to the front of out, as far as both go. Where a caller lends just the part to be written, the compiler sees that nothing is cut.
-pub fn copy(out: &mut [u8], src: &[u8])
+pub fn copy<T: Copy>(out: &mut [T], src: &[T])
     ensures { out.new ≡ overwrite (take (length out.old) src.now) out.old }
 {
-    let mut i: usize = 0;
-    while i < src.len() {
-        if out.len() <= i {
-            return;
-        }
-        out[i] = src[i];
-        i += 1;
-    }
+    let both = out.len().min(src.len());
+    out[..both].copy_from_slice(&src[..both]);
 }
