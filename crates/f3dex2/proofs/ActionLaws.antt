@@ -21,7 +21,7 @@ module _ (go : List ℕ → ℕ → Setting → Walked) (returns : List ℕ) (at
   abbrev role_step : Role → ℕ → ℕ → Walked
   role_step k n w = judged (cond (not (named k)) 22 (cond (invalid k (length returns) n w) 23 0)) at w (runs_role go returns at s w k)
 
-  role-is : (k : Role) (n w : ℕ) → role_step k n w ≡ perform go returns at w s (role_action k s n w)
+  role-is : (k : Role) (n w : ℕ) → role_step k n w ≡ perform go returns at w s (role_action k s (length returns) n w)
   role-is straight n w = by-test (between 0xFD 0xFF n && far w) (λ t. rw t) (λ f. rw f)
   role-is rectangle n w = refl
   role-is modes n w = by-test (inside w) (λ t. rw t) (λ f. rw f)
@@ -34,7 +34,8 @@ module _ (go : List ℕ → ℕ → Setting → Walked) (returns : List ℕ) (at
   role-is unnamed n w = refl
 
   step_is : (due : Due) (w : ℕ) →
-      judged (word_refusal due (length returns) (first_byte w) w) at w (runs go returns at s w due) ≡ perform go returns at w s (action_by due s (first_byte w) w)
+      judged (word_refusal due (length returns) (first_byte w) w) at w (runs go returns at s w due) ≡
+      perform go returns at w s (action_by due s (length returns) (first_byte w) w)
   step_is Command w = role-is (role_of (first_byte w)) (first_byte w) w
   step_is FirstHalf w = by-test (eqb (first_byte w) 0xE1) (λ t. rw t) (λ f. rw f)
   step_is (SecondHalf first) w = by-test (eqb (first_byte w) 0xF1) (λ t. rw t) (λ f. rw f)
@@ -43,7 +44,7 @@ module _ (go : List ℕ → ℕ → Setting → Walked) (returns : List ℕ) (at
 pub stepped :
     (memory : List ℕ) (at left : ℕ) (returns : List ℕ) (s : Setting) → readable memory at ≡ true →
     walk memory (suc left) returns at s ≡
-    perform (walk memory left) returns at (word_at memory (at / 8)) (setting_after s (word_at memory (at / 8))) (action_of s (word_at memory (at / 8)))
+    perform (walk memory left) returns at (word_at memory (at / 8)) (setting_after s (word_at memory (at / 8))) (action_of s (length returns) (word_at memory (at / 8)))
 unfolding walk action_of
 stepped memory at left returns s e =
     let w = word_at memory (at / 8) in

@@ -17,7 +17,7 @@ use Rattle.f3dex2.specs.Translate.{walked, translated_of, translate_answer}
 use Rattle.f3dex2.specs.declared.Due.{Due}
 use Rattle.f3dex2.specs.declared.Due.TheVariants.{Command, FirstHalf, SecondHalf}
 use Rattle.f3dex2.specs.declared.Setting.{Setting}
-use Rattle.f3dex2.specs.declared.Translated.{Translated}
+use Rattle.f3dex2.specs.Translate.{Translated}
 use Rattle.f3dex2.proofs.RefusalLaws.{not-false, Sane, read-there, sane-there, refusal-most}
 
 -- no number of a list is above m

@@ -2,6 +2,7 @@ pub mod ActionLaws
 pub mod StepLaws
 pub mod RunLaws
 pub mod MaskLaws
+mod GroundLaws
 pub mod TranslateLaws
 pub mod RefusalLaws
 pub mod BoundLaws

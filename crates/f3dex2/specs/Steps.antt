@@ -1,69 +1,72 @@
 -- What private functions carry and promise: what a command does as one value, and what running a list and running a command leave still to come. No public
 -- contract cites this.
-use Rattle.std.specs.Prelude.{ℕ, suc, ◌+◌, ◌-◌, ◌*◌, ◌≤◌, ◌<◌, cond, ◌&&◌, ◌≡◌, List, [], ◌∷◌, eqb, leb, length}
+use Rattle.std.specs.Prelude.{ℕ, suc, ◌+◌, ◌-◌, ◌*◌, ◌≤◌, ◌<◌, cond, ◌&&◌, ◌≡◌, Option, Some, None, Result, Ok, Err, List, [], ◌∷◌, eqb, leb, length}
 use Rattle.rdp_words.specs.Words.{bytes_of, pasted}
 use Rattle.rdp_words.specs.Kinds.{between}
+use Rattle.rdp_words.specs.Grounds.{number_of}
+use Rattle.rdp_words.specs.declared.grounds.Ground.{Ground}
+use Rattle.rdp_words.specs.declared.grounds.Ground.TheVariants.{NoCommand, TooManyCommands, Unknown, Invalid}
 use Rattle.f3dex2.specs.Commands.{first_byte, low_half, Role, straight, rectangle, modes, list, end, unnamed, role_of, command_word, second_word, modes_word, inside, setting_after, setting_first, parameter, far, calls}
 use Rattle.f3dex2.specs.Walk.{Walked, stopped, counted, written, readable, resumed, walk}
 use Rattle.f3dex2.specs.declared.Due.{Due}
 use Rattle.f3dex2.specs.declared.Due.TheVariants.{Command, FirstHalf, SecondHalf}
 use Rattle.f3dex2.specs.declared.Setting.{Setting}
 use Rattle.f3dex2.specs.declared.Action.{Action}
-use Rattle.f3dex2.specs.declared.Action.TheVariants.{Unknown, Invalid, Write, Pass, Call, Branch, End}
+use Rattle.f3dex2.specs.declared.Action.TheVariants.{Write, Pass, Call, Branch, End}
 use Rattle.f3dex2.specs.declared.State.{State}
-use Rattle.f3dex2.specs.declared.Asked.{Asked}
-use Rattle.f3dex2.specs.declared.Asked.TheVariants as asked
-use Rattle.f3dex2.specs.declared.Stepped.{Stepped}
-use Rattle.f3dex2.specs.declared.Stepped.TheVariants as stepped
-use Rattle.f3dex2.specs.declared.Outcome.{Outcome}
-use Rattle.f3dex2.specs.declared.Outcome.TheVariants as outcome
+use Rattle.f3dex2.specs.declared.Refused.{Refused}
+use Rattle.f3dex2.specs.declared.Translated as made
+use Rattle.f3dex2.specs.declared.Untranslated.{Untranslated}
 
--- ---- what a command does
+-- ---- what a command does, or why it is refused
 
 -- two words of the other modes, where no half-word is due
 abbrev pub modes_only : ℕ → ℕ → Setting
 modes_only high low = record { high = high; low = low; due = Command }
 
--- 0xDE, but for how deep a call is
-abbrev pub list_action : ℕ → Action
-list_action w =
-    cond (far w) Invalid
-    (cond (calls w) (Call (low_half w))
-    (cond (eqb (parameter w) 1) (Branch (low_half w)) Invalid))
+-- 0xDE, with so many calls open
+abbrev pub list_action : ℕ → ℕ → Result Action Ground
+list_action depth w =
+    cond (far w) (Err Invalid)
+    (cond (calls w) (cond (leb 8 depth) (Err Invalid) (Ok (Call (low_half w))))
+    (cond (eqb (parameter w) 1) (Ok (Branch (low_half w))) (Err Invalid)))
 
-abbrev pub modes_action : Setting → ℕ → Action
-modes_action s w = cond (inside w) (Write (modes_word s)) Invalid
+abbrev pub modes_action : Setting → ℕ → Result Action Ground
+modes_action s w = cond (inside w) (Ok (Write (modes_word s))) (Err Invalid)
 
-abbrev pub role_action : Role → Setting → ℕ → ℕ → Action
-role_action straight s n w = cond (between 0xFD 0xFF n && far w) Invalid (Write (command_word w))
-role_action rectangle s n w = Write (command_word w)
-role_action modes s n w = modes_action s w
-role_action list s n w = list_action w
-role_action end s n w = End
-role_action unnamed s n w = Unknown
+abbrev pub role_action : Role → Setting → ℕ → ℕ → ℕ → Result Action Ground
+role_action straight s depth n w = cond (between 0xFD 0xFF n && far w) (Err Invalid) (Ok (Write (command_word w)))
+role_action rectangle s depth n w = Ok (Write (command_word w))
+role_action modes s depth n w = modes_action s w
+role_action list s depth n w = list_action depth w
+role_action end s depth n w = Ok End
+role_action unnamed s depth n w = Err Unknown
 
 -- by what is due, with the setting after the command
-abbrev pub action_by : Due → Setting → ℕ → ℕ → Action
-action_by Command s n w = role_action (role_of n) s n w
-action_by FirstHalf s n w = cond (eqb n 0xE1) Pass Unknown
-action_by (SecondHalf first) s n w = cond (eqb n 0xF1) (Write (second_word first w)) Unknown
+abbrev pub action_by : Due → Setting → ℕ → ℕ → ℕ → Result Action Ground
+action_by Command s depth n w = role_action (role_of n) s depth n w
+action_by FirstHalf s depth n w = cond (eqb n 0xE1) (Ok Pass) (Err Unknown)
+action_by (SecondHalf first) s depth n w = cond (eqb n 0xF1) (Ok (Write (second_word first w))) (Err Unknown)
 
-unfoldable pub action_of : Setting → ℕ → Action
-action_of s w = action_by s.due (setting_after s w) (first_byte w) w
+unfoldable pub action_of : Setting → ℕ → ℕ → Result Action Ground
+action_of s depth w = action_by s.due (setting_after s w) depth (first_byte w) w
 
--- the walk from there on; a ninth call deep is refused here
-abbrev pub perform : (List ℕ → ℕ → Setting → Walked) → List ℕ → ℕ → ℕ → Setting → Action → Walked
-perform go returns at w s Unknown = stopped 22 at
-perform go returns at w s Invalid = stopped 23 at
-perform go returns at w s (Write x) = counted w (written x (go returns (at + 8) s))
-perform go returns at w s Pass = counted w (go returns (at + 8) s)
-perform go returns at w s (Call target) = cond (leb 8 (length returns)) (stopped 23 at) (counted w (go ((at + 8) ∷ returns) target s))
-perform go returns at w s (Branch target) = counted w (go returns target s)
-perform go returns at w s End = counted w (resumed go returns s)
+-- the walk from there on, by what the command at an offset does, with the setting after it
+abbrev pub acted : (List ℕ → ℕ → Setting → Walked) → List ℕ → ℕ → Setting → Action → Walked
+acted go returns at s (Write x) = written x (go returns (at + 8) s)
+acted go returns at s Pass = go returns (at + 8) s
+acted go returns at s (Call target) = go ((at + 8) ∷ returns) target s
+acted go returns at s (Branch target) = go returns target s
+acted go returns at s End = resumed go returns s
 
--- 20 or 21, or 0 where a command can be read
-abbrev pub read_refusal : List ℕ → ℕ → ℕ → ℕ
-read_refusal memory at read = cond (readable memory at) (cond (leb 4096 read) 21 0) 20
+-- with the command, or where it is refused
+abbrev pub perform : (List ℕ → ℕ → Setting → Walked) → List ℕ → ℕ → ℕ → Setting → Result Action Ground → Walked
+perform go returns at w s (Ok action) = counted w (acted go returns at s action)
+perform go returns at w s (Err g) = stopped (number_of g) at
+
+-- 20 or 21, where no command can be read
+abbrev pub read_refusal : List ℕ → ℕ → ℕ → Result (Unit {0}) Ground
+read_refusal memory at read = cond (readable memory at) (cond (leb 4096 read) (Err TooManyCommands) (Ok tt)) (Err NoCommand)
 
 -- ---- the output
 
@@ -79,8 +82,10 @@ put_words k (w ∷ ws) out = put_words (suc k) ws (put_word k w out)
 -- ---- how far a walk has come
 
 -- before the first command
-abbrev pub walk_start : State
-walk_start = record { setting = setting_first; read = 0; written = 0 }
+pub record IsStart (s : State) : Type 0 where
+  pub setting : s.setting ≡ setting_first
+  pub read : s.read ≡ 0
+  pub written : s.written ≡ 0
 
 -- a walk that is over, with its output
 pub record Settled : Type 0 where
@@ -107,24 +112,22 @@ settled_on r s out =
 abbrev pub walk_from : List ℕ → List ℕ → ℕ → State → List ℕ → Settled
 walk_from memory returns at s out = settled_on (walk memory (4096 - s.read) returns at s.setting) s out
 
+-- on by what a command does
+abbrev pub walk_by : List ℕ → List ℕ → ℕ → Action → State → List ℕ → Settled
+walk_by memory returns at action s out = settled_on (acted (walk memory (4096 - s.read)) returns at s.setting action) s out
+
 -- on after the end of a list
 abbrev pub walk_back : List ℕ → List ℕ → State → List ℕ → Settled
 walk_back memory returns s out = settled_on (resumed (walk memory (4096 - s.read)) returns s.setting) s out
 
--- the counts are in bounds
-pub record InBounds (s : State) : Type 0 where
-  pub read : s.read ≤ 4096
-  pub written : s.written ≤ s.read
-
 -- a state that comes later
 pub record Later (s t : State) : Type 0 where
-  pub sound : InBounds t
+  pub most : t.read ≤ 4096
   pub more : s.read < t.read
 
--- the walk from an offset, whatever stands on the stack of `depth` offsets to return to, is refused, goes on elsewhere, ends its list, or runs a list first
-pub record Refuses (memory : List ℕ) (at depth : ℕ) (s : State) (before : List ℕ) (number place : ℕ) (t : State) (after : List ℕ) : Type 0 where
-  pub some : number ≡ 0 → ⊥
-  pub same : (returns : List ℕ) → length returns ≡ depth → walk_from memory returns at s before ≡ refused_with number place t after
+-- the walk from an offset, whatever stands on the stack of `depth` offsets to return to, is refused, goes on elsewhere, or ends its list
+pub record Refuses (memory : List ℕ) (at depth : ℕ) (s : State) (before : List ℕ) (r : Refused) (t : State) (after : List ℕ) : Type 0 where
+  pub same : (returns : List ℕ) → length returns ≡ depth → walk_from memory returns at s before ≡ refused_with (number_of r.ground) r.place t after
 
 pub record Goes (memory : List ℕ) (at depth : ℕ) (s : State) (before : List ℕ) (on : ℕ) (t : State) (after : List ℕ) : Type 0 where
   pub later : Later s t
@@ -134,22 +137,41 @@ pub record Ends (memory : List ℕ) (at depth : ℕ) (s : State) (before : List 
   pub later : Later s t
   pub same : (returns : List ℕ) → length returns ≡ depth → walk_from memory returns at s before ≡ walk_back memory returns t after
 
-pub record Runs (memory : List ℕ) (at depth : ℕ) (s : State) (before : List ℕ) (target back : ℕ) (t : State) (after : List ℕ) : Type 0 where
-  pub shallow : depth < 8
-  pub later : Later s t
-  pub same : (returns : List ℕ) → length returns ≡ depth → walk_from memory returns at s before ≡ walk_from memory (back ∷ returns) target t after
+-- the command at an offset is read, or refused
+pub record Reads (memory : List ℕ) (at depth : ℕ) (s : State) (action : Action) (t : State) : Type 0 where
+  pub there : at + 8 ≤ length memory
+  pub most : t.read ≤ 4096
+  pub more : t.read ≡ s.read + 1
+  pub written : t.written ≡ s.written
+  pub same : (returns out : List ℕ) → length returns ≡ depth → walk_from memory returns at s out ≡ walk_by memory returns at action t out
 
-abbrev pub AskedIs : List ℕ → ℕ → ℕ → State → List ℕ → Asked → List ℕ → Type 0
-AskedIs memory at depth s before (asked.Refused number place t) after = Refuses memory at depth s before number place t after
-AskedIs memory at depth s before (asked.Next on t) after = Goes memory at depth s before on t after
-AskedIs memory at depth s before (asked.Ended t) after = Ends memory at depth s before t after
-AskedIs memory at depth s before (asked.Run target back t) after = Runs memory at depth s before target back t after
+pub record Stays (memory : List ℕ) (at depth : ℕ) (s : State) (g : Ground) (t : State) : Type 0 where
+  pub same : (returns out : List ℕ) → length returns ≡ depth → walk_from memory returns at s out ≡ refused_with (number_of g) at t out
 
-abbrev pub StepIs : List ℕ → ℕ → ℕ → State → List ℕ → Stepped → List ℕ → Type 0
-StepIs memory at depth s before (stepped.Refused number place t) after = Refuses memory at depth s before number place t after
-StepIs memory at depth s before (stepped.Next on t) after = Goes memory at depth s before on t after
-StepIs memory at depth s before (stepped.Ended t) after = Ends memory at depth s before t after
+abbrev pub ReadIs : List ℕ → ℕ → ℕ → State → Result Action Ground → State → Type 0
+ReadIs memory at depth s (Ok action) t = Reads memory at depth s action t
+ReadIs memory at depth s (Err g) t = Stays memory at depth s g t
 
-abbrev pub ListIs : List ℕ → ℕ → ℕ → State → List ℕ → Outcome → List ℕ → Type 0
-ListIs memory at depth s before (outcome.Refused number place t) after = Refuses memory at depth s before number place t after
-ListIs memory at depth s before (outcome.Returned t) after = Ends memory at depth s before t after
+abbrev pub StepIs : List ℕ → ℕ → ℕ → State → List ℕ → Result (Option ℕ) Refused → State → List ℕ → Type 0
+StepIs memory at depth s before (Ok (Some on)) t after = Goes memory at depth s before on t after
+StepIs memory at depth s before (Ok None) t after = Ends memory at depth s before t after
+StepIs memory at depth s before (Err r) t after = Refuses memory at depth s before r t after
+
+abbrev pub ListIs : List ℕ → ℕ → ℕ → State → List ℕ → Result (Unit {0}) Refused → State → List ℕ → Type 0
+ListIs memory at depth s before (Ok _) t after = Ends memory at depth s before t after
+ListIs memory at depth s before (Err r) t after = Refuses memory at depth s before r t after
+
+-- the whole walk comes to its end, or is refused
+pub record Finished (r : Walked) (t : made.Translated) : Type 0 where
+  pub number : r.number ≡ 0
+  pub words : length r.words ≡ t.words
+  pub read : length r.commands ≡ t.read
+
+pub record Cut (r : Walked) (u : Untranslated) : Type 0 where
+  pub number : r.number ≡ number_of u.ground
+  pub place : r.place ≡ u.place
+  pub read : length r.commands ≡ u.read
+
+abbrev pub WalkIs : Walked → Result made.Translated Untranslated → Type 0
+WalkIs r (Ok t) = Finished r t
+WalkIs r (Err u) = Cut r u

@@ -1,9 +1,23 @@
 -- Document 02, #108: what `translate` answers and leaves.
-use Rattle.std.specs.Prelude.{ℕ, ◌*◌, cond, List, [], eqb, leb, length}
+use Rattle.std.specs.Prelude.{ℕ, ◌*◌, cond, Result, Ok, Err, List, [], eqb, leb, length}
 use Rattle.rdp_words.specs.Words.{bytes_of_words, overwrite}
+use Rattle.rdp_words.specs.Grounds.{number_of}
 use Rattle.f3dex2.specs.Commands.{setting_first}
 use Rattle.f3dex2.specs.Walk.{Walked, walk}
-use Rattle.f3dex2.specs.declared.Translated.{Translated}
+use Rattle.f3dex2.specs.declared.Translated as made
+use Rattle.f3dex2.specs.declared.Untranslated.{Untranslated}
+
+-- the number of the refusal or 0, its place, and the display list commands read. The place is the offset of the refused command; at 14 the words needed, at
+-- 0 the words written
+pub record Translated : Type 0 where
+  pub number : ℕ
+  pub place : ℕ
+  pub read : ℕ
+
+-- what a result says in these numbers
+abbrev pub told : Result made.Translated Untranslated → Translated
+told (Ok t) = record { number = 0; place = t.words; read = t.read }
+told (Err u) = record { number = number_of u.ground; place = u.place; read = u.read }
 
 -- "From a lent memory and a start offset"; "At most 4,096 display list commands are read"
 abbrev pub walked : List ℕ → ℕ → Walked

@@ -4,6 +4,7 @@ ghost use Rattle.f3dex2.specs.Commands.{first_byte, low_half, role_of, count_in,
 ghost use Rattle.f3dex2.specs.Steps.{modes_only, list_action, modes_action, role_action, action_by};
 
 use crate::*;
+use rdp_words::Ground;
 
 // x & ~(((1 << count) - 1) << shift) | bits
 fn mask_in(x: u32, shift: u64, count: u64, bits: u32) -> u32
@@ -36,15 +37,17 @@ fn top_in(w: u64) -> u64
 }
 
 // A word of the other modes, changed by 0xE2 or 0xE3.
+#[tactic(auto, unfolding(crate::specs::Commands::modified))]
 fn modify(x: u32, w: u64) -> u32
     ensures { result ≡ modified x w }
 {
     let count = count_in(w);
     let top = top_in(w);
     if top <= 32 {
-        return mask_in(x, 32 - top, count, low_half(w));
+        mask_in(x, 32 - top, count, low_half(w))
+    } else {
+        x
     }
-    x
 }
 
 // The two words of the other modes, where no half-word is due.
@@ -62,58 +65,46 @@ fn modes(high: u32, low: u32) -> Setting
 fn after_command(s: Setting, w: u64) -> Setting
     ensures { result ≡ setting_by Due.Command s (first_byte w) w }
 {
-    let number = w >> 56;
-    if number == 0xEF {
-        return modes(((w >> 32) % 0x100_0000) as u32, low_half(w));
-    }
-    if number == 0xE3 {
-        return modes(modify(s.high, w), s.low);
-    }
-    if number == 0xE2 {
-        return modes(s.high, modify(s.low, w));
-    }
-    if (0xE4 <= number) & (number <= 0xE5) {
-        return Setting {
-            high: s.high,
-            low: s.low,
+    match w >> 56 {
+        0xEF => modes(((w >> 32) % 0x100_0000) as u32, low_half(w)),
+        0xE3 => modes(modify(s.high, w), s.low),
+        0xE2 => modes(s.high, modify(s.low, w)),
+        0xE4..=0xE5 => Setting {
             due: Due::FirstHalf,
-        };
+            ..s
+        },
+        _ => modes(s.high, s.low),
     }
-    modes(s.high, s.low)
 }
 
 // The setting after a command that is not refused.
+#[tactic(auto, unfolding(crate::specs::Commands::setting_after))]
 pub fn setting_after(s: Setting, w: u64) -> Setting
     ensures { result ≡ setting_after s w }
 {
-    let due = s.due;
-    match due {
+    match s.due {
         Due::Command => after_command(s, w),
         Due::FirstHalf => Setting {
-            high: s.high,
-            low: s.low,
             due: Due::SecondHalf(low_half(w)),
+            ..s
         },
         Due::SecondHalf(_) => modes(s.high, s.low),
     }
 }
 
-// 0xDE calls a list or goes to it.
-fn list_action(w: u64) -> Action
-    ensures { result ≡ list_action w }
+// 0xDE calls a list or goes to it, with `depth` calls open.
+fn list_action(depth: usize, w: u64) -> Result<Action, Ground>
+    ensures { result ≡ list_action depth w }
 {
     let address = low_half(w) as usize;
-    let parameter = (w >> 48) % 256;
     if (w >> 24) % 256 != 0 {
-        return Action::Invalid;
+        return Err(Ground::Invalid);
     }
-    if parameter == 0 {
-        return Action::Call(address);
+    match (w >> 48) % 256 {
+        0 if depth < 8 => Ok(Action::Call(address)),
+        1 => Ok(Action::Branch(address)),
+        _ => Err(Ground::Invalid),
     }
-    if parameter == 1 {
-        return Action::Branch(address);
-    }
-    Action::Invalid
 }
 
 // Set Other Modes of the whole setting.
@@ -124,61 +115,46 @@ fn modes_word(s: Setting) -> u64
 }
 
 // 0xE2 and 0xE3 write the setting after them.
-fn modes_action(after: Setting, w: u64) -> Action
+fn modes_action(after: Setting, w: u64) -> Result<Action, Ground>
     ensures { result ≡ modes_action after w }
 {
-    let top = top_in(w);
-    if 32 < top {
-        return Action::Invalid;
+    if top_in(w) <= 32 {
+        Ok(Action::Write(modes_word(after)))
+    } else {
+        Err(Ground::Invalid)
     }
-    Action::Write(modes_word(after))
 }
 
-// What a command does, where no half-word is due; `after` is the setting after it.
-fn command_action(after: Setting, w: u64) -> Action
-    ensures { result ≡ role_action (role_of (first_byte w)) after (first_byte w) w }
+// What a command does, where no half-word is due, with `depth` calls open; `after` is the setting after it.
+#[tactic(auto, unfolding(crate::specs::Commands::role_of))]
+fn command_action(after: Setting, depth: usize, w: u64) -> Result<Action, Ground>
+    ensures { result ≡ role_action (role_of (first_byte w)) after depth (first_byte w) w }
 {
     let number = w >> 56;
-    let kept = w % 0x4000_0000_0000_0000;
-    if ((0xE6 <= number) & (number <= 0xF0)) | ((0xF2 <= number) & (number <= 0xFF)) {
-        if ((0xFD <= number) & (number <= 0xFF)) & ((w >> 24) % 256 != 0) {
-            return Action::Invalid;
+    if matches!(number, 0xE4..=0xF0 | 0xF2..=0xFF) {
+        if number >= 0xFD && (w >> 24) % 256 != 0 {
+            return Err(Ground::Invalid);
         }
-        return Action::Write(kept);
+        return Ok(Action::Write(w % 0x4000_0000_0000_0000));
     }
-    if (0xE4 <= number) & (number <= 0xE5) {
-        return Action::Write(kept);
+    match number {
+        0xE2..=0xE3 => modes_action(after, w),
+        0xDE => list_action(depth, w),
+        0xDF => Ok(Action::End),
+        _ => Err(Ground::Unknown),
     }
-    if (0xE2 <= number) & (number <= 0xE3) {
-        return modes_action(after, w);
-    }
-    if number == 0xDE {
-        return list_action(w);
-    }
-    if number == 0xDF {
-        return Action::End;
-    }
-    Action::Unknown
 }
 
-// What a command does, by what is due before it and by its word; `after` is the setting after it.
-pub fn action_for(due: Due, after: Setting, w: u64) -> Action
-    ensures { result ≡ action_by due after (first_byte w) w }
+// What a command does, by what is due before it and by its word, with `depth` calls open; `after` is the setting after it.
+pub fn action_for(due: Due, after: Setting, depth: usize, w: u64) -> Result<Action, Ground>
+    ensures { result ≡ action_by due after depth (first_byte w) w }
 {
-    let number = w >> 56;
-    match due {
-        Due::Command => command_action(after, w),
-        Due::FirstHalf => {
-            if number == 0xE1 {
-                return Action::Pass;
-            }
-            Action::Unknown
-        }
-        Due::SecondHalf(half) => {
-            if number == 0xF1 {
-                return Action::Write(half as u64 * 0x1_0000_0000 + low_half(w) as u64);
-            }
-            Action::Unknown
-        }
+    match (due, w >> 56) {
+        (Due::Command, _) => command_action(after, depth, w),
+        (Due::FirstHalf, 0xE1) => Ok(Action::Pass),
+        (Due::SecondHalf(half), 0xF1) => Ok(Action::Write(
+            half as u64 * 0x1_0000_0000 + low_half(w) as u64,
+        )),
+        _ => Err(Ground::Unknown),
     }
 }

@@ -10,6 +10,6 @@ pub fn put(out: &mut [u8], k: usize, w: u64)
         let bytes = rdp_words::bytes_of(w);
         let at = 8 * k;
         let end = at + 8;
-        rdp_words::copy(&mut out[at..end], &bytes);
+        out[at..end].copy_from_slice(&bytes);
     }
 }

@@ -1,31 +1,27 @@
 -- `f3dex2::translate` meets its contract: the first walk counts, and the second writes where there is room for all.
-use native.Mathlib.Omega.{arith}
-use lib.ListN.{length}
-use Rattle.f3dex2.proofs.TranslateLaws.{start-sound, refused-answer, refused-out, short-answer, short-out, full-answer, full-out}
+use Rattle.std.proofs.Common.{arith, length}
+use Rattle.std.proofs.lemmas.Result.{err_from_is_err_and}
+use Rattle.f3dex2.proofs.TranslateLaws.{refused-answer, refused-out, short-answer, short-out, full-answer, full-out}
 use Rattle.f3dex2.proofs.translate.Goals as goal
 
-pub run_list-counted-requires : goal.run_list-counted-requires
-run_list-counted-requires c =
-    rw c.fresh.ensures (start-sound, omega arith)
+pub returns-in_err-counted-clause-answer : goal.returns-in_err-counted-clause-answer
+returns-in_err-counted-clause-answer c =
+    let p = err_from_is_err_and c.from_residual.result c.from_residual.ensures.1 in
+    rw (p.1, p.2) (refused-answer c.in_err-counted.ensures.answer (length c.args.out.now))
 
-pub returns-then-out-words : goal.returns-then-out-words
-returns-then-out-words c =
-    let list = (rw (c.fresh.ensures, c.in-Returned.is) at c.run_list-counted.ensures) in
-    let given = c.args in
-    record { answer = short-answer given.memory.now given.start list given.out.now (omega arith); output = short-out given.memory.now given.start list given.out.now (omega arith) }
+pub returns-in_err-counted-clause-output : goal.returns-in_err-counted-clause-output
+returns-in_err-counted-clause-output c = refused-out c.in_err-counted.ensures.answer c.args.out.now
 
-pub run_list-requires : goal.run_list-requires
-run_list-requires c =
-    rw c.fresh-in-Returned.ensures (start-sound, omega arith)
+pub returns-then-out-needed-clause-answer : goal.returns-then-out-needed-clause-answer
+returns-then-out-needed-clause-answer c = short-answer c.in_ok-counted.ensures.answer c.args.out.now (omega (arith, c.if-out-needed.true))
 
-pub returns-in-Refused : goal.returns-in-Refused
-returns-in-Refused c =
-    let list = (rw (c.fresh.ensures, c.in-Refused.is) at c.run_list-counted.ensures) in
-    let given = c.args in
-    record { answer = refused-answer given.memory.now given.start list (length given.out.now); output = refused-out given.memory.now given.start list given.out.now }
+pub returns-then-out-needed-clause-output : goal.returns-then-out-needed-clause-output
+returns-then-out-needed-clause-output c = short-out c.in_ok-counted.ensures.answer c.args.out.now (omega (arith, c.if-out-needed.true))
 
-pub returns-else-out-words : goal.returns-else-out-words
-returns-else-out-words c =
-    let list = (rw (c.fresh.ensures, c.in-Returned.is) at c.run_list-counted.ensures) in
-    let again = rw c.fresh-in-Returned.ensures at c.run_list.ensures in
-    let given = c.args in record { answer = full-answer given.memory.now given.start list given.out.now (omega (arith, c.if-out-words.false)); output = full-out given.memory.now given.start list given.out.now (omega (arith, c.if-out-words.false)) c.run_list.result c.run_list.new.out again }
+pub returns-clause-answer : goal.returns-clause-answer
+returns-clause-answer c =
+    full-answer c.in_ok-counted.ensures.answer c.args.out.now (omega (arith, c.if-out-needed.false)) c.walk-2.result c.walk-2.ensures.answer
+
+pub returns-clause-output : goal.returns-clause-output
+returns-clause-output c =
+    full-out c.in_ok-counted.ensures.answer c.args.out.now (omega (arith, c.if-out-needed.false)) c.walk-2.ensures.output
