@@ -152,7 +152,7 @@ module _ (file c : List ℕ) (there : whole_words c ≡ 0 → ⊥) where
 
   -- ---- a draw, where v is the second word of a texture rectangle
   module _ (v : ℕ) (is-v : n ≡ 0x24 → v ≡ word_at c 1) where
-    others : (x : Command) → decoded c there ≡ x → act_of r x ≡ other_draw r.images.color.image → (n ≡ 0x36 → ⊥) → (n ≡ 0x24 → ⊥) → (n ≡ 0x34 → ⊥) →
+    others : (x : Command) → decoded c there ≡ x → act_of r x ≡ other_draw r.images.color.value → (n ≡ 0x36 → ⊥) → (n ≡ 0x24 → ⊥) → (n ≡ 0x34 → ⊥) →
         (n ≡ 0x30 → ⊥) → (n ≡ 0x33 → ⊥) → act_of r (decoded c there) ≡ act_by file n w v
     others x e q h i j k l = ap (act_of r) e ∙ q ∙ ap other_draw reads.image ∙ sym (other-by file n w v h i j k l)
 

@@ -51,25 +51,25 @@ pub data Act : Type 0 where
 abbrev pub fill_of : Registers → Rectangle → FillFields
 fill_of r g =
     record {
-      cycle_type = r.modes.other.modes.cycle_type;
+      cycle_type = r.modes.other.value.cycle_type;
       rectangle = g;
-      scissor = r.modes.scissor.scissor;
-      image = r.images.color.image;
-      color = r.colors.fill.color;
+      scissor = r.modes.scissor.value;
+      image = r.images.color.value;
+      color = r.colors.fill.value;
     }
 
 abbrev pub copy_of : Registers → TexturedRectangle → CopyFields
 copy_of r g =
-    let modes = r.modes.other.modes in
+    let modes = r.modes.other.value in
     let tile = tile_of r.tiles g.tile in
     record {
       cycle_type = modes.cycle_type;
       rectangle = g;
-      tile_set = tile.set;
-      tile = tile.descriptor;
-      tile_corner = tile.upper_left;
-      scissor = r.modes.scissor.scissor;
-      image = r.images.color.image;
+      tile_set = tile.descriptor.set;
+      tile = tile.descriptor.value;
+      tile_corner = tile.size.value.upper_left;
+      scissor = r.modes.scissor.value;
+      image = r.images.color.value;
       perspective = modes.texture.persp_tex_en;
       lookup = modes.texture.tlut_en;
       alpha_compare = modes.pixel.alpha_compare_en;
@@ -80,9 +80,9 @@ load_of r g =
     let tile = tile_of r.tiles g.tile in
     record {
       image_set = r.images.texture.set;
-      image = r.images.texture.image;
-      tile_set = tile.set;
-      tile = tile.descriptor;
+      image = r.images.texture.value;
+      tile_set = tile.descriptor.set;
+      tile = tile.descriptor.value;
       area = g;
     }
 
@@ -101,9 +101,9 @@ copy_act c = cond (eqb c.cycle_type 2) (copying c) (other_draw c.image)
 -- a command with the registers before it
 unfoldable pub act_of : Registers → Command → Act
 act_of r (NoOperation g) = nothing
-act_of r (FillTriangle g) = other_draw r.images.color.image
+act_of r (FillTriangle g) = other_draw r.images.color.value
 act_of r (TextureRectangle g) = copy_act (copy_of r g)
-act_of r (TextureRectangleFlip g) = other_draw r.images.color.image
+act_of r (TextureRectangleFlip g) = other_draw r.images.color.value
 act_of r SyncLoad = nothing
 act_of r SyncPipe = nothing
 act_of r SyncTile = nothing
