@@ -317,6 +317,7 @@ pub struct LoadWords {
 }
 
 // A Load Tile or a Load Block with what it is done under; a register is set where its word is not 0. The dxt of a Load Block stands as lower right t.
+// Flags beside the fields and no Option: `load_tile` and `load_block` promise their answer for any fields beside a flag that is false.
 #[repr(C)]
 #[derive(Clone, Copy)]
 pub struct LoadFields {
@@ -339,7 +340,8 @@ pub struct CopyWords {
     pub size: u64,
 }
 
-// A texture rectangle with what it is drawn under in COPY mode: of its tile, whether the descriptor is set, and the upper left corner.
+// A texture rectangle with what it is drawn under in COPY mode: of its tile, whether the descriptor is set, and the upper left corner. A flag and no Option:
+// `copy_rectangle` promises its answer for any descriptor beside a flag that is false.
 #[repr(C)]
 #[derive(Clone, Copy)]
 pub struct CopyFields {
