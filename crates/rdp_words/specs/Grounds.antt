@@ -37,7 +37,7 @@ number_of Damaged = 28
 
 -- a number that no ground has
 abbrev pub IsNoGround : ℕ → Type 0
-IsNoGround number = (ground : Ground) → number_of ground ≢ number
+IsNoGround number = (g : Ground) → number_of g ≢ number
 
 -- a number and a place: 0 where nothing is refused
 pub record Answer : Type 0 where

@@ -89,7 +89,7 @@ pub struct NoGround;
 impl TryFrom<u32> for Ground {
     type Error = NoGround;
 
-    ghost try_from_gives = { λ number result. MatchResult result (λ ground. number_of ground ≡ number) (λ _. IsNoGround number) };
+    ghost try_from_gives = { λ number result. MatchResult result (λ g. number_of g ≡ number) (λ _. IsNoGround number) };
 
     fn try_from(number: u32) -> Result<Ground, NoGround> {
         Ok(match number {
