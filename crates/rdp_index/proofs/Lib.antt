@@ -7,4 +7,3 @@ pub mod StartLaws
 pub mod ReplaceLaws
 pub mod RenewLaws
 pub mod IndexLaws
-pub mod GroundLaws

@@ -19,7 +19,7 @@ use Rattle.rdp_repair.specs.Best.{command_numbers, repaired_bytes, least_cycles}
 use Rattle.rdp_repair.specs.Repair.{RepairIs}
 use Rattle.rdp_repair.specs.Afresh.{AfreshIs}
 use Rattle.rdp_repair.specs.Work.{basis_of, answered_by}
-use Rattle.rdp_repair.specs.declared.Repaired.{Repaired}
+use Rattle.rdp_repair.specs.Repair.{Repaired}
 use Rattle.rdp_repair.proofs.BackLaws.{best-most}
 use Rattle.rdp_repair.proofs.RoomLaws.{judged, roomed, repair-refused, repair-roomed}
 use Rattle.rdp_repair.proofs.RepairedLaws.{sound, count_most, repaired-most}

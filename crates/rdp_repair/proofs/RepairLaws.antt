@@ -14,11 +14,11 @@ use Rattle.rdp_check.specs.Commands.{commands_of, rest_of, joined}
 use Rattle.rdp_check.specs.Check.{State, own_refusals, repair_refusals, checked}
 use Rattle.rdp_repair.specs.Plan.{applied}
 use Rattle.rdp_repair.specs.Best.{best, plan, repaired_bytes, least_cycles}
-use Rattle.rdp_repair.specs.Work.{basis_of, noted_number, noted_of, kept_words_in, kept_of, kept_all, noted_in, work_of, options_in, inserts_of, Below, due_bytes, WholeList, NotedIs, BackwardIs, answered_by, Repairs}
+use Rattle.rdp_repair.specs.Work.{basis_of, noted_number, noted_of, kept_words_in, kept_of, kept_all, noted_in, work_of, options_in, inserts_of, Below, due_bytes, NotedIs, BackwardIs, answered_by, Repairs}
 use Rattle.rdp_repair.specs.Repair.{LeastRepair, Repairable, repair_answer, repair_of, out_after, work_after, RepairsBy, RepairIs}
 use Rattle.rdp_repair.specs.Afresh.{without, LeastAfresh, AfreshIs}
 use Rattle.rdp_check.specs.Check.{Checked}
-use Rattle.rdp_repair.specs.declared.Repaired.{Repaired}
+use Rattle.rdp_repair.specs.Repair.{Repaired}
 use Rattle.rdp_repair.specs.declared.repairing.Noted.{Noted}
 use Rattle.rdp_words.proofs.Tests.{by-test, false_of}
 use Rattle.rdp_words.proofs.PlaceLaws.{number_small}
@@ -27,7 +27,8 @@ use Rattle.rdp_repair.proofs.ForwardLaws.{options-plan, work-below}
 use Rattle.rdp_check.proofs.JoinLaws.{words_inside}
 use Rattle.rdp_check.proofs.OrderLaws.{all_give}
 use Rattle.rdp_check.proofs.FirstLaws.{own-numbered, judge-first, outcome-gives}
-use Rattle.rdp_repair.proofs.RepairedLaws.{Sound, sound, count_most, inserts-most, length-repaired, repaired-most, least-repair, least-unique}
+use Rattle.rdp_repair.proofs.PassLaws.{few-commands}
+use Rattle.rdp_repair.proofs.RepairedLaws.{Sound, sound, inserts-most, length-repaired, repaired-most, least-repair, least-unique}
 use Rattle.rdp_repair.proofs.LeastLaws.{length-plan}
 use Rattle.rdp_repair.proofs.AfreshLaws.{least-afresh, afresh-unique}
 use Rattle.rdp_repair.proofs.DropLaws.{noted_small, kept-most, sound-basis, bytes-basis, inserts-basis, long-basis}
@@ -98,39 +99,34 @@ module _ (afresh : Bool) (list work work' : List ℕ) (held : work' ≡ overwrit
       bytes-basis afresh list
 
   pub work-cleared :
-      (count : ℕ) → count ≡ length (commands_of list) → overwrite (replicate (16 * count) 0) work' ≡ overwrite (replicate (16 * length (commands_of list)) 0) work
-  work-cleared count e =
+      (n : ℕ) → n ≡ length (commands_of list) → overwrite (replicate (16 * n) 0) work' ≡ overwrite (replicate (16 * length (commands_of list)) 0) work
+  work-cleared n e =
       let k : ℕ = 16 * length (commands_of list) in
-      ap (λ (n : ℕ). overwrite (replicate (16 * n) 0) work') e ∙
+      ap (λ (m : ℕ). overwrite (replicate (16 * m) 0) work') e ∙
       ap (overwrite (replicate k 0)) held ∙
       overwrite-twice (replicate k 0) (work_of ns) work (length-replicate k 0 ∙ sym (work-long afresh (commands_of list)))
 
 -- ---- a list that none of refusals 1 to 6 and 19 holds for
 
-pub whole-list : (list : List ℕ) (words : ℕ) → (judged list).number ≡ 0 → words ≡ length list / 8 → WholeList list words
-whole-list list words e w =
-    let s = sound repair_refusals own-numbered list e in
-    record { long = omega (arith, s.words); few = omega (arith, s.short); none = s.none }
+pub list-short : (list : List ℕ) → (judged list).number ≡ 0 → length list ≤ 16384
+list-short list e = (sound repair_refusals own-numbered list e).short
 
 pub commands-few : (list : List ℕ) → (judged list).number ≡ 0 → length (commands_of list) ≤ 2048
-commands-few list e = let s = sound repair_refusals own-numbered list e in omega (arith, count_most list s.none, s.short)
+commands-few list e = omega (arith, few-commands list, list-short list e)
 
 -- at most a sync a command, and the words of the list
 pub words-few :
-    (afresh : Bool) (list : List ℕ) (words : ℕ) → WholeList list words →
-    kept_words_in afresh (commands_of list) + inserts_of (plan (noted_of afresh (commands_of list)) 0) ≤ 4096
-words-few afresh list words w =
+    (afresh : Bool) (list : List ℕ) → length list ≤ 16384 → kept_words_in afresh (commands_of list) + inserts_of (plan (noted_of afresh (commands_of list)) 0) ≤ 4096
+words-few afresh list short =
     let p : List ℕ = plan (noted_of afresh (commands_of list)) 0 in
     omega (
       arith,
       inserts-most p,
       length-plan (noted_of afresh (commands_of list)) 0,
       noted-long afresh (commands_of list),
-      count_most list w.none,
+      few-commands list,
       kept-most afresh (commands_of list),
       words_inside list,
-      w.long,
-      w.few,
     )
 
 -- by the words that are kept and those that the plan inserts

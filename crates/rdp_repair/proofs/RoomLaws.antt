@@ -10,7 +10,7 @@ use lib.Dec.{eqb, ltb}
 use lib.ListN.{length}
 use Rattle.rdp_words.specs.Grounds.{Answer}
 use Rattle.rdp_command.specs.Decode.{answer}
-use Rattle.rdp_repair.specs.declared.Repaired.{Repaired}
+use Rattle.rdp_repair.specs.Repair.{Repaired}
 use Rattle.rdp_words.proofs.Tests.{by-test, true_of}
 use Rattle.rdp_check.specs.Commands.{commands_of}
 use Rattle.rdp_check.specs.Order.{Ground, Among}

@@ -1,30 +1,38 @@
 -- An option's word, and what one command adds to the output. Assumes nothing.
-use mathlib.Core.Path.{◌≡◌, refl, sym, ap, ◌∙◌}
+use mathlib.Core.Path.{◌≡◌, refl, ap, ◌∙◌}
+use mir.Val.{bool_byte}
+use Rattle.std.proofs.Common.{Option, Some, None, min}
+use Rattle.std.specs.Option.{is_some}
 use mathlib.Core.List.{List, [], ◌∷◌, ◌++◌}
-use Prim.Native.Nat.{ℕ, zero, suc, pred, ◌+◌, ◌*◌, ◌/◌, ◌%◌, ◌<◌}
-use native.Mathlib.Nat.{not-suc-le-zero}
-use lib.ListN.{length, get_or, drop, replicate}
+use Prim.Native.Nat.{ℕ, zero, suc, ◌+◌, ◌*◌, ◌/◌, ◌%◌}
+use lib.ListN.{length, get_or, drop}
 use Rattle.rdp_check.specs.Commands.{joined}
-use Rattle.rdp_hazards.specs.Syncs.{pipe_sync, sync_number}
+use Rattle.rdp_words.specs.Words.{bare_word}
+use Rattle.rdp_hazards.specs.declared.Sync as declared
+use Rattle.rdp_hazards.specs.declared.Sync.TheVariants.{Load, Tile, Pipe}
+use Rattle.rdp_hazards.specs.Hazards.{code_in}
+use Rattle.rdp_hazards.specs.Syncs.{sync_in, sync_number}
 use Rattle.rdp_repair.specs.Plan.{sync_at, with_option, applied}
 use Rattle.rdp_repair.specs.Work.{options_in, option_bytes}
 use Rattle.rdp_repair.proofs.ForwardLaws.{options-at}
 
-pub sync-other : (a : ℕ) → 0 < a → (a ≡ 1 → ⊥) → (a ≡ 2 → ⊥) → sync_number pipe_sync ≡ sync_number (sync_at (pred a))
-unfolding sync_at
-sync-other zero h x y = absurd (not-suc-le-zero h)
-sync-other (suc zero) h x y = absurd (x refl)
-sync-other (suc (suc zero)) h x y = absurd (y refl)
-sync-other (suc (suc (suc a))) h x y = refl
-
-pub option-none : (a : ℕ) → a ≡ 0 → option_bytes a ≡ []
+-- the bytes of a sync that may be there
+pub sync-none : (s : Option declared.Sync) → s ≡ None → option_bytes (code_in s) ≡ []
 unfolding option_bytes
-option-none a e = ap option_bytes e
+sync-none s e = ap (λ (x : Option declared.Sync). option_bytes (code_in x)) e
 
-pub option-word : (a n : ℕ) → (a ≡ 0 → ⊥) → n ≡ sync_number (sync_at (pred a)) → option_bytes a ≡ n ∷ replicate 7 0
-unfolding option_bytes
-option-word zero n h e = absurd (h refl)
-option-word (suc a) n h e = ap (λ (k : ℕ). k ∷ replicate 7 0) (sym e)
+pub sync-some : (s : Option declared.Sync) (x : declared.Sync) → s ≡ Some x → option_bytes (code_in s) ≡ bare_word (sync_number (sync_in x))
+unfolding option_bytes sync_at
+sync-some s Load e = ap (λ (y : Option declared.Sync). option_bytes (code_in y)) e
+sync-some s Tile e = ap (λ (y : Option declared.Sync). option_bytes (code_in y)) e
+sync-some s Pipe e = ap (λ (y : Option declared.Sync). option_bytes (code_in y)) e
+
+-- how many words it is
+pub sync-counted : (s : Option declared.Sync) → bool_byte (is_some s) ≡ min (code_in s) 1
+sync-counted None = refl
+sync-counted (Some Load) = refl
+sync-counted (Some Tile) = refl
+sync-counted (Some Pipe) = refl
 
 -- ---- a command with its option
 

@@ -8,7 +8,7 @@ use Rattle.rdp_check.specs.Check.{check_refusals, outcome_of}
 use Rattle.rdp_check.specs.Refusals.{Free}
 use Rattle.rdp_repair.specs.Plan.{applied, cycles_of, TiesFirst}
 use Rattle.rdp_repair.specs.Repair.{LeastRepair, RepairsBy}
-use Rattle.rdp_repair.specs.declared.Repaired.{Repaired}
+use Rattle.rdp_repair.specs.Repair.{Repaired}
 
 -- ---- the commands that remain
 

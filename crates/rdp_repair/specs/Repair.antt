@@ -1,7 +1,8 @@
 -- Document 01, "Repair" and refusals 1 to 6, 19, 13, 14: what a least repair is, what the repair answers and what it writes.
-use Rattle.std.specs.Prelude.{ℕ, ◌*◌, ◌/◌, ◌<◌, ◌≤◌, cond, ◌||◌, List, [], ◌∷◌, ◌++◌, ◌≡◌, eqb, ltb, length, take, replicate}
+use Rattle.std.specs.Prelude.{ℕ, ◌*◌, ◌/◌, ◌<◌, ◌≤◌, cond, ◌||◌, List, [], ◌∷◌, ◌++◌, Result, Ok, Err, ◌≡◌, eqb, ltb, length, take, replicate}
 use Rattle.rdp_words.specs.Words.{overwrite}
-use Rattle.rdp_words.specs.Grounds.{Answer}
+use Rattle.rdp_words.specs.declared.grounds.Refusal.{Refusal}
+use Rattle.rdp_words.specs.Grounds.{number_of, Answer}
 use Rattle.rdp_command.specs.Decode.{answer}
 use Rattle.rdp_check.specs.Order.{Ground, ground, first_of, IsFirst}
 use Rattle.rdp_check.specs.Commands.{commands_of, joined}
@@ -9,7 +10,7 @@ use Rattle.rdp_check.specs.Check.{check_refusals, repair_refusals, outcome_of}
 use Rattle.rdp_check.specs.Refusals.{Holds, Free, grounds_of}
 use Rattle.rdp_repair.specs.Inserted.{MadeByInserting}
 use Rattle.rdp_repair.specs.Plan.{applied, cycles_of, TiesFirst}
-use Rattle.rdp_repair.specs.declared.Repaired.{Repaired}
+use Rattle.rdp_repair.specs.declared.Repaired as declared
 
 -- ---- the least repair of a list
 
@@ -55,8 +56,19 @@ buffer_grounds list bytes work out =
 abbrev pub repair_grounds : List ℕ → ℕ → ℕ → ℕ → List (Ground Answer)
 repair_grounds list bytes work out = grounds_of 2048 repair_refusals list ++ buffer_grounds list bytes work out
 
+-- an answer in the papers' numbers: that of the first refusal, 0 where the list is repaired; its place, or the words written; and the cycles, 0 at a refusal
+pub record Repaired : Type 0 where
+  pub number : ℕ
+  pub place : ℕ
+  pub cycles : ℕ
+
 abbrev pub repair_answer : ℕ → ℕ → ℕ → Repaired
 repair_answer number place cycles = record { number = number; place = place; cycles = cycles }
+
+-- what a repair answers, in these numbers
+abbrev pub told : Result declared.Repaired Refusal → Repaired
+told (Ok repaired) = repair_answer 0 repaired.words repaired.cycles
+told (Err refusal) = repair_answer (number_of refusal.ground) refusal.place 0
 
 -- the answer: the first refusal in that order, with 0 cycles; where none holds, 0, the words of the least repair and its cycles
 unfoldable pub repair_of : List ℕ → ℕ → ℕ → ℕ → ℕ → Repaired

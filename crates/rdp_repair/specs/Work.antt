@@ -4,14 +4,14 @@ use Rattle.rdp_words.specs.Words.{overwrite}
 use Rattle.rdp_words.specs.Kinds.{words_of}
 use Rattle.rdp_words.specs.Lengths.{first_number}
 use Rattle.rdp_hazards.specs.Hazards.{next_of, required_of}
-use Rattle.rdp_check.specs.Commands.{commands_of, rest_of, joined}
+use Rattle.rdp_check.specs.Commands.{commands_of, joined}
 use Rattle.rdp_hazards.specs.Syncs.{sync_word}
 use Rattle.rdp_repair.specs.Plan.{sync_at, wait_of, applied}
 use Rattle.rdp_repair.specs.Best.{Choice, chosen, best, plan, repaired_bytes, least_cycles}
 use Rattle.rdp_check.specs.Check.{repair_refusals, outcome_within}
 use Rattle.rdp_repair.specs.Repair.{repair_of, out_after, work_after}
 use Rattle.rdp_repair.specs.Afresh.{is_forgotten, without}
-use Rattle.rdp_repair.specs.declared.Repaired.{Repaired}
+use Rattle.rdp_repair.specs.Repair.{Repaired}
 use Rattle.rdp_repair.specs.declared.repairing.Noted.{Noted}
 use Rattle.rdp_repair.specs.declared.repairing.Planned.{Planned}
 
@@ -117,12 +117,6 @@ abbrev pub due_bytes : Bool → List ℕ → List ℕ → List ℕ
 due_bytes afresh list work =
     let cs : List (List ℕ) = kept_all afresh (commands_of list) in
     joined (applied (options_in (length cs) work 0) cs)
-
--- a list of whole commands, of so many words
-pub record WholeList (list : List ℕ) (words : ℕ) : Type 0 where
-  pub long : length list ≡ 8 * words
-  pub few : words ≤ 2048
-  pub none : rest_of list ≡ []
 
 -- a row of the backward pass: the totals and choices before command number n, by the totals after it
 pub record RowIs (n : ℕ) (after totals choices : List ℕ) : Type 0 where

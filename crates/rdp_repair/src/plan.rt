@@ -1,7 +1,8 @@
 // One step of the backward pass: the least total and its choice at each of the sixteen hazard states.
 ghost use Rattle.std.specs.Prelude.{◌≡◌, ◌+◌, ◌*◌, ◌/◌, ◌%◌, ◌<◌, min, get_or};
-ghost use Rattle.rdp_hazards.specs.Hazards.{Agrees};
 ghost use Rattle.rdp_repair.specs.Work.{tabulate, bare_rank, synced_rank, Bounded, RowIs};
+
+use rdp_hazards::StepTable;
 
 // What each sync adds to a rank: 64 times the cycles that it waits, and 16 times its option.
 const LOAD: u32 = 64 * rdp_hazards::LOAD_WAIT + 16;
@@ -10,20 +11,19 @@ const TILE: u32 = 64 * rdp_hazards::TILE_WAIT + 32;
 
 const PIPE: u32 = 64 * rdp_hazards::PIPE_WAIT + 48;
 
-// The totals before a command at the sixteen hazard states, and the choices there: 16 times the option, and the next hazards.
+// The totals before a command at the sixteen hazard states, and the choices there: 16 times the option, and the next hazards. Two arrays, since document 01
+// names `[u32; 16]` for the totals, and the choices are the bytes of the work buffer.
 #[derive(Clone, Copy)]
 pub struct Row {
     pub totals: [u32; 16],
     pub choices: [u8; 16],
 }
 
-fn lesser(a: u32, b: u32) -> u32
+// Of two ranks the better one.
+fn better(a: u32, b: u32) -> u32
     ensures { result ≡ min a b }
 {
-    if a <= b {
-        return a;
-    }
-    b
+    a.min(b)
 }
 
 // The rank of a command with nothing before it, by its entry of the table: 64 times the total after it, and the next hazards; more than any other where
@@ -37,18 +37,15 @@ fn bare_rank(after: &[u32; 16], entry: u8) -> u32
 }
 
 // The ranks of a command with nothing before it at the sixteen hazard states.
-fn bare_ranks(table: &[u8; 1024], number: u8, after: &[u32; 16]) -> [u32; 16]
-    requires { Agrees table.now × (number < 64) × Bounded 102400 after.now }
+fn bare_ranks(table: &StepTable, number: u8, after: &[u32; 16]) -> [u32; 16]
+    requires { (number < 64) × Bounded 102400 after.now }
     ensures { result ≡ tabulate 16 (bare_rank number (λ k. get_or after.now k 0)) }
 {
     let mut ranks = [0u32; 16];
-    let mut m: u8 = 0;
-    while m < 16 {
-        let at = number as usize * 16 + m as usize;
-        let entry = table[at];
-        let rank = bare_rank(after, entry);
-        ranks[m as usize] = rank;
-        m += 1;
+    for m in 0..16 {
+        let at = number as usize * 16 + m;
+        let entry = table.entries[at];
+        ranks[m] = bare_rank(after, entry);
     }
     ranks
 }
@@ -60,8 +57,8 @@ fn synced_rank(ranks: &[u32; 16], m: usize) -> u32
     ensures { result ≡ synced_rank (λ k. get_or ranks.now k 0) m }
 {
     let pipe = ranks[0] + PIPE;
-    let tile = lesser(ranks[m % 2] + TILE, pipe);
-    lesser(ranks[m] + LOAD, tile)
+    let tile = better(ranks[m % 2] + TILE, pipe);
+    better(ranks[m] + LOAD, tile)
 }
 
 // The least ranks with a sync, which leaves no hazards but P and T.
@@ -77,20 +74,18 @@ fn synced_ranks(ranks: &[u32; 16]) -> [u32; 4]
 }
 
 // The totals and choices before a command, from the totals after it.
-pub fn row_before(table: &[u8; 1024], number: u8, after: [u32; 16]) -> Row
-    requires { Agrees table.now × (number < 64) × Bounded 102400 after }
+pub fn row_before(table: &StepTable, number: u8, after: [u32; 16]) -> Row
+    requires { (number < 64) × Bounded 102400 after }
     ensures { RowIs number after result.totals result.choices }
 {
     let ranks = bare_ranks(table, number, &after);
     let synced = synced_ranks(&ranks);
     let mut totals = [0u32; 16];
     let mut choices = [0u8; 16];
-    let mut m = 0;
-    while m < 16 {
-        let rank = lesser(ranks[m], synced[m % 4]);
+    for m in 0..16 {
+        let rank = better(ranks[m], synced[m % 4]);
         totals[m] = rank / 64;
         choices[m] = (rank % 64) as u8;
-        m += 1;
     }
     Row { totals, choices }
 }

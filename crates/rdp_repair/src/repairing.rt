@@ -1,33 +1,49 @@
 // The passes of the repair over a list of whole commands: numbers, choices from the back, words to insert, output.
-ghost use Rattle.std.specs.Prelude.{◌++◌, ◌≡◌, pred, ◌+◌, ◌*◌, ◌/◌, ◌<◌, ◌≤◌, min, length, take, drop, replicate};
+ghost use Rattle.std.specs.Prelude.{◌++◌, ◌≡◌, ◌+◌, ◌*◌, ◌<◌, ◌≤◌, min, length, replicate, MatchResult};
+ghost use Rattle.rdp_words.specs.Grounds.{answered};
+ghost use Rattle.rdp_command.specs.Decode.{answer};
 ghost use Rattle.rdp_words.specs.Words.{overwrite, WrittenIs};
-ghost use Rattle.rdp_words.specs.Kinds.{words_of};
 ghost use Rattle.rdp_check.specs.Commands.{commands_of};
-ghost use Rattle.rdp_hazards.specs.Hazards.{Agrees};
+ghost use Rattle.rdp_hazards.specs.Hazards.{code_in};
 ghost use Rattle.rdp_check.specs.Check.{repair_refusals, outcome_within};
-ghost use Rattle.rdp_hazards.specs.Syncs.{sync_number};
-ghost use Rattle.rdp_repair.specs.Plan.{sync_at};
-ghost use Rattle.rdp_repair.specs.Work.{drops, basis_of, noted_number, kept_words, noted_in, options_in, inserts_of, Below, option_bytes, due_bytes, WholeList, NotedIs, BackwardIs, PlannedIs, Repairs};
+ghost use Rattle.rdp_repair.specs.Repair.{told};
+ghost use Rattle.rdp_repair.specs.Work.{drops, basis_of, noted_number, kept_words, kept_of, noted_in, options_in, inserts_of, Below, option_bytes, due_bytes, NotedIs, BackwardIs, PlannedIs, Repairs};
 
+use crate::walk::Commands;
 use crate::{Repaired, plan};
-use rdp_hazards::{SYNC_LOAD, SYNC_PIPE, SYNC_TILE, table};
+use rdp_hazards::{SYNC_LOAD, SYNC_PIPE, SYNC_TILE, StepTable, Sync, table};
+use rdp_words::{Ground, Refusal};
 
 // How many commands a list has.
-pub fn count_commands(list: &[u8], words: usize) -> usize
-    requires { WholeList list.now words }
+fn count_commands(list: &[u8]) -> usize
     ensures { result ≡ length (commands_of list.now) }
 {
-    let mut at: usize = 0;
-    let mut count: usize = 0;
-    while at < words {
-        let number = rdp_words::number_at(list, at);
-        at += rdp_words::words_of(number);
-        count += 1;
-    }
-    count
+    Commands(list).count()
 }
 
-// Whether a repair leaves a command out: the second one its Load, Tile and Pipe syncs.
+// Refuses by 13 where there is room for fewer commands than the list has. It has no more of them than words, so they are counted only where the words
+// do not tell.
+pub fn test_room(list: &[u8], room: usize) -> Result<(), Refusal>
+    requires { length list.now ≤ 16384 }
+    ensures { let count = length (commands_of list.now) in
+        MatchResult result (λ _. count ≤ room) (λ r. (room < count) × (answered (Err r) ≡ answer 13 count)) }
+{
+    let words = list.len() / 8;
+    if words <= room {
+        return Ok(());
+    }
+    let commands = count_commands(list);
+    if room < commands {
+        return Err(Refusal {
+            ground: Ground::WorkTooShort,
+            place: commands as u32,
+        });
+    }
+    Ok(())
+}
+
+// Whether a repair leaves a command out: the second one its Load, Tile and Pipe syncs. The flag is one operand of the test, which an enum would first be
+// turned into.
 fn left_out(afresh: bool, number: u8) -> bool
     ensures { result ≡ drops afresh number }
 {
@@ -45,14 +61,23 @@ fn noted_number(afresh: bool, number: u8) -> u8
 }
 
 // How many of a command's words are kept.
-fn kept_words(afresh: bool, number: u8, words: usize) -> usize
-    requires { words ≡ words_of number }
+fn kept_words(afresh: bool, number: u8) -> usize
     ensures { result ≡ kept_words afresh number }
 {
     if left_out(afresh, number) {
         return 0;
     }
-    words
+    rdp_words::words_of(number)
+}
+
+// What is kept of a command: its bytes, or none of them.
+fn kept(afresh: bool, command: &[u8]) -> &[u8]
+    ensures { result.now ≡ kept_of afresh command.now }
+{
+    if left_out(afresh, rdp_words::number_at(command, 0)) {
+        return &command[..0];
+    }
+    command
 }
 
 // The commands of a list, and the words of those that are kept.
@@ -63,37 +88,29 @@ pub struct Noted {
 }
 
 // Notes the number of each command at the start of its sixteen bytes of work.
-fn note_numbers(list: &[u8], words: usize, work: &mut [u8], afresh: bool) -> Noted
-    requires { WholeList list.now words × (16 * length (commands_of list.now) ≤ length work.old) }
+fn note_numbers(list: &[u8], work: &mut [u8], afresh: bool) -> Noted
+    requires { 16 * length (commands_of list.now) ≤ length work.old }
     ensures { NotedIs afresh list.now work.old result work.new }
 {
-    let mut at: usize = 0;
-    let mut i: usize = 0;
-    let mut kept: usize = 0;
-    while at < words {
-        let number = rdp_words::number_at(list, at);
-        let length = rdp_words::words_of(number);
-        work[16 * i] = noted_number(afresh, number);
-        kept += kept_words(afresh, number, length);
-        at += length;
-        i += 1;
+    let mut commands: usize = 0;
+    let mut words: usize = 0;
+    for command in Commands(list) {
+        let number = rdp_words::number_at(command, 0);
+        work[16 * commands] = noted_number(afresh, number);
+        words += kept_words(afresh, number);
+        commands += 1;
     }
-    Noted {
-        commands: i,
-        words: kept,
-    }
+    Noted { commands, words }
 }
 
 // The backward pass: from the numbers to the choices at each command. The sixteen best totals are carried from command to command. It answers the
 // least cycles.
-fn backward(table: &[u8; 1024], work: &mut [u8], commands: usize) -> u32
-    requires { Agrees table.now × (commands ≤ 2048) × (16 * commands ≤ length work.old) × Below 64 (noted_in work.old commands) commands }
+fn backward(table: &StepTable, work: &mut [u8], commands: usize) -> u32
+    requires { (commands ≤ 2048) × (16 * commands ≤ length work.old) × Below 64 (noted_in work.old commands) commands }
     ensures { BackwardIs commands result work.old work.new }
 {
     let mut totals = [0u32; 16];
-    let mut i = commands;
-    while 0 < i {
-        i -= 1;
+    for i in (0..commands).rev() {
         let at = 16 * i;
         let number = work[at];
         let row = plan::row_before(table, number, totals);
@@ -105,14 +122,16 @@ fn backward(table: &[u8; 1024], work: &mut [u8], commands: usize) -> u32
     totals[0]
 }
 
-// 1 for an option that is a sync, 0 for nothing.
-fn one_word(option: u8) -> usize
-    ensures { result ≡ min option 1 }
+// The sync of a choice's option.
+fn sync_of(option: u8) -> Option<Sync>
+    ensures { option < 4 → code_in result ≡ option }
 {
-    if option == 0 {
-        return 0;
+    match option {
+        0 => None,
+        1 => Some(Sync::Load),
+        2 => Some(Sync::Tile),
+        _ => Some(Sync::Pipe),
     }
-    1
 }
 
 // How many words the plan in the work buffer inserts.
@@ -122,83 +141,54 @@ fn count_inserts(work: &[u8], commands: usize) -> usize
 {
     let mut hazards: u8 = 0;
     let mut count: usize = 0;
-    let mut i: usize = 0;
-    while i < commands {
+    for i in 0..commands {
         let choice = work[16 * i + hazards as usize];
-        count += one_word(choice / 16);
+        let sync = sync_of(choice / 16);
+        count += sync.is_some() as usize;
         hazards = choice % 16;
-        i += 1;
     }
     count
 }
 
-// The command number of an option's sync.
-fn sync_of(option: u8) -> u8
-    requires { 0 < option }
-    ensures { result ≡ sync_number (sync_at (pred option)) }
+// Writes a sync to an index, if there is one, and answers the index after it.
+fn put_sync(sync: Option<Sync>, out: &mut [u8], to: usize) -> usize
+    requires { to + length (option_bytes (code_in sync)) ≤ length out.old }
+    ensures { WrittenIs (option_bytes (code_in sync)) to result out.old out.new }
 {
-    match option {
-        1 => SYNC_LOAD,
-        2 => SYNC_TILE,
-        _ => SYNC_PIPE,
-    }
-}
-
-// Writes an option's sync to an index, and answers the index after it.
-fn put_option(out: &mut [u8], to: usize, option: u8) -> usize
-    requires { to + length (option_bytes option) ≤ length out.old }
-    ensures { WrittenIs (option_bytes option) to result out.old out.new }
-{
-    if option == 0 {
+    let Some(sync) = sync else {
         return to;
-    }
+    };
     let mut word = [0u8; 8];
-    word[0] = sync_of(option);
+    word[0] = sync.number();
     let end = to + 8;
     rdp_words::copy(&mut out[to..end], &word);
     end
 }
 
-// Writes the command of so many words at a place, with an option's sync before it, and answers the index after it.
-fn write_command(
-    list: &[u8],
-    place: usize,
-    words: usize,
-    option: u8,
-    out: &mut [u8],
-    to: usize,
-) -> usize
-    requires { (8 * (place + words) ≤ length list.now) × (to + length (option_bytes option) + 8 * words ≤ length out.old) }
-    ensures { WrittenIs (option_bytes option ++ take (8 * words) (drop (8 * place) list.now)) to result out.old out.new }
+// Writes a command, with a sync before it if there is one, and answers the index after it.
+fn write_command(sync: Option<Sync>, command: &[u8], out: &mut [u8], to: usize) -> usize
+    requires { to + length (option_bytes (code_in sync)) + length command.now ≤ length out.old }
+    ensures { WrittenIs (option_bytes (code_in sync) ++ command.now) to result out.old out.new }
 {
-    let next = put_option(out, to, option);
-    let from = 8 * place;
-    let end = from + 8 * words;
-    let after = next + 8 * words;
-    rdp_words::copy(&mut out[next..after], &list[from..end]);
+    let next = put_sync(sync, out, to);
+    let after = next + command.len();
+    rdp_words::copy(&mut out[next..after], command);
     after
 }
 
 // Writes the commands of a list that are kept, with the plan in the work buffer.
-fn write_plan(list: &[u8], words: usize, work: &[u8], out: &mut [u8], afresh: bool)
-    requires { WholeList list.now words × (16 * length (commands_of list.now) ≤ length work.now)
-        × Below 64 work.now (16 * length (commands_of list.now)) × (length (due_bytes afresh list.now work.now) ≤ length out.old) }
+fn write_plan(list: &[u8], work: &[u8], out: &mut [u8], afresh: bool)
+    requires { let count = length (commands_of list.now) in
+        (16 * count ≤ length work.now) × Below 64 work.now (16 * count) × (length (due_bytes afresh list.now work.now) ≤ length out.old) }
     ensures { out.new ≡ overwrite (due_bytes afresh list.now work.now) out.old }
 {
-    let mut at: usize = 0;
     let mut hazards: u8 = 0;
-    let mut i: usize = 0;
     let mut to: usize = 0;
-    while at < words {
+    for (i, command) in Commands(list).enumerate() {
         let choice = work[16 * i + hazards as usize];
-        let word = rdp_words::word_at(list, at);
-        let number = rdp_words::number_in(word);
-        let count = rdp_words::words_of(number);
-        let kept = kept_words(afresh, number, count);
-        to = write_command(list, at, kept, choice / 16, out, to);
-        at += count;
+        let sync = sync_of(choice / 16);
+        to = write_command(sync, kept(afresh, command), out, to);
         hazards = choice % 16;
-        i += 1;
     }
 }
 
@@ -207,11 +197,7 @@ fn clear(work: &mut [u8], n: usize)
     requires { n ≤ length work.old }
     ensures { work.new ≡ overwrite (replicate n 0) work.old }
 {
-    let mut i: usize = 0;
-    while i < n {
-        work[i] = 0;
-        i += 1;
-    }
+    work[..n].fill(0);
 }
 
 // The commands of a list, its least cycles, and the words that are kept with the plan's syncs.
@@ -223,11 +209,11 @@ pub struct Planned {
 }
 
 // Leaves the choices at each command in the work buffer.
-fn plan_list(list: &[u8], words: usize, work: &mut [u8], afresh: bool) -> Planned
-    requires { WholeList list.now words × (16 * length (commands_of list.now) ≤ length work.old) }
+fn plan_list(list: &[u8], work: &mut [u8], afresh: bool) -> Planned
+    requires { (length list.now ≤ 16384) × (16 * length (commands_of list.now) ≤ length work.old) }
     ensures { PlannedIs afresh list.now work.old result work.new }
 {
-    let noted = note_numbers(list, words, work, afresh);
+    let noted = note_numbers(list, work, afresh);
     let commands = noted.commands;
     let table = table::step_table();
     let cycles = backward(&table, work, commands);
@@ -242,32 +228,28 @@ fn plan_list(list: &[u8], words: usize, work: &mut [u8], afresh: bool) -> Planne
 // Repairs a list that none of refusals 1 to 6 and 19 holds for, where the work buffer has sixteen bytes for each command.
 pub fn repair_whole(
     list: &[u8],
-    words: usize,
     work: &mut [u8],
     out: &mut [u8],
     afresh: bool,
-) -> Repaired
-    requires { ((outcome_within 2048 repair_refusals list.now).number ≡ 0) × (words ≡ length list.now / 8)
-        × (16 * length (commands_of list.now) ≤ length work.old) }
-    ensures { Repairs (basis_of afresh list.now) list.now work.old out.old result work.new out.new }
+) -> Result<Repaired, Refusal>
+    requires { ((outcome_within 2048 repair_refusals list.now).number ≡ 0) × (16 * length (commands_of list.now) ≤ length work.old) }
+    ensures { Repairs (basis_of afresh list.now) list.now work.old out.old (told result) work.new out.new }
 {
-    let planned = plan_list(list, words, work, afresh);
+    let planned = plan_list(list, work, afresh);
     let needed = planned.words;
     let used = 16 * planned.commands;
-    let place = needed as u32;
+    let words = needed as u32;
     if out.len() / 8 < needed {
         clear(work, used);
-        return Repaired {
-            number: 14,
-            place,
-            cycles: 0,
-        };
+        return Err(Refusal {
+            ground: Ground::OutputTooShort,
+            place: words,
+        });
     }
-    write_plan(list, words, work, out, afresh);
+    write_plan(list, work, out, afresh);
     clear(work, used);
-    Repaired {
-        number: 0,
-        place,
+    Ok(Repaired {
+        words,
         cycles: planned.cycles,
-    }
+    })
 }

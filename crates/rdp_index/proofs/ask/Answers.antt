@@ -3,7 +3,7 @@ use Rattle.std.proofs.Common.{refl, ◌∙◌}
 use Rattle.std.proofs.lemmas.Result.{err_from_is_err_and}
 use Rattle.rdp_index.proofs.ReadLaws.{ask-none, ask-high, ask-read}
 use Rattle.rdp_index.proofs.SizeLaws.{size_none, size-ask}
-use Rattle.rdp_index.proofs.GroundLaws.{number-some}
+use Rattle.rdp_words.proofs.GroundLaws.{refused-number}
 use borrow.Author.Rules.{rules}
 use Rattle.rdp_index.proofs.ask.Goals as goal
 
@@ -11,7 +11,7 @@ pub returns-in_err-size_answer : goal.returns-in_err-size_answer
 returns-in_err-size_answer c =
     let a = c.args in
     let p = err_from_is_err_and c.from_residual.result c.from_residual.ensures.1 in
-    rw (p.1, p.2) (size-ask a.list.now _ c.in_err-size_answer.ensures (number-some _) a.entries.now a.place)
+    rw (p.1, p.2) (size-ask a.list.now _ c.in_err-size_answer.ensures (refused-number _) a.entries.now a.place)
 
 pub returns-in_default : goal.returns-in_default
 returns-in_default c =

@@ -5,7 +5,7 @@ use Rattle.std.proofs.Math.Seq.{length-take-le}
 use Rattle.std.proofs.lemmas.Result.{err_from_is_err_and}
 use Rattle.rdp_index.specs.Index.{room_answer}
 use Rattle.rdp_index.proofs.NoteLaws.{room-refused, room-taken, build-refused, build-done}
-use Rattle.rdp_index.proofs.GroundLaws.{number-some}
+use Rattle.rdp_words.proofs.GroundLaws.{refused-number}
 use Rattle.rdp_index.proofs.build.Goals as goal
 use Rattle.rdp_index.proofs.build.Goals.{In_ok-count}
 
@@ -15,7 +15,7 @@ returns-in_err-found c =
     let p = err_from_is_err_and c.from_residual.result c.from_residual.ensures.1 in
     rw (p.1, p.2)
     (build-refused a.list.now a.entries.now _
-    (sym (room-refused _ _ (number-some _)) ∙ ap (room_answer (length a.entries.now / 2)) c.in_err-found.ensures.answers) (number-some _))
+    (sym (room-refused _ _ (refused-number _)) ∙ ap (room_answer (length a.entries.now / 2)) c.in_err-found.ensures.answers) (refused-number _))
 
 pub returns-in_err-count : goal.returns-in_err-count
 returns-in_err-count c =
@@ -23,7 +23,7 @@ returns-in_err-count c =
     let p = err_from_is_err_and c.from_residual-in_err-count.result c.from_residual-in_err-count.ensures.1 in
     rw (p.1, p.2)
     (build-refused a.list.now a.entries.now _
-    (c.in_err-count.ensures ∙ ap (room_answer (length a.entries.now / 2)) c.in_ok-found.ensures.answers) (number-some _))
+    (c.in_err-count.ensures ∙ ap (room_answer (length a.entries.now / 2)) c.in_ok-found.ensures.answers) (refused-number _))
 
 -- the numbers that are copied are all there, and there is room for them
 record Parts (c : In_ok-count) : Type 0 where

@@ -1,36 +1,38 @@
 -- `rdp_repair::repair_by` meets its contract: the refusals of the list by the check's walk, those of the room and the repair by `RepairLaws`. Assumes nothing.
-use mathlib.Core.Path.{◌≡◌, refl, sym, ◌∙◌}
-use native.Mathlib.Omega.{arith}
-use Rattle.rdp_check.specs.Check.{repair_refusals, outcome_within}
-use Rattle.rdp_check.proofs.FirstLaws.{own-numbered}
-use Rattle.rdp_repair.proofs.RepairedLaws.{sound, count_most}
-use Rattle.rdp_repair.proofs.RepairLaws.{whole-list, commands-few, refused, refused-work}
-use Rattle.rdp_repair.proofs.repair_by.Goals.{After-check_for_repair-checked}
+use Rattle.std.proofs.Common.{◌≡◌, ℕ, List, refl, sym, ap, subst, arith}
+use Rattle.std.proofs.lemmas.Result.{err_from_is_err_and}
+use Rattle.rdp_words.specs.Grounds.{Answer}
+use Rattle.rdp_words.proofs.GroundLaws.{refused-number}
+use Rattle.rdp_check.specs.Check.{Checked, repair_refusals, outcome_within}
+use Rattle.rdp_repair.specs.Repair.{repair_answer}
+use Rattle.rdp_repair.specs.Work.{basis_of, Repairs}
+use Rattle.rdp_repair.proofs.RepairLaws.{list-short, refused, refused-work}
+use Rattle.rdp_repair.proofs.repair_by.Goals.{In_ok-check_for_repair}
 use Rattle.rdp_repair.proofs.repair_by.Goals as goal
 
 -- none of refusals 1 to 6 and 19 holds
-clean : (c : After-check_for_repair-checked) → c.check_for_repair-checked.result.number ≡ 0 → (outcome_within 2048 repair_refusals c.args.list.now).number ≡ 0
-clean c e = sym (λ i. (c.check_for_repair-checked.ensures i).number) ∙ e
+clean : (c : In_ok-check_for_repair) → (outcome_within 2048 repair_refusals c.args.list.now).number ≡ 0
+clean c = sym (ap (λ (x : Checked). x.number) c.in_ok-check_for_repair.ensures)
 
-pub returns-then-number-ne0 : goal.returns-then-number-ne0
-returns-then-number-ne0 c = refused _ _ _ _ _ c.check_for_repair-checked.ensures c.if-number-ne0.true
+pub returns-in_err-check_for_repair : goal.returns-in_err-check_for_repair
+returns-in_err-check_for_repair c =
+    let p = err_from_is_err_and c.from_residual.result c.from_residual.ensures.1 in
+    rw (p.1, p.2) (refused _ _ _ _ _ c.in_err-check_for_repair.ensures (refused-number _))
+
+pub test_room-requires : goal.test_room-requires
+test_room-requires c = list-short c.args.list.now (clean c)
+
+pub returns-in_err-test_room : goal.returns-in_err-test_room
+returns-in_err-test_room c =
+    let p = err_from_is_err_and c.from_residual-in_err-test_room.result c.from_residual-in_err-test_room.ensures.1 in
+    let e = c.in_err-test_room.ensures in
+    let list : List ℕ = c.args.list.now in
+    let work : List ℕ = c.args.work.now in
+    let out : List ℕ = c.args.out.now in
+    rw (p.1, p.2)
+    (subst (λ (a : Answer). Repairs (basis_of c.args.afresh list) list work out (repair_answer a.number a.place 0) work out) (sym e.1)
+    (refused-work _ list work out (clean (goal.at.returns-in_err-test_room c).In_ok-check_for_repair) _ refl (omega (arith, e.0))))
 
 pub repair_whole-requires : goal.repair_whole-requires
 repair_whole-requires c =
-    let e = clean (goal.at.repair_whole-requires c).After-check_for_repair-checked c.if-number-ne0.false in
-    (e, refl, omega (arith, count_most _ (sound repair_refusals own-numbered _ e).none, c.if-words-room.true))
-
-pub count_commands-commands-requires : goal.count_commands-commands-requires
-count_commands-commands-requires c = whole-list _ _ (clean (goal.at.count_commands-commands-requires c).After-check_for_repair-checked c.if-number-ne0.false) refl
-
-pub overflow_cast-place : goal.overflow_cast-place
-overflow_cast-place c =
-    omega (arith, c.count_commands-commands.ensures, commands-few _ (clean (goal.at.overflow_cast-place c).After-check_for_repair-checked c.if-number-ne0.false))
-
-pub returns-then-room-commands : goal.returns-then-room-commands
-returns-then-room-commands c =
-    refused-work _ _ _ _ (clean (goal.at.returns-then-room-commands c).After-check_for_repair-checked c.if-number-ne0.false) _ c.count_commands-commands.ensures (omega arith)
-
-pub repair_whole-requires-2 : goal.repair_whole-requires-2
-repair_whole-requires-2 c =
-    (clean (goal.at.repair_whole-requires-2 c).After-check_for_repair-checked c.if-number-ne0.false, refl, omega (arith, c.count_commands-commands.ensures))
+    (clean (goal.at.repair_whole-requires c).In_ok-check_for_repair, omega (arith, c.in_ok-test_room.ensures))

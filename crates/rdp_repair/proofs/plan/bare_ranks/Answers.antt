@@ -10,26 +10,25 @@ use Rattle.rdp_repair.proofs.TabulateLaws.{holds_more, holds-all}
 use Rattle.rdp_repair.proofs.plan.bare_ranks.Goals as goal
 
 pub loop-m-init : goal.loop-m-init
-loop-m-init c = (omega arith, refl, λ k h. absurd (omega arith))
+loop-m-init c = (refl, λ k h. absurd (omega arith))
 
 pub bounds-table-at : goal.bounds-table-at
-bounds-table-at c = search (rules, c.requires.1)
+bounds-table-at c = search (rules, c.requires.0)
 
-pub bare_rank-rank-requires : goal.bare_rank-rank-requires
-bare_rank-rank-requires c = c.requires.2
+pub bare_rank-requires : goal.bare_rank-requires
+bare_rank-requires c = c.requires.1
 
 pub loop-m-preserved : goal.loop-m-preserved
 loop-m-preserved c =
     let a = c.args in
     let f : ℕ → ℕ = λ k. get_or a.after.now k 0 in
-    let long : length c.loop-m.ranks ≡ 16 = c.loop-m.invariant.1 in (
-      omega arith,
+    let long : length c.loop-m.ranks ≡ 16 = c.loop-m.invariant.0 in (
       simp length-set long,
-      holds_more c.loop-m.ranks (bare_rank a.number f) c.loop-m.m _ (omega arith) c.loop-m.invariant.2
-          (c.bare_rank-rank.ensures ∙ bare-is c.loop-m.m a.number _ c.requires.1 (c.requires.0 c.loop-m.m a.number c.loop-m-test.true c.requires.1) f),
+      holds_more c.loop-m.ranks (bare_rank a.number f) c.loop-m.m _ (omega arith) c.loop-m.invariant.1
+          (c.bare_rank.ensures ∙ bare-is c.loop-m.m a.number _ c.requires.0 (a.table.now.agrees c.loop-m.m a.number c.loop-m-test.true c.requires.0) f),
     )
 
 pub returns : goal.returns
 returns c =
     let all : c.loop-m.m ≡ 16 = omega arith in
-    holds-all c.loop-m.ranks (bare_rank c.args.number (λ k. get_or c.args.after.now k 0)) 16 c.loop-m.invariant.1 (rw all at c.loop-m.invariant.2)
+    holds-all c.loop-m.ranks (bare_rank c.args.number (λ k. get_or c.args.after.now k 0)) 16 c.loop-m.invariant.0 (rw all at c.loop-m.invariant.1)

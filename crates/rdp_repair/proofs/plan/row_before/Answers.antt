@@ -15,22 +15,21 @@ bare_ranks-ranks-requires c = c.requires
 pub synced_ranks-synced-requires : goal.synced_ranks-synced-requires
 synced_ranks-synced-requires c =
     subst (Bounded 0x2000000) (sym c.bare_ranks-ranks.ensures)
-    (tabulate-most 16 _ _ (bare-most c.args.number (λ k. get_or c.args.after k 0) c.requires.2 0))
+    (tabulate-most 16 _ _ (bare-most c.args.number (λ k. get_or c.args.after k 0) c.requires.1 0))
 
 pub loop-m-init : goal.loop-m-init
-loop-m-init c = (omega arith, refl, refl, (λ k h. absurd (omega arith)), (λ k h. absurd (omega arith)))
+loop-m-init c = (refl, refl, (λ k h. absurd (omega arith)), (λ k h. absurd (omega arith)))
 
 pub loop-m-preserved : goal.loop-m-preserved
 loop-m-preserved c =
     let r : ℕ → ℕ = λ j. min (get_or c.bare_ranks-ranks.result j 0) (get_or c.synced_ranks-synced.result (j % 4) 0) in
     let m : ℕ = c.loop-m.m in
     let inv = c.loop-m.invariant in
-    let rank = c.lesser-rank.ensures in (
-      omega arith,
+    let rank = c.better-rank.ensures in (
+      simp length-set inv.0,
       simp length-set inv.1,
-      simp length-set inv.2,
-      holds_more c.loop-m.totals (λ j. r j / 64) m _ (omega (arith, inv.1)) inv.3 (ap (λ (x : ℕ). x / 64) rank),
-      holds_more c.loop-m.choices (λ j. r j % 64) m _ (omega (arith, inv.2)) inv.4 (ap (λ (x : ℕ). x % 64) rank),
+      holds_more c.loop-m.totals (λ j. r j / 64) m _ (omega (arith, inv.0)) inv.2 (ap (λ (x : ℕ). x / 64) rank),
+      holds_more c.loop-m.choices (λ j. r j % 64) m _ (omega (arith, inv.1)) inv.3 (ap (λ (x : ℕ). x % 64) rank),
     )
 
 pub returns : goal.returns
@@ -40,14 +39,14 @@ returns c =
     let f : ℕ → ℕ = λ k. get_or c.args.after k 0 in
     let r : ℕ → ℕ = λ j. min (get_or c.bare_ranks-ranks.result j 0) (get_or c.synced_ranks-synced.result (j % 4) 0) in
     let rank : (j : ℕ) → j < 16 → r j ≡ rank_of (chosen n f j) =
-    λ j h. least-held n f c.requires.2 j _ _ c.bare_ranks-ranks.ensures c.synced_ranks-synced.ensures h in
+    λ j h. least-held n f c.requires.1 j _ _ c.bare_ranks-ranks.ensures c.synced_ranks-synced.ensures h in
     let all : c.loop-m.m ≡ 16 = omega arith in
     let inv = c.loop-m.invariant in
     record {
       totals-are =
-          holds-all c.loop-m.totals (λ j. r j / 64) 16 inv.1 (rw all at inv.3) ∙
-          tabulate-same 16 (λ j. r j / 64) (λ j. (chosen n f j).total) (λ j h. ap (λ (x : ℕ). x / 64) (rank j h) ∙ total_of n f c.requires.2 j);
+          holds-all c.loop-m.totals (λ j. r j / 64) 16 inv.0 (rw all at inv.2) ∙
+          tabulate-same 16 (λ j. r j / 64) (λ j. (chosen n f j).total) (λ j h. ap (λ (x : ℕ). x / 64) (rank j h) ∙ total_of n f c.requires.1 j);
       choices-are =
-          holds-all c.loop-m.choices (λ j. r j % 64) 16 inv.2 (rw all at inv.4) ∙
-          tabulate-same 16 (λ j. r j % 64) (λ j. packed_choice (chosen n f j)) (λ j h. ap (λ (x : ℕ). x % 64) (rank j h) ∙ choice-of n f c.requires.2 j);
+          holds-all c.loop-m.choices (λ j. r j % 64) 16 inv.1 (rw all at inv.3) ∙
+          tabulate-same 16 (λ j. r j % 64) (λ j. packed_choice (chosen n f j)) (λ j h. ap (λ (x : ℕ). x % 64) (rank j h) ∙ choice-of n f c.requires.1 j);
     }

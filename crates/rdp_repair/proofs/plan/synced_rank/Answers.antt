@@ -20,4 +20,4 @@ pub returns : goal.returns
 unfolding synced_rank wait_of sync_at
 returns c =
     let a = c.args in
-    c.lesser.ensures ∙ (λ i. min (get_or a.ranks.now a.m 0 + option_rank 1) (c.lesser-tile.ensures i))
+    c.better.ensures ∙ (λ i. min (get_or a.ranks.now a.m 0 + option_rank 1) (c.better-tile.ensures i))

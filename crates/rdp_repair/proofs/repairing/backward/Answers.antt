@@ -23,7 +23,7 @@ module _ (c : In-loop-i) where
   index = c.loop-i.i - 1
 
   room : 16 * count ≤ length first-work
-  room = c.requires.2
+  room = c.requires.1
 
   same : c.loop-i.i ≡ suc index
   same = omega arith
@@ -48,7 +48,7 @@ unfolding best tabulate
 loop-i-init c =
     let work : List ℕ = c.args.work.now in
     let n : ℕ = c.args.commands in
-    (omega arith, sym (back_start work n c.requires.2), sym (ap (λ (ns : List ℕ). tabulate 16 (best ns)) (no-numbers-left work n c.requires.2)))
+    (omega arith, sym (back_start work n c.requires.1), sym (ap (λ (ns : List ℕ). tabulate 16 (best ns)) (no-numbers-left work n c.requires.1)))
 
 pub bounds-work-at : goal.bounds-work-at
 bounds-work-at c =
@@ -58,9 +58,8 @@ bounds-work-at c =
 pub row_before-row-requires : goal.row_before-row-requires
 row_before-row-requires c =
     let there = (goal.at.row_before-row-requires c).In-loop-i in (
-      c.requires.0,
-      number-below (first-work there) (count there) (room there) (index there) (in-range there) _ (is-now there) _ (are-totals there) _ refl c.requires.3,
-      totals-bounded (first-work there) (count there) (room there) (index there) (in-range there) _ (is-now there) _ (are-totals there) _ refl c.requires.1,
+      number-below (first-work there) (count there) (room there) (index there) (in-range there) _ (is-now there) _ (are-totals there) _ refl c.requires.2,
+      totals-bounded (first-work there) (count there) (room there) (index there) (in-range there) _ (is-now there) _ (are-totals there) _ refl c.requires.0,
     )
 
 pub slice_bounds-copy-end : goal.slice_bounds-copy-end
@@ -91,5 +90,5 @@ returns c =
     let end : c.loop-i.i ≡ 0 = omega arith in
     record {
       least = ap (λ (l : List ℕ). get_or l 0 0) (rw end at c.loop-i.invariant.2);
-      choices = rw end at c.loop-i.invariant.1 ∙ back_end c.args.work.now c.args.commands c.requires.2;
+      choices = rw end at c.loop-i.invariant.1 ∙ back_end c.args.work.now c.args.commands c.requires.1;
     }

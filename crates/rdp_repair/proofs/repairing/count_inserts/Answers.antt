@@ -1,31 +1,30 @@
 -- `rdp_repair::repairing::count_inserts` meets its contract: what is counted and what is left to count make the whole. Assumes nothing.
-use mathlib.Core.List.{List}
-use Prim.Native.Nat.{ℕ, ◌+◌, ◌*◌, ◌-◌}
+use Rattle.std.proofs.Common.{◌≡◌, ◌+◌, ◌*◌, ◌-◌, ◌/◌, min, get_or, drop, ap, ◌∙◌, arith}
 use native.Mathlib.Nat.{zero-add, sub-zero}
-use native.Mathlib.Omega.{arith}
-use lib.ListN.{get_or, drop}
+use mir.Val.{bool_byte}
 use Rattle.rdp_repair.proofs.ForwardLaws.{inserts-at, inserts-end}
+use Rattle.rdp_repair.proofs.WriteLaws.{sync-counted}
+use Rattle.rdp_repair.proofs.repairing.count_inserts.Goals.{After-is_some}
 use Rattle.rdp_repair.proofs.repairing.count_inserts.Goals as goal
 
+-- what a turn counts
+counted : (c : After-is_some) → bool_byte c.is_some.result ≡ min (get_or c.args.work.now (16 * c.loop-i.i + c.loop-i.hazards) 0 / 16) 1
+counted c =
+    let small = c.requires.1 (16 * c.loop-i.i + c.loop-i.hazards) (omega (arith, c.loop-i.invariant.0)) in
+    ap bool_byte c.is_some.ensures ∙ sync-counted c.sync_of-sync.result ∙ ap (λ k. min k 1) (c.sync_of-sync.ensures (omega (arith, small)))
+
 pub loop-i-init : goal.loop-i-init
-loop-i-init c = (omega arith, omega arith, omega arith, simp (zero-add, sub-zero))
+loop-i-init c = (omega arith, omega arith, simp (zero-add, sub-zero))
 
 pub overflow_add-count : goal.overflow_add-count
-overflow_add-count c = omega (arith, c.one_word-count.ensures)
+overflow_add-count c = omega (arith, counted (goal.at.overflow_add-count c).After-is_some)
 
 pub loop-i-preserved : goal.loop-i-preserved
 loop-i-preserved c =
-    let work : List ℕ = c.args.work.now in
-    let n : ℕ = c.args.commands in
-    let i : ℕ = c.loop-i.i in
-    let m : ℕ = c.loop-i.hazards in
-    let choice : ℕ = get_or work (16 * i + m) 0 in (
-      omega arith,
-      omega arith,
-      omega (arith, c.one_word-count.ensures),
-      omega (arith, c.loop-i.invariant.3, inserts-at work n i m (omega arith), c.one_word-count.ensures),
-    )
+    let i = c.loop-i.invariant in
+    let one = counted (goal.at.loop-i-preserved c).After-is_some in
+    (omega arith, omega (arith, one), omega (arith, i.2, inserts-at c.args.work.now c.args.commands c.loop-i.i c.loop-i.hazards (omega arith), one))
 
 pub returns : goal.returns
 returns c =
-    omega (arith, c.loop-i.invariant.3, inserts-end (drop (16 * c.loop-i.i) c.args.work.now) c.loop-i.hazards (c.args.commands - c.loop-i.i) (omega arith))
+    omega (arith, c.loop-i.invariant.2, inserts-end (drop (16 * c.loop-i.i) c.args.work.now) c.loop-i.hazards (c.args.commands - c.loop-i.i) (omega arith))

@@ -1,5 +1,5 @@
 -- `rdp_repair::repairing::kept_words` meets its contract, by whether the command is left out. Assumes nothing.
-use mathlib.Core.Path.{sym, ◌∙◌}
+use Rattle.std.proofs.Common.{sym, ◌∙◌}
 use Rattle.rdp_repair.specs.Work.{kept_words}
 use Rattle.rdp_repair.proofs.repairing.kept_words.Goals as goal
 
@@ -9,4 +9,4 @@ returns-then-left_out c = rw (sym c.left_out.ensures ∙ c.if-left_out.true)
 
 pub returns : goal.returns
 unfolding kept_words
-returns c = rw (sym c.left_out.ensures ∙ c.if-left_out.false) c.requires
+returns c = rw (sym c.left_out.ensures ∙ c.if-left_out.false) c.words_of.ensures

@@ -10,7 +10,7 @@ use Rattle.rdp_repair.specs.Best.{plan}
 use Rattle.rdp_repair.specs.Work.{noted_of, NotedIs, Below, work_of, options_in, inserts_of}
 use Rattle.rdp_repair.specs.declared.repairing.Noted.{Noted}
 use Rattle.rdp_words.specs.Words.{overwrite}
-use Rattle.rdp_repair.proofs.RepairedLaws.{count_most}
+use Rattle.rdp_repair.proofs.PassLaws.{few-commands}
 use Rattle.rdp_repair.proofs.RepairLaws.{words-few, noted-below, cycles-are, choices-are, choices-below, plan-held}
 use Rattle.rdp_repair.proofs.repairing.plan_list.Goals.{After-backward-cycles}
 use Rattle.rdp_repair.proofs.repairing.plan_list.Goals as goal
@@ -52,16 +52,14 @@ module _ (b : After-backward-cycles) where
       e ∙ ap (λ (k : ℕ). inserts_of (options_in k held 0)) noted.counted ∙ ap inserts_of (plan-held afresh list work held held-is)
 
 pub note_numbers-noted-requires : goal.note_numbers-noted-requires
-note_numbers-noted-requires c = c.requires
+note_numbers-noted-requires c = c.requires.1
 
 pub backward-cycles-requires : goal.backward-cycles-requires
-backward-cycles-requires c =
-    let w = c.requires.0 in (
-      c.step_table-table.ensures,
-      omega (arith, c.note_numbers-noted.ensures.counted, count_most c.args.list.now w.none, w.long, w.few),
-      omega (arith, c.note_numbers-noted.ensures.counted, c.requires.1, c.note_numbers-noted.auto.work),
-      noted-below c.args.afresh c.args.list.now c.args.work.now _ _ c.note_numbers-noted.ensures,
-    )
+backward-cycles-requires c = (
+  omega (arith, c.note_numbers-noted.ensures.counted, few-commands c.args.list.now, c.requires.0),
+  omega (arith, c.note_numbers-noted.ensures.counted, c.requires.1, c.note_numbers-noted.auto.work),
+  noted-below c.args.afresh c.args.list.now c.args.work.now _ _ c.note_numbers-noted.ensures,
+)
 
 pub count_inserts-requires : goal.count_inserts-requires
 count_inserts-requires c =
@@ -71,7 +69,7 @@ count_inserts-requires c =
 pub overflow_add-total : goal.overflow_add-total
 overflow_add-total c =
     let there = (goal.at.overflow_add-total c).After-backward-cycles in
-    omega (arith, (noted there).words, inserts-are there _ c.count_inserts.ensures, words-few (afresh there) (list there) _ c.requires.0)
+    omega (arith, (noted there).words, inserts-are there _ c.count_inserts.ensures, words-few (afresh there) (list there) c.requires.0)
 
 pub returns : goal.returns
 returns c =

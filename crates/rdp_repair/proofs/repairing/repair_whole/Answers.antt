@@ -10,7 +10,7 @@ use Rattle.rdp_check.specs.Commands.{commands_of}
 use Rattle.rdp_repair.specs.Best.{repaired_bytes, least_cycles}
 use Rattle.rdp_repair.specs.Work.{basis_of, due_bytes}
 use Rattle.rdp_repair.proofs.DropLaws.{best-basis}
-use Rattle.rdp_repair.proofs.RepairLaws.{whole-list, commands-few, words-needed, choices-below, due-held, work-cleared, refused-out, repaired-is}
+use Rattle.rdp_repair.proofs.RepairLaws.{list-short, commands-few, words-needed, choices-below, due-held, work-cleared, refused-out, repaired-is}
 use Rattle.rdp_repair.proofs.repairing.repair_whole.Goals.{After-plan_list-planned}
 use Rattle.rdp_repair.proofs.repairing.repair_whole.Goals as goal
 
@@ -44,7 +44,7 @@ module _ (p : After-plan_list-planned) where
   few = omega (arith, p.plan_list-planned.ensures.commands, commands-few list p.requires.0)
 
   room : 16 * count ≤ length held
-  room = omega (arith, p.plan_list-planned.ensures.commands, p.requires.2, long)
+  room = omega (arith, p.plan_list-planned.ensures.commands, p.requires.1, long)
 
   due-is : due_bytes afresh list held ≡ repaired_bytes basis
   due-is = due-held afresh list work held p.plan_list-planned.ensures.choices
@@ -59,14 +59,13 @@ module _ (p : After-plan_list-planned) where
   cleared-is work' e = e ∙ work-cleared afresh list work held p.plan_list-planned.ensures.choices count p.plan_list-planned.ensures.commands
 
 pub plan_list-planned-requires : goal.plan_list-planned-requires
-plan_list-planned-requires c =
-    (whole-list c.args.list.now c.args.words c.requires.0 c.requires.1, c.requires.2)
+plan_list-planned-requires c = (list-short c.args.list.now c.requires.0, c.requires.1)
 
 pub overflow_mul-used : goal.overflow_mul-used
 overflow_mul-used c = omega (arith, few (goal.at.overflow_mul-used c).After-plan_list-planned)
 
-pub overflow_cast-place : goal.overflow_cast-place
-overflow_cast-place c = omega (arith, (needed (goal.at.overflow_cast-place c).After-plan_list-planned).1)
+pub overflow_cast-words : goal.overflow_cast-words
+overflow_cast-words c = omega (arith, (needed (goal.at.overflow_cast-words c).After-plan_list-planned).1)
 
 pub clear-requires : goal.clear-requires
 clear-requires c = omega (arith, room (goal.at.clear-requires c).After-plan_list-planned)
@@ -74,14 +73,13 @@ clear-requires c = omega (arith, room (goal.at.clear-requires c).After-plan_list
 pub returns-then-out-needed : goal.returns-then-out-needed
 returns-then-out-needed c =
     let there = (goal.at.returns-then-out-needed c).After-plan_list-planned in
-    refused-out (basis there) (list there) (work there) c.args.out.now c.requires.0 c.requires.2 _ (needed there).0 _ (cleared-is there _ c.clear.ensures)
+    refused-out (basis there) (list there) (work there) c.args.out.now c.requires.0 c.requires.1 _ (needed there).0 _ (cleared-is there _ c.clear.ensures)
     c.if-out-needed.true
 
 pub write_plan-requires : goal.write_plan-requires
 write_plan-requires c =
     let there = (goal.at.write_plan-requires c).After-plan_list-planned in (
-      whole-list (list there) c.args.words c.requires.0 c.requires.1,
-      omega (arith, long there, c.requires.2),
+      omega (arith, long there, c.requires.1),
       choices-below (afresh there) (list there) (work there) (held there) c.plan_list-planned.ensures.choices,
       omega (arith, ap length (due-is there), (needed there).0, c.if-out-needed.false),
     )
@@ -93,5 +91,5 @@ pub returns : goal.returns
 returns c =
     let there = (goal.at.returns c).After-plan_list-planned in
     let out : List ℕ = c.args.out.now in
-    repaired-is (basis there) (list there) (work there) out c.requires.0 c.requires.2 _ (needed there).0 _ (cleared-is there _ c.clear-2.ensures)
+    repaired-is (basis there) (list there) (work there) out c.requires.0 c.requires.1 _ (needed there).0 _ (cleared-is there _ c.clear-2.ensures)
     c.if-out-needed.false _ (cycles-is there) _ (written_is there out _ c.write_plan.ensures)
