@@ -3,16 +3,12 @@
 --     painted-runs, runs_fit        what a painter of runs leaves is `painted`, and what it asks
 --     painted-empty                 nothing is painted where the area has no byte
 -- Assumes nothing.
-use mathlib.Core.Path.{◌≡◌, sym, ap, ◌∙◌}
-use mathlib.Core.Bool.{true, false, cond, not, not-not, false≢true}
-use mathlib.Core.List.{List}
-use Prim.Native.Nat.{ℕ, suc, ◌+◌, ◌-◌, ◌*◌, ◌/◌, ◌%◌, ◌≤◌, ◌<◌}
-use native.Mathlib.Nat.{add-mul, mul_assoc, mul-zero, mul-le-mul_right, suc-mul, not-suc-le-zero, div-lt_iff_lt-mul, div-mul-le_self, lt-div-mul-add}
-use native.Mathlib.Omega.{arith}
-use lib.ListN.{length}
+use Rattle.std.proofs.Common.{◌≡◌, sym, ap, ◌∙◌, true, false, cond, not, List, ℕ, suc, ◌+◌, ◌-◌, ◌*◌, ◌/◌, ◌%◌, ◌≤◌, ◌<◌, add-mul, mul_assoc, mul-zero, mul-le-mul_right, suc-mul, not-suc-le-zero, div-lt_iff_lt-mul, div-mul-le_self, arith, length}
+use Rattle.std.proofs.Math.Bool.{not-not, false≢true}
+use Rattle.std.proofs.Math.Nat.{lt-div-mul-add}
 use Rattle.rdp_command.specs.declared.Image.{Image}
 use Rattle.rdp_words.proofs.Tests.{by-test}
-use Rattle.rdp_fill.specs.declared.Area.{Area}
+use Rattle.rdp_fill.specs.Runs.{Area}
 use Rattle.rdp_command.specs.declared.FillFields.{FillFields}
 use Rattle.rdp_fill.specs.Fill.{bytes_per_pixel, color_byte, covers, outside, painted, fill_memory, pixel_address}
 use Rattle.rdp_pixels.specs.Kept.{row_kept}

@@ -1,14 +1,9 @@
 -- Laws of `in_runs` and `area_inside`. Assumes nothing.
-use mathlib.Core.Path.{◌≡◌, sym, ◌∙◌}
-use mathlib.Core.Logic.{⊎_elim}
-use mathlib.Core.Bool.{true, false, ◌&&◌, false≢true}
-use Prim.Native.Nat.{ℕ, zero, suc, ◌+◌, ◌-◌, ◌*◌, ◌≤◌, ◌<◌}
-use native.Mathlib.Nat.{suc-mul, mul-le-mul_right}
-use native.Mathlib.Omega.{arith}
-use borrow.Author.Tests.{eqb-false, le-leb, leb-true, ne_eqb}
-use lib.Dec.{eqb, leb}
+use Rattle.std.proofs.Common.{◌≡◌, sym, ◌∙◌, ⊎_elim, true, false, ◌&&◌, ℕ, zero, suc, ◌+◌, ◌-◌, ◌*◌, ◌≤◌, ◌<◌, suc-mul, mul-le-mul_right, arith, le-leb, leb-true, ne_eqb, eqb, leb}
+use Rattle.std.proofs.Math.Bool.{false≢true}
+use Rattle.std.proofs.lemmas.Bool.{eqb-false}
 use Rattle.rdp_words.proofs.Tests.{by-test, neither}
-use Rattle.rdp_fill.specs.declared.Area.{Area}
+use Rattle.rdp_fill.specs.Runs.{Area}
 use Rattle.rdp_pixels.specs.Overlay.{within}
 use Rattle.rdp_fill.specs.Runs.{area_empty, area_inside, in_runs}
 use Rattle.rdp_pixels.proofs.BoolLaws.{or_is, or_left, or_right, and_is, and-true-of, same_truth}

@@ -1,7 +1,6 @@
 pub mod PixelLaws
 pub mod InsideLaws
 pub mod AreaLaws
-pub mod ColorLaws
+pub mod WidthLaws
 pub mod PatternLaws
 pub mod RunLaws
-pub mod WidthLaws

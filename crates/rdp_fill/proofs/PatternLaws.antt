@@ -1,116 +1,120 @@
 -- Patterns of bytes that hold a colour, and what is written with them. Assumes nothing.
-use mathlib.Core.Path.{◌≡◌, ap, ap₂, ◌∙◌}
-use mathlib.Core.List.{List, [], ◌∷◌}
-use Prim.Native.Nat.{ℕ, zero, suc, ◌+◌, ◌-◌, ◌%◌, ◌≤◌, ◌<◌}
-use native.Mathlib.Nat.{le_refl, add_assoc, mod-add-mod, not-suc-le-zero}
-use native.Mathlib.Omega.{arith}
-use lib.ListN.{length, get_or, set}
-use lib.Seq.{get_or-set_same, get_or-set_other}
+use Rattle.std.proofs.Common.{◌≡◌, refl, ap, ◌∙◌, ℕ, zero, suc, ◌+◌, ◌-◌, ◌*◌, ◌/◌, ◌%◌, ◌^◌, ◌≤◌, ◌<◌, List, [], ◌∷◌, ◌++◌, length, get_or, take, drop, arith}
+use Rattle.std.proofs.Math.ListN.{get_or-append, length-drop}
+use Rattle.std.proofs.Math.Seq.{length-take-le, take_all}
+use Rattle.std.proofs.lemmas.List.{get_or-take, get_or-drop, get_or-append_right}
+use Rattle.std.proofs.Math.Numerals.{add-one}
+use Rattle.std.proofs.Math.Nat.{div-one, suc-mul, mul_comm, mul_assoc, mul-le-mul_right, div-mul-le_self, lt-div-mul-add}
+use Rattle.rdp_pixels.proofs.OverlayLaws.{split}
 use Rattle.rdp_fill.specs.Fill.{color_byte}
-use Rattle.rdp_pixels.specs.Overlay.{overlay, within}
-use Rattle.rdp_fill.specs.Pattern.{Repeats, Written}
-use Rattle.rdp_fill.proofs.ColorLaws.{color-same}
-use Rattle.rdp_pixels.proofs.OverlayLaws.{split, within-true, within-false, get_d-overlay-0, overlay-none, overlay-meeting, overlay-more}
+use Rattle.rdp_fill.specs.Pattern.{Holds, Follows}
 
--- ---- patterns
+-- only the index mod 4 matters
+pub color-same : (color a b : ℕ) → a % 4 ≡ b % 4 → color_byte color a ≡ color_byte color b
+unfolding color_byte
+color-same color a b e = ap (λ (k : ℕ). color / 2 ^ (24 - 8 * k) % 256) e
 
--- the colour's four bytes before a pattern
-module _ (color : ℕ) {a b c d : ℕ} (first : a ≡ color_byte color 0) (second : b ≡ color_byte color 1) (third : c ≡ color_byte color 2)
-    (fourth : d ≡ color_byte color 3) where
-  pub holds-four : {n : ℕ} {p : List ℕ} → Repeats color n p → Repeats color (suc (suc (suc (suc n)))) (a ∷ b ∷ c ∷ d ∷ p)
-  holds-four {n} {p} h = record { byte = at }
-    where
-      at : (k : ℕ) → k < suc (suc (suc (suc n))) → get_or (a ∷ b ∷ c ∷ d ∷ p) k 0 ≡ color_byte color k
-      at zero l = first
-      at (suc zero) l = second
-      at (suc (suc zero)) l = third
-      at (suc (suc (suc zero))) l = fourth
-      at (suc (suc (suc (suc k)))) l = h.byte k (omega arith) ∙ color-same color k (suc (suc (suc (suc k)))) (omega arith)
+-- ---- parts of a list
 
-  pub holds-twenty : Repeats color 20 (a ∷ b ∷ c ∷ d ∷ a ∷ b ∷ c ∷ d ∷ a ∷ b ∷ c ∷ d ∷ a ∷ b ∷ c ∷ d ∷ a ∷ b ∷ c ∷ d ∷ [])
-  holds-twenty = holds-four (holds-four (holds-four (holds-four (holds-four (record { byte = λ k l. absurd (not-suc-le-zero l) })))))
+-- the bytes from an index on, and the length of a part
+pub tail : (xs : List ℕ) (q : ℕ) → take (length xs - q) (drop q xs) ≡ drop q xs
+tail xs q = take_all (length xs - q) (drop q xs) (omega (arith, length-drop q xs))
 
--- a pattern that grows by the byte 16 before its end
-pub holds_more : {color k : ℕ} {p : List ℕ} → Repeats color k p → 16 ≤ k → k < length p → Repeats color (k + 1) (set p k (get_or p (k - 16) 0))
-holds_more {color} {k} {p} h l n = record { byte = at }
+pub part-size : (a e : ℕ) (m : List ℕ) → e ≤ length m → length (take (e - a) (drop a m)) ≡ e - a
+part-size a e m h = length-take-le (e - a) (drop a m) (omega (arith, length-drop a m))
+
+-- ---- the colour's bytes
+
+-- the four of them
+pub four-hold : (color : ℕ) {bytes : List ℕ} → bytes ≡ color / 16777216 % 256 ∷ color / 65536 % 256 ∷ color / 256 % 256 ∷ color % 256 ∷ []
+    → Holds color 0 bytes 4
+unfolding color_byte
+four-hold color is = rw is (record { byte = at })
   where
-    at : (j : ℕ) → j < k + 1 → get_or (set p k (get_or p (k - 16) 0)) j 0 ≡ color_byte color j
-    at j i =
-        split k j
-        (λ x.
-        let e : j ≡ k = omega arith in
-        rw e
-        (get_or-set_same p k (get_or p (k - 16) 0) 0 n ∙ h.byte (k - 16) (omega arith) ∙ color-same color (k - 16) k (omega arith)))
-        (λ x. get_or-set_other p k j (get_or p (k - 16) 0) 0 (λ e. omega arith) ∙ h.byte j x)
+    at : (k : ℕ) → k < 4 → get_or (color / 16777216 % 256 ∷ color / 65536 % 256 ∷ color / 256 % 256 ∷ color % 256 ∷ []) k 0 ≡ color_byte color (0 + k)
+    at zero l = refl
+    at (suc zero) l = refl
+    at (suc (suc zero)) l = refl
+    at (suc (suc (suc zero))) l = rw div-one
+    at (suc (suc (suc (suc k)))) l = absurd (omega arith)
 
--- ---- a run
+pub holds-less : {color at n : ℕ} {bytes : List ℕ} (m : ℕ) → Holds color at bytes n → m ≤ n → Holds color at bytes m
+holds-less m h l = record { byte = λ k i. h.byte k (omega arith) }
 
--- nothing is written yet
-pub written_none : (first end : ℕ) {pattern before : List ℕ} → end ≤ first → Written (within first end) pattern before before
-written_none first end {before = before} none =
-    record {
-      is = λ color h. overlay-none (within first end) (color_byte color) 0 before (λ i l. within-false first end (0 + i) (λ x y. omega arith));
-    }
-
--- one byte more, the pattern's that belongs there
-module _ (at k : ℕ) {pattern before after : List ℕ} where
-  pub written-more : Written (within at (at + k)) pattern before after → at + k < length before → at % 4 + k < length pattern
-      → Written (within at (at + (k + 1))) pattern before (set after (at + k) (get_or pattern (at % 4 + k) 0))
-  written-more w inside there = record { is = more }
-    where
-      more : (color : ℕ) → Repeats color (length pattern) pattern
-          → set after (at + k) (get_or pattern (at % 4 + k) 0) ≡ overlay (within at (at + (k + 1))) (color_byte color) 0 before
-      more color h =
-          ap₂ (λ (l : List ℕ) (b : ℕ). set l (at + k) b) (w.is color h)
-          (h.byte (at % 4 + k) there ∙ color-same color (at % 4 + k) (at + k) (mod-add-mod at 4 k))
-          ∙ overlay-more (color_byte color) at (at + k) before (omega arith) inside
-          ∙ ap (λ (n : ℕ). overlay (within at n) (color_byte color) 0 before) (add_assoc at k 1)
-
--- two runs, the second of which begins in the first or where it ends
-pub written-meeting : (first low mid end : ℕ) {pattern before between after : List ℕ} → Written (within first mid) pattern before between
-    → Written (within low end) pattern between after → first ≤ low → low ≤ mid → mid ≤ end → Written (within first end) pattern before after
-written-meeting first low mid end {before = before} w w' l h k =
-    record {
-      is =
-          λ color holds.
-          w'.is color holds
-          ∙ ap (overlay (within low end) (color_byte color) 0) (w.is color holds)
-          ∙ overlay-meeting first low mid end (color_byte color) 0 before l h k;
-    }
-
--- the second where the first ends
-pub written-joined : (first mid end : ℕ) {pattern before between after : List ℕ} → Written (within first mid) pattern before between
-    → Written (within mid end) pattern between after → first ≤ mid → mid ≤ end → Written (within first end) pattern before after
-written-joined first mid end w w' l h = written-meeting first mid mid end w w' l (le_refl mid) h
-
--- a run that ends where it should
-pub written_all : (first mid end : ℕ) {pattern before after : List ℕ} → Written (within first mid) pattern before after → mid ≤ end → end ≤ mid
-    → Written (within first end) pattern before after
-written_all first mid end w l h = let e : mid ≡ end = omega arith in rw e at w
-
--- the last n bytes before the end, of which some may be written already
-pub written_last : (first mid end n : ℕ) {pattern before between after : List ℕ} → Written (within first mid) pattern before between
-    → Written (within (end - n) (end - n + n)) pattern between after → n ≤ end → first ≤ end - n → end - n ≤ mid → mid ≤ end
-    → Written (within first end) pattern before after
-written_last first mid end n w w' fits l h k =
-    let e : end - n + n ≡ end = omega arith in
-    written-meeting first (end - n) mid end w (rw e at w') l h k
-
--- a run, and the bytes that are left of it
-pub written-rest : (first mid end : ℕ) {pattern before between after : List ℕ} → Written (within first mid) pattern before between
-    → Written (within mid (mid + (end - mid))) pattern between after → first ≤ mid → mid ≤ end → Written (within first end) pattern before after
-written-rest first mid end w w' l h =
-    let e : mid + (end - mid) ≡ end = omega arith in
-    written-joined first mid end w (rw e at w') l h
-
--- the first n bytes are the pattern's
-pub written-holds : (color n : ℕ) {pattern before after : List ℕ} → Written (within 0 n) pattern before after → Repeats color (length pattern) pattern
-    → n ≤ length before → Repeats color n after
-written-holds color n {before = before} w h l =
-    record {
+-- the pattern from its byte q on
+pub holds-tail : {color at : ℕ} (pattern : List ℕ) (q : ℕ) → Holds color at pattern (length pattern)
+    → Holds color (at + q) (take (length pattern - q) (drop q pattern)) (length (take (length pattern - q) (drop q pattern)))
+holds-tail {color} {at} pattern q h =
+    rw tail
+    (record {
       byte =
           λ k i.
-          ap (λ (x : List ℕ). get_or x k 0) (w.is color h)
-          ∙ get_d-overlay-0 (within 0 n) (color_byte color) before k (omega arith)
-          ∙ rw (within-true 0 n k (omega arith) i);
-    }
+          rw get_or-drop
+          (h.byte (q + k) (omega (arith, length-drop q pattern))
+          ∙ color-same color (at + (q + k)) (at + q + k) (ap (λ (x : ℕ). x % 4) (omega arith)));
+    })
+
+-- ---- what is written
+
+-- of no bytes, and of fewer
+pub follows-none : {pattern bytes : List ℕ} → Follows pattern bytes 0
+follows-none = record { holds = λ color at h. record { byte = λ k i. omega arith } }
+
+pub follows-less : {pattern bytes : List ℕ} {n : ℕ} (m : ℕ) → Follows pattern bytes n → m ≤ n → Follows pattern bytes m
+follows-less m w l = record { holds = λ color at h. record { byte = λ k i. (w.holds color at h).byte k (omega arith) } }
+
+-- src, written at index a, is the part of the pattern from its byte q on that is due there
+module _ (pattern : List ℕ) (a q n end : ℕ) (run src rest : List ℕ) {m : ℕ} where
+  pub follows-end : Follows pattern run a → src ≡ take m (drop q pattern) → m ≡ n → q + n ≤ length pattern → q % 4 ≡ a % 4 → a + n ≡ end
+      → a ≤ length run → Follows pattern (take a run ++ (src ++ rest)) end
+  follows-end before is size holds due to fits =
+      let front : length (take a run) ≡ a = length-take-le a run fits in
+      let long : length src ≡ n = rw (is, size) (length-take-le n (drop q pattern) (omega (arith, length-drop q pattern))) in
+      record {
+        holds =
+            λ color at h.
+            record {
+              byte =
+                  λ k i.
+                  split a k
+                  (λ later.
+                  get_or-append_right (take a run) (src ++ rest) a k 0 front later
+                  ∙ get_or-append src rest 0 (k - a) (omega arith)
+                  ∙ ap (λ (l : List ℕ). get_or l (k - a) 0) is
+                  ∙ get_or-take m (drop q pattern) (k - a) 0 (omega arith)
+                  ∙ get_or-drop q pattern (k - a) 0
+                  ∙ h.byte (q + (k - a)) (omega arith)
+                  ∙ color-same color (at + (q + (k - a))) (at + k) (omega arith))
+                  (λ earlier.
+                  get_or-append (take a run) (src ++ rest) 0 k (omega arith)
+                  ∙ get_or-take a run k 0 earlier
+                  ∙ (before.holds color at h).byte k earlier);
+            };
+      }
+
+-- ---- blocks of n bytes
+
+module _ (n len : ℕ) (some : 0 < n) where
+  -- block k of those that there is room for
+  pub block-fits : (k : ℕ) → k < len / n → n * k + n ≤ len
+  block-fits k h =
+      let whole = div-mul-le_self len n in
+      let up = mul-le-mul_right n h in
+      let next = suc-mul k n in
+      omega (arith, mul_comm n k)
+
+  -- past the last of them there is room for none
+  pub blocks-near : len < n * (len / n) + n
+  blocks-near = omega (arith, lt-div-mul-add {a = len} some, mul_comm n (len / n))
+
+pub block-phase : (n k : ℕ) → n % 4 ≡ 0 → n * k % 4 ≡ 0
+block-phase n k e =
+    let fours : n ≡ 4 * (n / 4) = omega arith in
+    rw (fours, mul_assoc) (omega arith)
+
+-- one block more
+pub block-written : (pattern : List ℕ) (n k : ℕ) (run src rest : List ℕ) {m : ℕ} → Follows pattern run (n * k) → src ≡ take m pattern → m ≡ n
+    → n % 4 ≡ 0 → n ≤ length pattern → n * k ≤ length run → Follows pattern (take (n * k) run ++ (src ++ rest)) (n * (k + 1))
+block-written pattern n k run src rest before is size four holds fits =
+    let next : n * k + n ≡ n * (k + 1) = omega (arith, mul_comm n (k + 1), mul_comm n k, suc-mul k n, add-one k) in
+    follows-end pattern (n * k) 0 n (n * (k + 1)) run src rest before is size (omega arith) (omega (arith, block-phase n k four)) next fits

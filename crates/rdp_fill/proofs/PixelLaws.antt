@@ -3,13 +3,9 @@
 --     outside-sound, outside-complete     `outside` is the test that a covered address lies outside memory
 --     two_bytes                           the tests of a fill on an image of 16 bits, whose pixels have two bytes
 -- Assumes nothing.
-use mathlib.Core.Path.{◌≡◌, refl, sym, ◌∙◌}
-use mathlib.Core.Bool.{Bool, true, not, ◌&&◌, ◌||◌, or-false, false≢true}
-use Prim.Native.Nat.{ℕ, suc, ◌+◌, ◌-◌, ◌*◌, ◌/◌, ◌≤◌, ◌<◌}
-use native.Mathlib.Numerals.{add-one}
-use native.Mathlib.Omega.{arith}
-use borrow.Author.Tests.{eqb-true, eq-eqb, not-true}
-use lib.Dec.{eqb}
+use Rattle.std.proofs.Common.{◌≡◌, refl, sym, ◌∙◌, Bool, true, not, ◌&&◌, ◌||◌, ℕ, suc, ◌+◌, ◌-◌, ◌*◌, ◌/◌, ◌≤◌, ◌<◌, add-one, arith, eqb-true, eq-eqb, eqb}
+use Rattle.std.proofs.Math.Bool.{or-false, false≢true}
+use Rattle.std.proofs.lemmas.Bool.{not-true}
 use Rattle.rdp_words.proofs.Tests.{by-test}
 use Rattle.rdp_command.specs.declared.FillFields.{FillFields}
 use Rattle.rdp_fill.specs.Fill.{bytes_per_pixel, covers, outside, pixel_address, some_byte}

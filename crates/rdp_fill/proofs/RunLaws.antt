@@ -1,31 +1,123 @@
 -- Runs of bytes at a stride: one run after the other, and runs that are adjacent. Assumes nothing.
-use mathlib.Core.Path.{◌≡◌, refl, sym, ap, ◌∙◌}
-use mathlib.Core.Bool.{Bool, ◌||◌, or-false}
-use mathlib.Core.List.{List}
-use Prim.Native.Nat.{ℕ, zero, suc, ◌+◌, ◌-◌, ◌*◌, ◌%◌, ◌^◌, ◌≤◌, ◌<◌}
-use native.Mathlib.Nat.{suc-mul, zero-mul}
-use native.Mathlib.Omega.{arith}
-use lib.ListN.{length}
+use Rattle.std.proofs.Common.{◌≡◌, refl, sym, ap, ◌∙◌, Bool, ◌||◌, List, ◌++◌, ℕ, zero, suc, ◌+◌, ◌-◌, ◌*◌, ◌%◌, ◌≤◌, ◌<◌, length, get_or, take, drop, arith, ⊎_elim}
+use Rattle.std.proofs.Math.Bool.{or-false}
+use Rattle.std.proofs.Math.Nat.{suc-mul, zero-mul, mul-le-mul_right}
+use Rattle.std.proofs.Math.ListN.{get_or-append, length-append, length-drop}
+use Rattle.std.proofs.Math.Seq.{length-take-le}
+use Rattle.std.proofs.lemmas.List.{get_or-take, get_or-drop, get_or-append_right}
 use Rattle.rdp_fill.specs.Fill.{color_byte}
+use Rattle.rdp_fill.specs.Pattern.{Holds, Follows}
+use Rattle.rdp_fill.specs.Runs.{in_runs, is_in, Fit, IsJoined}
+use Rattle.rdp_fill.specs.declared.run.Runs.{Runs}
 use Rattle.rdp_pixels.specs.Overlay.{overlay, within}
-use Rattle.rdp_fill.specs.Pattern.{rotated, Repeats, Written}
-use Rattle.rdp_fill.specs.Runs.{in_runs}
-use Rattle.rdp_fill.proofs.ColorLaws.{rotated-byte}
-use Rattle.rdp_pixels.proofs.OverlayLaws.{within-false, within-joined, length-overlay, overlay-none, overlay-cong, overlay-values, overlay-overlay}
+use Rattle.rdp_pixels.proofs.BoolLaws.{or_is, or_left, or_right, same_truth}
+use Rattle.rdp_pixels.proofs.OverlayLaws.{split, within-true, within-is, within-false, within-joined, overlay-none, overlay-cong, overlay-is-0, overlay-overlay}
+use Rattle.rdp_fill.proofs.InsideLaws.{in-runs-is, in-runs-true}
+use Rattle.rdp_fill.proofs.PatternLaws.{color-same, holds-tail}
 
-module _ (from size stride : ℕ) (v : ℕ → ℕ) (m : List ℕ) where
-  pub runs_none : m ≡ overlay (in_runs from size stride 0) v 0 m
-  unfolding in_runs
-  runs_none = overlay-none (in_runs from size stride 0) v 0 m (λ i h. refl)
+-- ---- one run after the other
 
-  -- the first run, and then those after it
-  pub runs-first : (n : ℕ) → overlay (in_runs from size stride (suc n)) v 0 m
-      ≡ overlay (in_runs (from + stride) size stride n) v 0 (overlay (within from (from + size)) v 0 m)
-  unfolding in_runs
-  runs-first n = sym (overlay-overlay (within from (from + size)) (in_runs (from + stride) size stride n) v 0 m)
+-- run number k lies before the end of the last
+pub run-fits : (r : Runs) (k len : ℕ) → Fit r len → k < r.rows → (k * r.stride ≤ len) × (r.from + k * r.stride + r.size ≤ len)
+run-fits r k len fit h =
+    let before : k * r.stride ≤ (r.rows - 1) * r.stride = mul-le-mul_right r.stride (omega arith) in
+    (omega arith, omega arith)
 
--- runs of which each begins where the one before ends are one run
-pub runs-adjacent : (from size rows i : ℕ) → in_runs from size size rows i ≡ within from (from + rows * size) i
+module _ (from size stride : ℕ) where
+  -- the first n + 1 runs are the first n and one more
+  runs-last : (n i : ℕ) → (in_runs from size stride n i || within (from + n * stride) (from + n * stride + size) i) ≡ in_runs from size stride (n + 1) i
+  runs-last n i =
+      let at : ℕ = from + n * stride in
+      same_truth (in_runs from size stride n i || within at (at + size) i) (in_runs from size stride (n + 1) i)
+      (λ e.
+      ⊎_elim
+      (λ before. let r = in-runs-is from size stride n i before in in-runs-true from size stride (n + 1) i r.0 (omega arith) r.2 r.3)
+      (λ last. let w = within-is at (at + size) i last in in-runs-true from size stride (n + 1) i n (omega arith) w.0 w.1)
+      (or_is (in_runs from size stride n i) (within at (at + size) i) e))
+      (λ e.
+      let r = in-runs-is from size stride (n + 1) i e in
+      split n r.0
+      (λ last.
+      let same : r.0 ≡ n = omega arith in
+      or_right (in_runs from size stride n i) (within at (at + size) i) (within-true at (at + size) i (rw same at r.2) (rw same at r.3)))
+      (λ before. or_left (in_runs from size stride n i) (within at (at + size) i) (in-runs-true from size stride n i r.0 before r.2 r.3)))
+
+  module _ (v : ℕ → ℕ) (m : List ℕ) where
+    pub runs_none : m ≡ overlay (in_runs from size stride 0) v 0 m
+    unfolding in_runs
+    runs_none = overlay-none (in_runs from size stride 0) v 0 m (λ i h. refl)
+
+    -- one run more is written over memory
+    pub runs-more : (n : ℕ) → overlay (within (from + n * stride) (from + n * stride + size)) v 0 (overlay (in_runs from size stride n) v 0 m)
+        ≡ overlay (in_runs from size stride (n + 1)) v 0 m
+    runs-more n =
+        let at : ℕ = from + n * stride in
+        overlay-overlay (in_runs from size stride n) (within at (at + size)) v 0 m
+        ∙ overlay-cong (λ i. in_runs from size stride n i || within at (at + size) i) (in_runs from size stride (n + 1)) v 0 m
+        (λ i h. runs-last n (0 + i))
+
+-- a part of memory that comes to hold the values that its indices give
+pub part-overlaid : (a n : ℕ) (v : ℕ → ℕ) (m part : List ℕ) → length part ≡ n → a + n ≤ length m
+    → ((k : ℕ) → k < n → get_or part k 0 ≡ v (a + k)) → take a m ++ (part ++ drop n (drop a m)) ≡ overlay (within a (a + n)) v 0 m
+part-overlaid a n v m part long fits holds =
+    let front : length (take a m) ≡ a = length-take-le a m (omega arith) in
+    let later : List ℕ = drop n (drop a m) in
+    let rest : List ℕ = part ++ later in
+    overlay-is-0 (within a (a + n)) v m (take a m ++ rest)
+    (length-append (take a m) rest ∙ omega (arith, front, length-append part later, length-drop n (drop a m), length-drop a m))
+    (λ i h.
+    split a i
+    (λ after.
+    get_or-append_right (take a m) rest a i 0 front after
+    ∙ split n (i - a)
+    (λ past.
+    get_or-append_right part later n (i - a) 0 long past
+    ∙ get_or-drop n (drop a m) (i - a - n) 0
+    ∙ get_or-drop a m (n + (i - a - n)) 0
+    ∙ ap (λ (k : ℕ). get_or m k 0) (past-it i after past)
+    ∙ rw (within-false a (a + n) i (λ x y. omega arith)))
+    (λ here.
+    get_or-append part later 0 (i - a) (omega arith)
+    ∙ holds (i - a) here
+    ∙ ap v (on-it i after)
+    ∙ rw (within-true a (a + n) i after (omega arith))))
+    (λ before.
+    get_or-append (take a m) rest 0 i (omega arith)
+    ∙ get_or-take a m i 0 before
+    ∙ rw (within-false a (a + n) i (λ x y. omega arith))))
+  where
+    past-it : (i : ℕ) → a ≤ i → n ≤ i - a → a + (n + (i - a - n)) ≡ i
+    past-it i h k = omega arith
+
+    on-it : (i : ℕ) → a ≤ i → a + (i - a) ≡ i
+    on-it i h = omega arith
+
+-- run number k is written from a pattern of the colour, in memory that starts at an address
+module _ (color start : ℕ) (r : Runs) (k : ℕ) where
+  abbrev value : ℕ → ℕ
+  value i = color_byte color (start + i)
+
+  abbrev at : ℕ
+  at = r.from + k * r.stride
+
+  pub run-written : (phase n : ℕ) (m now part pattern : List ℕ) {s p : ℕ} → now ≡ overlay (in_runs r.from r.size r.stride k) value 0 m
+      → Follows (take (length pattern - phase) (drop phase pattern)) part s → Holds color 0 pattern p → p ≡ length pattern
+      → phase % 4 ≡ (start + at) % 4 → length part ≡ n
+      → s ≡ n → n ≡ r.size → at + r.size ≤ length now
+      → take at now ++ (part ++ drop n (drop at now)) ≡ overlay (in_runs r.from r.size r.stride (k + 1)) value 0 m
+  run-written phase n m now part pattern before written holds full due long all whole fits =
+      let fits_n : at + n ≤ length now = omega arith in
+      let shown = (written.holds color (0 + phase) (holds-tail pattern phase (rw full at holds))).byte in
+      let size : at + n ≡ at + r.size = omega arith in
+      part-overlaid at n value now part long fits_n (λ j h. shown j (omega arith) ∙ color-same color (0 + phase + j) (start + (at + j)) (omega arith))
+      ∙ ap (λ (e : ℕ). overlay (within at e) value 0 now) size
+      ∙ ap (overlay (within at (at + r.size)) value 0) before
+      ∙ runs-more r.from r.size r.stride value m k
+
+-- ---- runs that are adjacent
+
+-- each begins where the one before ends: they are one run
+runs-adjacent : (from size rows i : ℕ) → in_runs from size size rows i ≡ within from (from + rows * size) i
 unfolding in_runs
 runs-adjacent from size zero i = sym (rw zero-mul (within-false from (from + 0) i (λ x y. omega arith)))
 runs-adjacent from size (suc n) i =
@@ -36,62 +128,6 @@ runs-adjacent from size (suc n) i =
     next : (n : ℕ) → from + size + n * size ≡ from + suc n * size
     next n = rw suc-mul (omega arith)
 
--- ---- the loop over the runs
-
--- the runs of a colour that are left, from index `at` on: they fit, and make of memory what all of them make of what it was before
-pub record RunsLeft (before : List ℕ) (from size stride rows color : ℕ) (memory : List ℕ) (at left : ℕ) : Type 0 where
-  pub long : length memory ≡ length before
-  pub fits : 0 < left → at + (left - 1) * stride + size ≤ length memory
-  pub due : overlay (in_runs from size stride rows) (color_byte color) 0 before ≡ overlay (in_runs at size stride left) (color_byte color) 0 memory
-
-pub runs-all : (before : List ℕ) (from size stride rows color : ℕ) → from + (rows - 1) * stride + size ≤ length before
-    → RunsLeft before from size stride rows color before from rows
-runs-all before from size stride rows color h = record { long = refl; fits = λ _. h; due = refl }
-
--- the runs after the first end where all do
-fits_next : (at size stride left len : ℕ) → at + (left - 1) * stride + size ≤ len → 0 < left - 1
-    → at + stride + (left - 1 - 1) * stride + size ≤ len
-fits_next at size stride left len h more =
-    let e : left - 1 ≡ suc (left - 1 - 1) = omega arith in
-    let step : (left - 1) * stride ≡ (left - 1 - 1) * stride + stride = ap (λ (n : ℕ). n * stride) e ∙ suc-mul (left - 1 - 1) stride in
-    omega arith
-
-module _ {before : List ℕ} {from size stride rows color : ℕ} {memory : List ℕ} {at left : ℕ}
-    (r : RunsLeft before from size stride rows color memory at left) where
-  abbrev v : ℕ → ℕ
-  v = color_byte color
-
-  pub runs_done : left ≤ 0 → memory ≡ overlay (in_runs from size stride rows) v 0 before
-  runs_done h =
-      let e : 0 ≡ left = omega arith in
-      runs_none at size stride v memory
-      ∙ ap (λ (n : ℕ). overlay (in_runs at size stride n) v 0 memory) e
-      ∙ sym r.due
-
-  module _ (more : 0 < left) where
-    -- the first of them ends inside memory
-    pub run_inside : at + size ≤ length memory
-    run_inside = omega (arith, r.fits more)
-
-    -- after the first is written from a pattern that holds the colour, the others are left
-    pub runs-next : {n : ℕ} {pattern next : List ℕ} → Repeats color n pattern → length pattern ≡ n → Written (within at (at + size)) pattern memory next
-        → RunsLeft before from size stride rows color next (at + stride) (left - 1)
-    runs-next {next = next} holds whole written =
-        let w : next ≡ overlay (within at (at + size)) v 0 memory = written.is color (rw whole holds) in
-        let one : left ≡ suc (left - 1) = omega arith in
-        let same : length memory ≡ length next = sym (ap length w ∙ length-overlay (within at (at + size)) v 0 memory) in
-        record {
-          long = sym same ∙ r.long;
-          fits = λ k. rw (← same) (fits_next at size stride left (length memory) (r.fits more) k);
-          due =
-              r.due
-              ∙ ap (λ (n : ℕ). overlay (in_runs at size stride n) v 0 memory) one
-              ∙ runs-first at size stride v memory (left - 1)
-              ∙ ap (overlay (in_runs (at + stride) size stride (left - 1)) v 0) (sym w);
-        }
-
--- ---- runs that are adjacent
-
 -- they end where the one run does
 pub adjacent-fits : (from size stride rows len : ℕ) → size ≡ stride → from + (rows - 1) * stride + size ≤ len → from + rows * size ≤ len
 adjacent-fits from size stride zero len e h = rw zero-mul (omega arith)
@@ -100,21 +136,21 @@ adjacent-fits from size stride (suc n) len e h =
     let fits = rw (last, ← e) at h in
     rw suc-mul (omega arith)
 
--- what is written as one run is written as all of them
-pub adjacent-one : (from size stride rows : ℕ) (v : ℕ → ℕ) (before : List ℕ) {after : List ℕ} → size ≡ stride
-    → after ≡ overlay (in_runs from (rows * size) stride 1) v 0 before → after ≡ overlay (in_runs from size stride rows) v 0 before
+pub is-joined : (r : Runs) → r.size ≡ r.stride → IsJoined r (record { from = r.from; size = r.rows * r.size; stride = r.stride; rows = 1 })
 unfolding in_runs
-adjacent-one from size stride rows v before e w =
-    rw (← e)
-    (rw (← e) at w
-    ∙ overlay-cong (in_runs from (rows * size) size 1) (in_runs from size size rows) v 0 before
-    (λ i h. or-false (within from (from + rows * size) (0 + i)) ∙ sym (runs-adjacent from size rows (0 + i))))
+is-joined r e =
+    record {
+      same =
+          λ i.
+          or-false (within r.from (r.from + r.rows * r.size) i)
+          ∙ sym (runs-adjacent r.from r.size r.rows i)
+          ∙ ap (λ (s : ℕ). in_runs r.from r.size s r.rows i) e;
+      end = λ len h. let fits = adjacent-fits r.from r.size r.stride r.rows len e h in rw zero-mul (omega arith);
+    }
 
--- ---- memory that starts at an address
+pub joined-itself : (r : Runs) → IsJoined r r
+joined-itself r = record { same = λ i. refl; end = λ len h. h }
 
--- what is written with the colour rotated to the start of memory
-pub rotated-written : (test : ℕ → Bool) (turned color start : ℕ) (before : List ℕ) {after : List ℕ} → turned ≡ rotated color (start % 4)
-    → color < 2 ^ 32 → after ≡ overlay test (color_byte turned) 0 before → after ≡ overlay test (λ i. color_byte color (start + i)) 0 before
-rotated-written test turned color start before e h w =
-    w
-    ∙ overlay-values test (color_byte turned) (λ i. color_byte color (start + i)) 0 before (λ i _. rw e (rotated-byte color start h (0 + i)))
+-- what is written to joined runs is written to all of them
+pub joined-overlaid : {r joined : Runs} → IsJoined r joined → (v : ℕ → ℕ) (m : List ℕ) → overlay (is_in joined) v 0 m ≡ overlay (is_in r) v 0 m
+joined-overlaid {r} {joined} j v m = overlay-cong (is_in joined) (is_in r) v 0 m (λ i h. j.same (0 + i))

@@ -1,12 +1,7 @@
 -- For every width alike, each byte of a pixel's value is `color_byte` of its own address. Assumes nothing.
-use mathlib.Core.Path.{◌≡◌, refl, sym, ap, ◌∙◌}
-use mathlib.Core.Logic.{◌⊎◌, inl, inr, ⊎_elim}
-use mathlib.Core.Bool.{Bool, true, false, cond}
-use Prim.Native.Nat.{ℕ, ◌+◌, ◌-◌, ◌*◌, ◌/◌, ◌%◌, ◌^◌, ◌≤◌, ◌<◌}
-use native.Mathlib.Nat.{mod-add-mod, mod-eq_of_lt}
-use native.Mathlib.Omega.{arith}
-use lib.Dec.{eqb}
-use lib.Pow.{field, mod-mod-pow, shr-shr}
+use Rattle.std.proofs.Common.{◌≡◌, refl, sym, ap, ◌∙◌, ◌⊎◌, inl, inr, ⊎_elim, Bool, true, false, cond, ℕ, ◌+◌, ◌-◌, ◌*◌, ◌/◌, ◌%◌, ◌^◌, ◌≤◌, ◌<◌, mod-eq_of_lt, arith, eqb, shr-shr}
+use Rattle.std.proofs.Math.Nat.{mod-add-mod}
+use Rattle.std.proofs.Math.Pow.{field, mod-mod-pow}
 use Rattle.rdp_command.specs.declared.Image.{Image}
 use Rattle.rdp_fill.specs.Fill.{color_byte, bytes_per_pixel, pixel_address}
 use Rattle.rdp_fill.specs.Width.{pixel_value, byte_of}

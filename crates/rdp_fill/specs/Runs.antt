@@ -1,6 +1,6 @@
 -- The kept pixels of a fill as runs of bytes, a run for each kept row. No public contract cites this.
-use Rattle.std.specs.Prelude.{ℕ, zero, suc, ◌+◌, ◌-◌, ◌*◌, ◌/◌, ◌≤◌, Bool, false, cond, ◌&&◌, ◌||◌, leb, eqb}
-use Rattle.rdp_fill.specs.declared.Area.{Area}
+use Rattle.std.specs.Prelude.{◌≡◌, ℕ, zero, suc, ◌+◌, ◌-◌, ◌*◌, ◌/◌, ◌≤◌, Bool, false, cond, ◌&&◌, ◌||◌, leb, eqb}
+use Rattle.rdp_fill.specs.declared.run.Runs.{Runs}
 use Rattle.rdp_command.specs.declared.FillFields.{FillFields}
 use Rattle.rdp_fill.specs.Fill.{bytes_per_pixel, pixel_address}
 use Rattle.rdp_pixels.specs.Kept.{first_kept, end_kept, kept_from}
@@ -10,6 +10,19 @@ use Rattle.rdp_pixels.specs.Overlay.{within}
 unfoldable pub in_runs : ℕ → ℕ → ℕ → ℕ → ℕ → Bool
 in_runs from size stride zero i = false
 in_runs from size stride (suc rows) i = within from (from + size) i || in_runs (from + stride) size stride rows i
+
+-- the same of the runs of bytes of memory
+abbrev pub is_in : Runs → ℕ → Bool
+is_in r = in_runs r.from r.size r.stride r.rows
+
+-- they end by index `end`
+abbrev pub Fit : Runs → ℕ → Type 0
+Fit r end = r.from + (r.rows - 1) * r.stride + r.size ≤ end
+
+-- runs of the same bytes, which end no later
+pub record IsJoined (r joined : Runs) : Type 0 where
+  pub same : (i : ℕ) → is_in joined i ≡ is_in r i
+  pub end : (len : ℕ) → Fit r len → Fit joined len
 
 -- the kept columns and rows of a fill
 abbrev pub first_column : FillFields → ℕ
@@ -42,6 +55,13 @@ stride_of f = row_step f * ((f.image.width + 1) * bytes_per_pixel f.image.size)
 abbrev pub run_bytes : FillFields → ℕ
 run_bytes f = (end_column f - first_column f) * bytes_per_pixel f.image.size
 
+-- the bytes of the kept pixels of a fill: `rows` runs of `size` bytes each, the first at the address `first`, each next one `stride` bytes on
+pub record Area : Type 0 where
+  pub first : ℕ
+  pub size : ℕ
+  pub stride : ℕ
+  pub rows : ℕ
+
 unfoldable pub area_of : FillFields → Area
 area_of f =
     record {
@@ -67,3 +87,7 @@ unfoldable pub area_inside : Area → ℕ → ℕ → Bool
 area_inside area start len =
     area_empty area
     || (leb start area.first && leb (area.first + (area.rows - 1) * area.stride + area.size) (start + len))
+
+-- its runs by the indices of memory that starts at an address
+abbrev pub runs_from : ℕ → Area → Runs
+runs_from start area = record { from = area.first - start; size = area.size; stride = area.stride; rows = area.rows }

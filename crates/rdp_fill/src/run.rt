@@ -1,182 +1,137 @@
 // Runs of bytes written with the fill colour, which is laid out as a pattern of bytes first.
-ghost use Rattle.std.specs.Prelude.{◌≡◌, ◌+◌, ◌-◌, ◌*◌, ◌%◌, ◌<◌, ◌≤◌, length};
+ghost use Rattle.std.specs.Prelude.{◌≡◌, ℕ, ◌+◌, ◌-◌, ◌%◌, ◌^◌, ◌<◌, ◌≤◌, length, take};
 ghost use Rattle.rdp_fill.specs.Fill.{color_byte};
-ghost use Rattle.rdp_pixels.specs.Overlay.{overlay, within};
-ghost use Rattle.rdp_fill.specs.Pattern.{rotated, Repeats, Written, ChunksAre};
-ghost use Rattle.rdp_fill.specs.Runs.{in_runs};
+ghost use Rattle.rdp_pixels.specs.Overlay.{overlay};
+ghost use Rattle.rdp_fill.specs.Pattern.{Holds, Follows};
+ghost use Rattle.rdp_fill.specs.Runs.{is_in, Fit, IsJoined};
 
-// Copies n bytes of the pattern to index `at` and those after it, from the byte that belongs at `at` on.
-fn copy(memory: &mut [u8], at: usize, n: usize, pattern: &[u8])
-    requires { (at + n ≤ length memory.old) × (at % 4 + n ≤ length pattern.now) }
-    ensures { Written (within at (at + n)) pattern.now memory.old memory.new }
+// Runs of bytes of memory, by index: `rows` runs of `size` bytes each, the first at `from` and each next one `stride` on.
+#[derive(Clone, Copy)]
+pub struct Runs {
+    pub from: usize,
+    pub size: usize,
+    pub stride: usize,
+    pub rows: usize,
+}
+
+// Writes as many bytes of the pattern as there are. The method `copy_from_slice` compares the two addresses, so that blocks of 16 bytes take longer.
+fn copy(part: &mut [u8], pattern: &[u8])
+    requires { length part.old ≤ length pattern.now }
+    ensures { part.new ≡ take (length part.old) pattern.now }
 {
-    let phase = at % 4;
-    let mut k: usize = 0;
-    while k < n {
-        memory[at + k] = pattern[phase + k];
-        k += 1;
+    for (k, byte) in part.iter_mut().enumerate() {
+        *byte = pattern[k];
     }
 }
 
-// Writes whole chunks from index `from` on, as long as they end by index `to`. It answers the index that it reached.
-fn chunks(memory: &mut [u8], from: usize, to: usize, pattern: &[u8], chunk: usize) -> usize
-    requires { (from ≤ to) × (to ≤ length memory.old) × (0 < chunk) × (chunk + 4 ≤ length pattern.now) }
-    ensures { ChunksAre from to chunk pattern.now memory.old memory.new result }
+// Writes the pattern's first N bytes over and over, as long as there is room for all of them. It answers the index that it reached.
+fn blocks<const N: usize>(run: &mut [u8], pattern: &[u8]) -> usize
+    requires { (0 < N) × (N % 4 ≡ 0) × (N ≤ length pattern.now) }
+    ensures reached { (result ≤ length run.old) × (length run.old < result + N) × (result % 4 ≡ 0) }
+    ensures bytes { Follows pattern.now run.new result }
 {
-    let mut at = from;
-    while chunk <= to - at {
-        copy(memory, at, chunk, pattern);
-        at += chunk;
+    let count = run.len() / N;
+    for k in 0..count {
+        let at = N * k;
+        copy(&mut run[at..at + N], pattern);
     }
-    at
+    N * count
 }
 
-// As `chunks`, where at most one chunk fits.
-fn one_chunk(memory: &mut [u8], from: usize, to: usize, pattern: &[u8], chunk: usize) -> usize
-    requires { (from ≤ to) × (to ≤ length memory.old) × (to - from < 2 * chunk) × (chunk + 4 ≤ length pattern.now) }
-    ensures { ChunksAre from to chunk pattern.now memory.old memory.new result }
+// Writes the last N bytes of a run. Some of them may be written already, and get the bytes that they have.
+fn end<const N: usize>(run: &mut [u8], pattern: &[u8])
+    requires { (N ≤ length run.old) × (N + 3 ≤ length pattern.now) }
+    ensures { (n : ℕ) → length run.old ≤ n + N → Follows pattern.now run.old n → Follows pattern.now run.new (length run.old) }
 {
-    if to - from < chunk {
-        return from;
-    }
-    copy(memory, from, chunk, pattern);
-    from + chunk
+    let at = run.len() - N;
+    copy(&mut run[at..], &pattern[at % 4..]);
 }
 
-// Writes a run of fewer than 16 bytes.
-fn scrap(memory: &mut [u8], from: usize, to: usize, pattern: &[u8])
-    requires { (from ≤ to) × (to ≤ length memory.old) × (to - from < 16) × (20 ≤ length pattern.now) }
-    ensures { Written (within from to) pattern.now memory.old memory.new }
+// Writes a run N bytes at a time.
+fn cover<const N: usize>(run: &mut [u8], pattern: &[u8])
+    requires { (0 < N) × (N % 4 ≡ 0) × (N ≤ length run.old) × (N + 3 ≤ length pattern.now) }
+    ensures { Follows pattern.now run.new (length run.old) }
 {
-    let second = one_chunk(memory, from, to, pattern, 8);
-    let third = one_chunk(memory, second, to, pattern, 4);
-    copy(memory, third, to - third, pattern);
-}
-
-// Writes a run of few bytes, 16 at a time. The last 16 may lie over some before them, which get the bytes that they have.
-fn short_run(memory: &mut [u8], from: usize, to: usize, pattern: &[u8])
-    requires { (from ≤ to) × (to ≤ length memory.old) × (20 ≤ length pattern.now) }
-    ensures { Written (within from to) pattern.now memory.old memory.new }
-{
-    if to - from < 16 {
-        scrap(memory, from, to, pattern);
-        return;
-    }
-    let reached = chunks(memory, from, to, pattern, 16);
-    if reached < to {
-        copy(memory, to - 16, 16, pattern);
-        return;
+    let reached = blocks::<N>(run, pattern);
+    if reached < run.len() {
+        end::<N>(run, pattern);
     }
 }
 
-// Writes a run of many bytes, most of them 2,048 at a time.
-fn long_run(memory: &mut [u8], from: usize, to: usize, pattern: &[u8])
-    requires { (from ≤ to) × (to ≤ length memory.old) × (2052 ≤ length pattern.now) }
-    ensures { Written (within from to) pattern.now memory.old memory.new }
+// Writes a run of any length, most of it N bytes at a time.
+fn write_run<const N: usize>(run: &mut [u8], pattern: &[u8])
+    requires { (16 ≤ N) × (N % 4 ≡ 0) × (N + 3 ≤ length pattern.now) }
+    ensures { Follows pattern.now run.new (length run.old) }
 {
-    let last = chunks(memory, from, to, pattern, 2048);
-    copy(memory, last, to - last, pattern);
-}
-
-// The colour's four bytes, five times.
-fn short_pattern(color: u32) -> [u8; 20]
-    ensures { Repeats color 20 result }
-{
-    let a = (color >> 24) as u8;
-    let b = ((color >> 16) % 256) as u8;
-    let c = ((color >> 8) % 256) as u8;
-    let d = (color % 256) as u8;
-    [a, b, c, d, a, b, c, d, a, b, c, d, a, b, c, d, a, b, c, d]
-}
-
-// The colour's four bytes, 513 times.
-fn long_pattern(color: u32) -> [u8; 2052]
-    ensures { Repeats color 2052 result }
-{
-    let short = short_pattern(color);
-    let mut pattern = [0u8; 2052];
-    copy(&mut pattern, 0, 16, &short);
-    let mut k: usize = 16;
-    while k < 2052 {
-        pattern[k] = pattern[k - 16];
-        k += 1;
+    match run.len() {
+        0..=3 => copy(run, pattern),
+        4..=7 => cover::<4>(run, pattern),
+        8..=15 => cover::<8>(run, pattern),
+        len => {
+            let reached = blocks::<N>(run, pattern);
+            match len - reached {
+                0 => (),
+                1..=15 => end::<16>(run, pattern),
+                _ => copy(&mut run[reached..], pattern),
+            }
+        }
     }
+}
+
+// The colour's four bytes, over and over.
+fn pattern_of<const P: usize>(color: u32) -> [u8; P]
+    requires { P % 4 ≡ 0 }
+    ensures { Holds color 0 result P }
+{
+    let mut pattern = [0u8; P];
+    let _ = blocks::<4>(&mut pattern, &color.to_be_bytes());
     pattern
 }
 
-// The colour with the bytes that belong at an address and after it first.
-fn rotated_color(color: u32, address: u64) -> u32
-    ensures { result ≡ rotated color (address % 4) }
+// Writes runs, N bytes at a time.
+fn paint_with<const N: usize, const P: usize>(memory: &mut [u8], start: u64, runs: Runs, color: u32)
+    requires pattern { (16 ≤ N) × (N % 4 ≡ 0) × (N + 6 ≤ P) × (P % 4 ≡ 0) × (P ≤ 4096) }
+    requires fit { Fit runs (length memory.old) }
+    ensures { memory.new ≡ overlay (is_in runs) (λ i. color_byte color (start + i)) 0 memory.old }
 {
-    let place = address % 4;
-    match place {
-        0 => color,
-        1 => color % 16777216 * 256 + color / 16777216,
-        2 => color % 65536 * 65536 + color / 65536,
-        _ => color % 256 * 16777216 + color / 256,
+    let bytes = pattern_of::<P>(color);
+    let pattern = &bytes[..];
+    let turn = (start % 4) as usize;
+    for row in 0..runs.rows {
+        let at = runs.from + row * runs.stride;
+        let phase = (turn + at) % 4;
+        write_run::<N>(&mut memory[at..at + runs.size], &pattern[phase..]);
     }
 }
 
-// Writes runs of few bytes.
-fn paint_short(memory: &mut [u8], from: usize, size: usize, stride: usize, rows: usize, color: u32)
-    requires { (stride ≤ 1048576) × (from + (rows - 1) * stride + size ≤ length memory.old) }
-    ensures { memory.new ≡ overlay (in_runs from size stride rows) (color_byte color) 0 memory.old }
-{
-    let pattern = short_pattern(color);
-    let mut at = from;
-    let mut left = rows;
-    while 0 < left {
-        short_run(memory, at, at + size, &pattern);
-        at += stride;
-        left -= 1;
+impl Runs {
+    // Runs that are adjacent are one.
+    fn joined(self) -> Runs
+        requires { Fit self (2 ^ 64 - 1) }
+        ensures { IsJoined self result }
+    {
+        if self.size != self.stride {
+            return self;
+        }
+        Runs {
+            from: self.from,
+            size: self.rows * self.size,
+            stride: self.stride,
+            rows: 1,
+        }
     }
-}
 
-// Writes runs of many bytes.
-fn paint_long(memory: &mut [u8], from: usize, size: usize, stride: usize, rows: usize, color: u32)
-    requires { (stride ≤ 1048576) × (from + (rows - 1) * stride + size ≤ length memory.old) }
-    ensures { memory.new ≡ overlay (in_runs from size stride rows) (color_byte color) 0 memory.old }
-{
-    let pattern = long_pattern(color);
-    let mut at = from;
-    let mut left = rows;
-    while 0 < left {
-        long_run(memory, at, at + size, &pattern);
-        at += stride;
-        left -= 1;
+    // Writes the fill colour to all of them, in memory that starts at address `start`. To lay out the long pattern takes as long as to write a few thousand
+    // bytes with the short one.
+    pub fn paint(self, memory: &mut [u8], start: u64, color: u32)
+        requires { Fit self (length memory.old) }
+        ensures { memory.new ≡ overlay (is_in self) (λ i. color_byte color (start + i)) 0 memory.old }
+    {
+        let runs = self.joined();
+        if (runs.size < 1024) | ((runs.size < 8192) & (runs.rows < 8)) {
+            paint_with::<16, 24>(memory, start, runs, color);
+            return;
+        }
+        paint_with::<2048, 2056>(memory, start, runs, color);
     }
-}
-
-// Writes runs, with the pattern that suits them: to lay out the long one takes as long as to write a few thousand bytes with the short one.
-fn paint_sized(memory: &mut [u8], from: usize, size: usize, stride: usize, rows: usize, color: u32)
-    requires { (stride ≤ 1048576) × (from + (rows - 1) * stride + size ≤ length memory.old) }
-    ensures { memory.new ≡ overlay (in_runs from size stride rows) (color_byte color) 0 memory.old }
-{
-    if (size < 1024) | ((size < 8192) & (rows < 8)) {
-        paint_short(memory, from, size, stride, rows, color);
-        return;
-    }
-    paint_long(memory, from, size, stride, rows, color);
-}
-
-// Writes the fill colour to `rows` runs of `size` bytes, the first at index `from` and each next one `stride` on, of memory that starts at address
-// `start`. Runs that are adjacent are one.
-pub fn paint_runs(
-    memory: &mut [u8],
-    start: u64,
-    from: usize,
-    size: usize,
-    stride: usize,
-    rows: usize,
-    color: u32,
-)
-    requires { (stride ≤ 1048576) × (from + (rows - 1) * stride + size ≤ length memory.old) }
-    ensures { memory.new ≡ overlay (in_runs from size stride rows) (λ i. color_byte color (start + i)) 0 memory.old }
-{
-    let turned = rotated_color(color, start);
-    if size == stride {
-        paint_sized(memory, from, rows * size, stride, 1, turned);
-        return;
-    }
-    paint_sized(memory, from, size, stride, rows, turned);
 }

@@ -1,20 +1,18 @@
 -- `rdp_fill::paint` meets its contract. Assumes nothing.
-use mathlib.Core.Path.{sym, ◌∙◌}
+use Rattle.std.proofs.Common.{sym, ◌∙◌}
 use Rattle.rdp_fill.proofs.AreaLaws.{leaves-painted, leaves_all}
 use Rattle.rdp_fill.proofs.paint.Goals as goal
 
 pub paint_area-requires : goal.paint_area-requires
-paint_area-requires c =
-    let a = c.area_of-area.ensures in
-    (a.0, (a.1, sym c.area_inside.ensures ∙ c.if-area_inside.true))
+paint_area-requires c = (c.of-area.ensures, sym c.is_inside.ensures ∙ c.if-is_inside.true)
 
-pub returns-then-area_inside : goal.returns-then-area_inside
-returns-then-area_inside c =
+pub returns-then-is_inside : goal.returns-then-is_inside
+returns-then-is_inside c =
     let s = c.args in
     c.paint_area.ensures ∙
-    leaves-painted s.fill _ c.area_of-area.ensures.0 s.start s.memory.now (sym c.area_inside.ensures ∙ c.if-area_inside.true)
+    leaves-painted s.fill _ c.of-area.ensures s.start s.memory.now (sym c.is_inside.ensures ∙ c.if-is_inside.true)
 
-pub returns : goal.returns
-returns c =
+pub returns-else-is_inside : goal.returns-else-is_inside
+returns-else-is_inside c =
     let s = c.args in
-    leaves_all s.fill _ c.area_of-area.ensures.0 s.start s.memory.now (sym c.area_inside.ensures ∙ c.if-area_inside.false)
+    leaves_all s.fill _ c.of-area.ensures s.start s.memory.now (sym c.is_inside.ensures ∙ c.if-is_inside.false)

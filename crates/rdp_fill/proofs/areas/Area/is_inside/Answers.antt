@@ -1,0 +1,22 @@
+-- Each way by the law of the tests that led there. Assumes nothing.
+use Rattle.std.proofs.Common.{◌≡◌, sym, ◌∙◌, false}
+use Rattle.rdp_fill.specs.Runs.{area_empty}
+use Rattle.rdp_fill.proofs.InsideLaws.{inside-empty, inside-early, inside-late}
+use Rattle.rdp_fill.proofs.areas.Area.is_inside.Goals as goal
+
+pub returns-then-is_empty : goal.returns-then-is_empty
+returns-then-is_empty c =
+    let s = c.args in
+    sym (inside-empty s.self.now s.start s.len (sym c.is_empty.ensures ∙ c.if-is_empty.true))
+
+pub returns-then-self-start : goal.returns-then-self-start
+returns-then-self-start c =
+    let s = c.args in
+    sym (inside-early s.self.now s.start s.len (sym c.is_empty.ensures ∙ c.if-is_empty.false) (rw (← c.self.view_is) c.if-self-start.true))
+
+pub returns : goal.returns
+returns c =
+    let s = c.args in
+    let some : area_empty s.self.now ≡ false = sym c.is_empty.ensures ∙ c.if-is_empty.false in
+    rw (← c.self.view_is)
+    (inside-late _ s.start s.len (rw (← c.self.view_is) at some) c.if-self-start.false _ c.extent.ensures.0)
