@@ -92,24 +92,24 @@ part-overlaid a n v m part long fits holds =
     on-it : (i : ℕ) → a ≤ i → a + (i - a) ≡ i
     on-it i h = omega arith
 
--- run number k is written from a pattern of the colour, in memory that starts at an address
-module _ (color start : ℕ) (r : Runs) (k : ℕ) where
+-- run number k is written from a pattern of the colour
+module _ (color : ℕ) (r : Runs) (k : ℕ) where
   abbrev value : ℕ → ℕ
-  value i = color_byte color (start + i)
+  value i = color_byte color (r.start + i)
 
   abbrev at : ℕ
   at = r.from + k * r.stride
 
   pub run-written : (phase n : ℕ) (m now part pattern : List ℕ) {s p : ℕ} → now ≡ overlay (in_runs r.from r.size r.stride k) value 0 m
       → Follows (take (length pattern - phase) (drop phase pattern)) part s → Holds color 0 pattern p → p ≡ length pattern
-      → phase % 4 ≡ (start + at) % 4 → length part ≡ n
+      → phase % 4 ≡ (r.start + at) % 4 → length part ≡ n
       → s ≡ n → n ≡ r.size → at + r.size ≤ length now
       → take at now ++ (part ++ drop n (drop at now)) ≡ overlay (in_runs r.from r.size r.stride (k + 1)) value 0 m
   run-written phase n m now part pattern before written holds full due long all whole fits =
       let fits_n : at + n ≤ length now = omega arith in
       let shown = (written.holds color (0 + phase) (holds-tail pattern phase (rw full at holds))).byte in
       let size : at + n ≡ at + r.size = omega arith in
-      part-overlaid at n value now part long fits_n (λ j h. shown j (omega arith) ∙ color-same color (0 + phase + j) (start + (at + j)) (omega arith))
+      part-overlaid at n value now part long fits_n (λ j h. shown j (omega arith) ∙ color-same color (0 + phase + j) (r.start + (at + j)) (omega arith))
       ∙ ap (λ (e : ℕ). overlay (within at e) value 0 now) size
       ∙ ap (overlay (within at (at + r.size)) value 0) before
       ∙ runs-more r.from r.size r.stride value m k
@@ -136,10 +136,11 @@ adjacent-fits from size stride (suc n) len e h =
     let fits = rw (last, ← e) at h in
     rw suc-mul (omega arith)
 
-pub is-joined : (r : Runs) → r.size ≡ r.stride → IsJoined r (record { from = r.from; size = r.rows * r.size; stride = r.stride; rows = 1 })
+pub is-joined : (r : Runs) → r.size ≡ r.stride → IsJoined r (record { start = r.start; from = r.from; size = r.rows * r.size; stride = r.stride; rows = 1 })
 unfolding in_runs
 is-joined r e =
     record {
+      start = refl;
       same =
           λ i.
           or-false (within r.from (r.from + r.rows * r.size) i)
@@ -149,7 +150,7 @@ is-joined r e =
     }
 
 pub joined-itself : (r : Runs) → IsJoined r r
-joined-itself r = record { same = λ i. refl; end = λ len h. h }
+joined-itself r = record { start = refl; same = λ i. refl; end = λ len h. h }
 
 -- what is written to joined runs is written to all of them
 pub joined-overlaid : {r joined : Runs} → IsJoined r joined → (v : ℕ → ℕ) (m : List ℕ) → overlay (is_in joined) v 0 m ≡ overlay (is_in r) v 0 m

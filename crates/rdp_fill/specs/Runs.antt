@@ -21,6 +21,7 @@ Fit r end = r.from + (r.rows - 1) * r.stride + r.size ≤ end
 
 -- runs of the same bytes, which end no later
 pub record IsJoined (r joined : Runs) : Type 0 where
+  pub start : joined.start ≡ r.start
   pub same : (i : ℕ) → is_in joined i ≡ is_in r i
   pub end : (len : ℕ) → Fit r len → Fit joined len
 
@@ -90,4 +91,4 @@ area_inside area start len =
 
 -- its runs by the indices of memory that starts at an address
 abbrev pub runs_from : ℕ → Area → Runs
-runs_from start area = record { from = area.first - start; size = area.size; stride = area.stride; rows = area.rows }
+runs_from start area = record { start = start; from = area.first - start; size = area.size; stride = area.stride; rows = area.rows }

@@ -135,6 +135,7 @@ impl Area {
         ensures { result ≡ runs_from start self.now }
     {
         Runs {
+            start,
             from: (self.first - start) as usize,
             size: self.size as usize,
             stride: self.stride as usize,

@@ -5,7 +5,6 @@ ghost use Rattle.std.specs.Prelude.{not, ◌≡◌};
 ghost use Rattle.rdp_fill.specs.Fill.{outside, fill_memory};
 
 mod areas;
-mod painting;
 mod run;
 
 use areas::Area;
@@ -23,7 +22,10 @@ pub fn paint(memory: &mut [u8], start: u64, fill: FillFields)
     ensures { memory.new ≡ fill_memory fill start memory.old }
 {
     let area = Area::of(fill);
+    if area.is_empty() {
+        return;
+    }
     if area.is_inside(start, memory.len()) {
-        painting::paint_area(memory, start, fill, area);
+        area.runs_from(start).paint(memory, fill.color);
     }
 }

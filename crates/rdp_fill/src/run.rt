@@ -5,9 +5,10 @@ ghost use Rattle.rdp_pixels.specs.Overlay.{overlay};
 ghost use Rattle.rdp_fill.specs.Pattern.{Holds, Follows};
 ghost use Rattle.rdp_fill.specs.Runs.{is_in, Fit, IsJoined};
 
-// Runs of bytes of memory, by index: `rows` runs of `size` bytes each, the first at `from` and each next one `stride` on.
+// Runs of bytes of memory that starts at address `start`, by index: `rows` runs of `size` bytes each, the first at `from` and each next one `stride` on.
 #[derive(Clone, Copy)]
 pub struct Runs {
+    pub start: u64,
     pub from: usize,
     pub size: usize,
     pub stride: usize,
@@ -89,14 +90,14 @@ fn pattern_of<const P: usize>(color: u32) -> [u8; P]
 }
 
 // Writes runs, N bytes at a time.
-fn paint_with<const N: usize, const P: usize>(memory: &mut [u8], start: u64, runs: Runs, color: u32)
+fn paint_with<const N: usize, const P: usize>(memory: &mut [u8], runs: Runs, color: u32)
     requires pattern { (16 ≤ N) × (N % 4 ≡ 0) × (N + 6 ≤ P) × (P % 4 ≡ 0) × (P ≤ 4096) }
     requires fit { Fit runs (length memory.old) }
-    ensures { memory.new ≡ overlay (is_in runs) (λ i. color_byte color (start + i)) 0 memory.old }
+    ensures { memory.new ≡ overlay (is_in runs) (λ i. color_byte color (runs.start + i)) 0 memory.old }
 {
     let bytes = pattern_of::<P>(color);
     let pattern = &bytes[..];
-    let turn = (start % 4) as usize;
+    let turn = (runs.start % 4) as usize;
     for row in 0..runs.rows {
         let at = runs.from + row * runs.stride;
         let phase = (turn + at) % 4;
@@ -114,6 +115,7 @@ impl Runs {
             return self;
         }
         Runs {
+            start: self.start,
             from: self.from,
             size: self.rows * self.size,
             stride: self.stride,
@@ -121,17 +123,16 @@ impl Runs {
         }
     }
 
-    // Writes the fill colour to all of them, in memory that starts at address `start`. To lay out the long pattern takes as long as to write a few thousand
-    // bytes with the short one.
-    pub fn paint(self, memory: &mut [u8], start: u64, color: u32)
+    // Writes the fill colour to all of them. To lay out the long pattern takes as long as to write a few thousand bytes with the short one.
+    pub fn paint(self, memory: &mut [u8], color: u32)
         requires { Fit self (length memory.old) }
-        ensures { memory.new ≡ overlay (is_in self) (λ i. color_byte color (start + i)) 0 memory.old }
+        ensures { memory.new ≡ overlay (is_in self) (λ i. color_byte color (self.start + i)) 0 memory.old }
     {
         let runs = self.joined();
         if (runs.size < 1024) | ((runs.size < 8192) & (runs.rows < 8)) {
-            paint_with::<16, 24>(memory, start, runs, color);
+            paint_with::<16, 24>(memory, runs, color);
             return;
         }
-        paint_with::<2048, 2056>(memory, start, runs, color);
+        paint_with::<2048, 2056>(memory, runs, color);
     }
 }
