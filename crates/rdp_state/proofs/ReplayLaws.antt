@@ -15,11 +15,15 @@ use Rattle.rdp_words.proofs.Tests.{by-test, false_of}
 use Rattle.rdp_words.proofs.KindLaws.{words-most}
 use Rattle.rdp_check.specs.Commands.{commands_of, rest_of}
 use Rattle.rdp_check.specs.Registers.{no_registers}
-use Rattle.rdp_check.specs.Check.{State, start, after_command, Refusals, own_refusals, sync_refusals, check_refusals, refusal_at, Judgement, settle, judge, judge_list, outcome_within}
+use Rattle.rdp_check.specs.Check.{State, start, after_command, Refusals, own_refusals, sync_refusals, check_refusals, refusal_at, Judgement, settle, judge, judge_list, outcome_within, checked_in, check_of}
 use Rattle.rdp_state.specs.RegisterWords.{words_after, registers_in}
 use Rattle.rdp_state.specs.Resume.{waited_after}
-use Rattle.rdp_state.specs.Replay.{up_to, storing, applying, adding, words_up_to, registers_up_to, waited_up_to, end_of}
+use Rattle.rdp_state.specs.Replay.{up_to, storing, applying, adding, words_up_to, registers_up_to, waited_up_to, end_of, told_by}
 use Rattle.rdp_check.specs.declared.Registers.{Registers}
+use Rattle.rdp_check.specs.declared.Accepted.{Accepted}
+use Rattle.rdp_check.specs.declared.Refused.{Refused}
+use Rattle.rdp_words.specs.Grounds.{Answer}
+use Rattle.std.specs.Prelude.{Result, Ok, Err}
 use Rattle.rdp_words.proofs.PlaceLaws.{number_small, some_words}
 use Rattle.rdp_check.proofs.ListLaws.{commands-at, command-number, command-word, commands-past}
 use Rattle.rdp_check.proofs.JoinLaws.{command-some}
@@ -139,6 +143,18 @@ left refusals s at (c ∷ cs) rest =
     let o = judge refusals (after_command s c) (at + w) cs rest in
     let more : at < o.place = omega (arith, command-some c, judge-from refusals (after_command s c) (at + w) cs rest) in
     left-next s at c cs (refusal_at refusals s c) o more (left refusals (after_command s c) (at + w) cs rest)
+
+-- what the check tells is of the outcome
+told-checked :
+    (list : List ℕ) (r : Result Accepted Refused) →
+    told_by r ≡ (record { number = (checked_in list r).number; place = (checked_in list r).place }, (checked_in list r).hazards)
+told-checked list (Ok a) = refl
+told-checked list (Err r) = refl
+
+pub told-is :
+    (list : List ℕ) (r : Result Accepted Refused) (t : Answer × ℕ) → t ≡ told_by r → checked_in list r ≡ check_of list →
+    t ≡ (record { number = (check_of list).number; place = (check_of list).place }, (check_of list).hazards)
+told-is list r t is-t e = is-t ∙ told-checked list r ∙ (λ i. (record { number = (e i).number; place = (e i).place }, (e i).hazards))
 
 -- 1 and 2 are refusals of the whole list, and none of a command
 abbrev pub apart : ℕ → Bool

@@ -18,9 +18,8 @@ use Rattle.rdp_check.proofs.OnwardLaws.{from-over, from-state}
 use Rattle.rdp_state.specs.RegisterWords.{registers_by, word}
 use Rattle.rdp_state.specs.Replay.{storing, adding, words_up_to, waited_up_to, end_of}
 use Rattle.rdp_state.specs.declared.Replay.{Replay}
-use Rattle.rdp_state.specs.Resume.{state_in, resumed_at, judge_in, resumed_of}
+use Rattle.rdp_state.specs.Resume.{Resumed, state_in, resumed_at, judge_in, resumed_of}
 use Rattle.rdp_state.specs.declared.Standing.{Standing}
-use Rattle.rdp_state.specs.declared.Resumed.{Resumed}
 use Rattle.rdp_state.proofs.ReplayLaws.{still, apart, check-apart, end-at}
 use Rattle.rdp_state.proofs.StandingLaws.{outcome_in, judged-state, left_in}
 

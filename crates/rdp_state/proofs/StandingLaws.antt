@@ -19,9 +19,8 @@ use Rattle.rdp_check.proofs.JoinLaws.{Alone, AllAlone, command-some}
 use Rattle.rdp_check.proofs.StopLaws.{alone-there}
 use Rattle.rdp_state.specs.RegisterWords.{tile_in, slot_of}
 use Rattle.rdp_state.specs.Replay.{up_to, words_up_to, waited_up_to}
-use Rattle.rdp_state.specs.Resume.{state_in, idle, standing_after, resumed_at, settle_in, judge_in}
+use Rattle.rdp_state.specs.Resume.{Resumed, state_in, idle, standing_after, resumed_at, settle_in, judge_in}
 use Rattle.rdp_state.specs.declared.Standing.{Standing}
-use Rattle.rdp_state.specs.declared.Resumed.{Resumed}
 use Rattle.rdp_state.proofs.RegisterLaws.{length-stored, registers-stored, none-set}
 
 -- ---- the state

@@ -1,6 +1,10 @@
 -- How the replay finds a slot, and what its loop promises. No public contract cites this.
-use Rattle.std.specs.Prelude.{ℕ, ◌+◌, ◌*◌, ◌/◌, ◌%◌, ◌^◌, cond, ◌||◌, Option, Some, None, List, [], ◌∷◌, eqb, ltb}
+use Rattle.std.specs.Prelude.{ℕ, ◌+◌, ◌*◌, ◌/◌, ◌%◌, ◌^◌, cond, ◌||◌, Option, Some, None, Result, Ok, Err, List, [], ◌∷◌, eqb, ltb}
 use Rattle.rdp_words.specs.Words.{word_at}
+use Rattle.rdp_words.specs.Grounds.{Answer, answered, number_of}
+use Rattle.rdp_words.specs.declared.grounds.Refusal.{Refusal}
+use Rattle.rdp_check.specs.declared.Accepted.{Accepted}
+use Rattle.rdp_check.specs.declared.Refused.{Refused}
 use Rattle.rdp_words.specs.Kinds.{words_of}
 use Rattle.rdp_words.specs.Lengths.{first_number}
 use Rattle.rdp_command.specs.Decode.{decode_of}
@@ -58,6 +62,14 @@ waited_up_to = up_to adding
 -- where the commands end whose registers an outcome has: at its place, but for 1 and 2 before the first
 abbrev pub end_of : ℕ → ℕ → ℕ
 end_of number place = cond (eqb number 1 || eqb number 2) 0 place
+
+-- what the check tells, but for its cause: its answer and the hazards there
+abbrev pub told_in : Result ℕ Refusal × ℕ → Answer × ℕ
+told_in told = (answered told.0, told.1)
+
+abbrev pub told_by : Result Accepted Refused → Answer × ℕ
+told_by (Ok a) = (record { number = 0; place = a.words }, a.hazards)
+told_by (Err r) = (record { number = number_of r.ground; place = r.place }, r.hazards)
 
 -- the words of the registers but the tiles, as layer 1 reads them
 abbrev pub register_words : List ℕ → RegisterWords

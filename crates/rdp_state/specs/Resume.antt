@@ -9,7 +9,18 @@ use Rattle.rdp_check.specs.Commands.{commands_of}
 use Rattle.rdp_check.specs.Check.{State, check_refusals, refusal_at}
 use Rattle.rdp_state.specs.RegisterWords.{words_after, registers_in}
 use Rattle.rdp_state.specs.declared.Standing.{Standing}
-use Rattle.rdp_state.specs.declared.Resumed.{Resumed}
+use Rattle.rdp_state.specs.declared.Resumed as told
+use Rattle.rdp_words.specs.Grounds.{answered}
+
+-- where a list stands, the number of the first refusal, 0 where no command is refused, and its place, or that after the last whole command
+pub record Resumed : Type 0 where
+  pub standing : Standing
+  pub number : ℕ
+  pub place : ℕ
+
+-- what is told of them, in the papers' numbers
+abbrev pub resumed_in : told.Resumed → Resumed
+resumed_in r = record { standing = r.standing; number = (answered r.outcome).number; place = (answered r.outcome).place }
 
 -- the state there: the registers are those of the words
 abbrev pub state_in : Standing → State

@@ -2,29 +2,28 @@
 #![tactic(auto)]
 
 ghost use Rattle.std.specs.Prelude.{◌≡◌, ◌%◌, ◌<◌};
+ghost use Rattle.rdp_words.specs.Grounds.{answered};
 ghost use Rattle.rdp_state.specs.RegisterWords.{tile_in, words_after};
-ghost use Rattle.rdp_state.specs.Replay.{end_of};
-ghost use Rattle.rdp_state.specs.After.{list_state_of};
-ghost use Rattle.rdp_state.specs.Resume.{resumed_of};
+ghost use Rattle.rdp_state.specs.Replay.{end_of, told_in, told_by};
+ghost use Rattle.rdp_state.specs.After.{list_state_in, list_state_of};
+ghost use Rattle.rdp_state.specs.Resume.{resumed_in, resumed_of};
 
 pub mod slots;
 mod updates;
 
-use rdp_check::{Checkpoint, Registers};
+use rdp_check::{Accepted, Checkpoint, Refused, Registers};
+use rdp_words::{Answer, Ground, Refusal};
 
-// The check's answer with the registers there.
-#[repr(C)]
+// The words of a list that is accepted, or its first refusal, with the hazards and the registers there.
 #[derive(Clone, Copy)]
 pub struct ListState {
-    pub number: u32,
-    pub place: u32,
+    pub outcome: Answer,
     pub hazards: u8,
     pub registers: Registers,
 }
 
 // Where a list stands between two of its commands: the words that last set the registers, the hazards, of which the low four bits count, whether a Sync
 // Full has come, and the cycles that its syncs have waited.
-#[repr(C)]
 #[derive(Clone, Copy)]
 pub struct Standing {
     pub words: [u64; 32],
@@ -34,30 +33,40 @@ pub struct Standing {
 }
 
 // What the commands of a list leave: the words that last set the registers, and the cycles waited.
-#[repr(C)]
 #[derive(Clone, Copy)]
 pub struct Replay {
     pub words: [u64; 32],
     pub waited: u32,
 }
 
-// Where the list stands; the number of the first refusal, 0 where no command is refused; and its place, or that after the last whole command.
-#[repr(C)]
+// Where the list stands, and the place after the last whole command, or the first refusal.
 #[derive(Clone, Copy)]
 pub struct Resumed {
     pub standing: Standing,
-    pub number: u32,
-    pub place: u32,
+    pub outcome: Answer,
+}
+
+// What the check tells of a list, and the hazards there.
+fn told_of(checked: Result<Accepted, Refused>) -> (Answer, u8)
+    ensures { told_in result ≡ told_by checked }
+{
+    match checked {
+        Ok(accepted) => (Ok(accepted.words), accepted.hazards),
+        Err(refused) => (Err(Refusal::from(refused)), refused.hazards),
+    }
 }
 
 // Where the commands end whose registers an answer of the check has: at its place, but for 1 and 2 before the first.
-fn end_of(number: u32, place: u32) -> usize
-    ensures { result ≡ end_of number place }
+fn end_of(outcome: Answer) -> usize
+    ensures { result ≡ end_of (answered outcome).number (answered outcome).place }
 {
-    if (number == 1) | (number == 2) {
-        return 0;
+    match outcome {
+        Ok(words) => words as usize,
+        Err(refusal) => match refusal.ground {
+            Ground::TooLong | Ground::NotWords => 0,
+            _ => refusal.place as usize,
+        },
     }
-    place as usize
 }
 
 // The tile that a word names.
@@ -79,17 +88,14 @@ pub fn store(file: &mut [u64; 32], number: u8, word: u64)
 
 // The check's answer with the registers after the last command; at a refusal, those before the refused command; at 1 or 2, the starting ones.
 pub fn registers_after(list: &[u8]) -> ListState
-    ensures { result ≡ list_state_of list.now }
+    ensures { list_state_in result ≡ list_state_of list.now }
 {
-    let checked = rdp_check::check(list);
-    let end = end_of(checked.number, checked.place);
-    let replay = updates::replay_from([0u64; 32], 0, list, end);
-    let file = replay.words;
-    let registers = updates::registers_of(file);
+    let (outcome, hazards) = told_of(rdp_check::check(list));
+    let replay = updates::replay_from([0; 32], 0, list, end_of(outcome));
+    let registers = updates::registers_of(replay.words);
     ListState {
-        number: checked.number,
-        place: checked.place,
-        hazards: checked.hazards,
+        outcome,
+        hazards,
         registers,
     }
 }
@@ -97,7 +103,7 @@ pub fn registers_after(list: &[u8]) -> ListState
 // The whole commands of bytes, judged from where a list stands; a command whose words are not all there is not looked at. At a refusal the list stands
 // before the refused command. Of more than 32,768 bytes none is judged: 1 at 4,096.
 pub fn resume(before: Standing, bytes: &[u8]) -> Resumed
-    ensures { result ≡ resumed_of before bytes.now }
+    ensures { resumed_in result ≡ resumed_of before bytes.now }
 {
     let file = before.words;
     let other_modes = file[slots::OTHER_MODES];
@@ -111,8 +117,8 @@ pub fn resume(before: Standing, bytes: &[u8]) -> Resumed
         ended: before.ended,
     };
     let judged = rdp_check::check_from(checkpoint, bytes);
-    let end = end_of(judged.number, judged.place);
-    let replay = updates::replay_from(file, before.waited, bytes, end);
+    let outcome = judged.outcome;
+    let replay = updates::replay_from(file, before.waited, bytes, end_of(outcome));
     let words = replay.words;
     Resumed {
         standing: Standing {
@@ -121,7 +127,6 @@ pub fn resume(before: Standing, bytes: &[u8]) -> Resumed
             ended: judged.ended,
             waited: replay.waited,
         },
-        number: judged.number,
-        place: judged.place,
+        outcome,
     }
 }

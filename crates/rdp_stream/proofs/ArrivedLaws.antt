@@ -22,7 +22,7 @@ use Rattle.rdp_check.proofs.OrderLaws.{Found, found, among-left, among-right, am
 use Rattle.rdp_check.proofs.FirstLaws.{check-numbered, some_bytes, bytes-some, no-zero-command, commands-first}
 use Rattle.rdp_state.specs.Resume.{idle}
 use Rattle.rdp_state.specs.declared.Standing.{Standing}
-use Rattle.rdp_state.specs.declared.Resumed.{Resumed}
+use Rattle.rdp_state.specs.Resume.{Resumed}
 use Rattle.rdp_state.proofs.StandingLaws.{outcome_in}
 use Rattle.rdp_stream.specs.Portions.{Feeding, fresh, fed_bytes, closing_grounds, closed, answer_of}
 use Rattle.rdp_stream.specs.Steps.{open_of}

@@ -18,17 +18,15 @@ use Rattle.rdp_words.proofs.WordLaws.{word-front}
 use Rattle.rdp_check.specs.Commands.{commands_of, rest_of, words_in, joined}
 use Rattle.rdp_state.specs.Resume.{judge_in, resumed_of}
 use Rattle.rdp_state.specs.declared.Standing.{Standing}
-use Rattle.rdp_state.specs.declared.Resumed.{Resumed}
+use Rattle.rdp_state.specs.Resume.{Resumed}
 use Rattle.rdp_check.proofs.ListLaws.{head, commands-cut, rest-cut}
 use Rattle.rdp_check.proofs.JoinLaws.{parsed, length-joined, length-split, rest-joined, rest-most, words_inside, command-some, head-long, head-alone}
 use Rattle.rdp_state.proofs.ResumeLaws.{resumed-within}
 use Rattle.rdp_state.proofs.StandingLaws.{moved_in, judge-moved, accepted-in, most-in}
-use Rattle.rdp_stream.specs.declared.Stream.{Stream}
-use Rattle.rdp_stream.specs.declared.Kept.{Kept}
 use Rattle.rdp_stream.specs.Portions.{Feeding, fed_bytes}
-use Rattle.rdp_stream.specs.Records.{standing_in, ended_as, stream_of}
-use Rattle.rdp_stream.specs.Steps.{open_of, Open, Complete, assembled, emptied, held_from}
-use Rattle.rdp_stream.proofs.HeldLaws.{paste-zeros, drop-replicate}
+use Rattle.rdp_stream.specs.Records.{ended_as}
+use Rattle.rdp_stream.specs.Steps.{open_of, nothing_held, Open, Complete}
+use Rattle.rdp_stream.proofs.HeldLaws.{drop-replicate, padded-front, padded-open}
 use Rattle.rdp_stream.proofs.PortionLaws.{resumed, judged_from, onward, none-whole, fed-all, fed-joined, fed-refused}
 
 -- bytes that are no whole command are at most 175
@@ -40,7 +38,7 @@ eighth taken e = omega arith
 
 -- ---- a part that begins at a command's first byte
 
-module _ (b : Standing) (kept : Kept) (taken p : ℕ) (part : List ℕ) (even : taken % 8 ≡ 0) (room : taken + length part ≤ 32768) where
+module _ (b : Standing) (taken p : ℕ) (part : List ℕ) (even : taken % 8 ≡ 0) (room : taken + length part ≤ 32768) where
   abbrev at : ℕ
   at = taken / 8
 
@@ -88,11 +86,10 @@ module _ (b : Standing) (kept : Kept) (taken p : ℕ) (part : List ℕ) (even : 
     pub refused-room : taken + 8 * q.place ≤ 32768
     refused-room = rw place_is (omega (arith, place_inside))
 
-    pub refused-fed : (q.number ≡ 0 → ⊥) → emptied kept q.standing taken q.number q.place ≡ stream_of kept fed
-    unfolding stream_of
+    pub refused-fed : (q.number ≡ 0 → ⊥) → nothing_held q.standing (8 * (taken / 8 + q.place)) q.number (taken / 8 + q.place) ≡ fed
     refused-fed ne =
-        ap (λ (x : Resumed). emptied kept x.standing taken x.number x.place) is-q ∙
-        ap (stream_of kept) (sym (fed-is ∙ refused-is (λ z. ne (number_is ∙ z))))
+        ap (λ (x : Resumed). nothing_held x.standing (8 * (taken / 8 + x.place)) x.number (taken / 8 + x.place)) is-q ∙
+        sym (fed-is ∙ refused-is (λ z. ne (number_is ∙ z)))
 
     module _ (zero_is : q.number ≡ 0) where
       none : o.number ≡ 0
@@ -113,20 +110,16 @@ module _ (b : Standing) (kept : Kept) (taken p : ℕ) (part : List ℕ) (even : 
       pub held-inside : 8 * q.place ≤ length part
       held-inside = rw place_is place_inside
 
-      pub held-few : length part - 8 * q.place ≤ 175
-      held-few = rw place_is (omega (arith, rest-long, rest-most part))
+      pub held-cut : whole_words (drop (8 * q.place) part) ≡ 0
+      held-cut = ap (λ (n : ℕ). whole_words (drop (8 * n) part)) place_is ∙ ap whole_words rest-is ∙ (parsed part).cut
 
-      pub held-fed : held_from kept q.standing taken p part (8 * q.place) ≡ stream_of kept fed
-      unfolding stream_of
+      pub held-fed : open_of q.standing (drop (8 * q.place) part) (taken + 8 * q.place + length (drop (8 * q.place) part)) p ≡ fed
       held-fed =
-          let from = 8 * o.place in
-          let count : length part - from ≡ length (rest_of part) = omega (arith, rest-long) in
-          let bytes : paste (replicate 176 0) 0 (drop from part) (length part - from) ≡ rest_of part ++ replicate (176 - length (rest_of part)) 0 =
-          ap (λ (xs : List ℕ). paste (replicate 176 0) 0 xs (length part - from)) rest-is ∙
-          paste-zeros 176 (length part - from) (rest_of part) (sym count) in
-          ap (λ (x : Resumed). held_from kept x.standing taken p part (8 * x.place)) is-q ∙
-          (λ i. assembled kept o.standing (bytes i) (count i) (taken + length part) 0 p) ∙
-          ap (stream_of kept) (sym (fed-is ∙ accepted-is none))
+          let count : taken + 8 * o.place + length (rest_of part) ≡ taken + length part = omega (arith, rest-long) in
+          ap (λ (x : Resumed). open_of x.standing (drop (8 * x.place) part) (taken + 8 * x.place + length (drop (8 * x.place) part)) p) is-q ∙
+          ap (λ (xs : List ℕ). open_of o.standing xs (taken + 8 * o.place + length xs) p) rest-is ∙
+          (λ i. open_of o.standing (rest_of part) (count i) p) ∙
+          sym (fed-is ∙ accepted-is none)
 
 -- ---- held bytes
 
@@ -161,16 +154,14 @@ module _ (s : Standing) (taken p : ℕ) (h part : List ℕ) (cut : whole_words h
       from-held ∙ rw (commands-cut (h ++ part) c, rest-cut (h ++ part) c, e)
 
 -- a part that is too short for a command
+pub short-cut : (part : List ℕ) → length part < 8 → whole_words part ≡ 0
+short-cut part short = words-cut part (omega (arith, command-some part))
+
 pub short-fed :
-    (b : Standing) (kept : Kept) (taken p : ℕ) (part : List ℕ) → taken % 8 ≡ 0 → taken + length part ≤ 32768 → length part < 8 →
-    held_from kept b taken p part 0 ≡ stream_of kept (fed_bytes (open_of b [] taken p) part)
-unfolding stream_of
-short-fed b kept taken p part even room short =
-    let cut : whole_words part ≡ 0 = words-cut part (omega (arith, command-some part)) in
-    let count : length part - 0 ≡ length part = omega arith in
-    let bytes = paste-zeros 176 (length part - 0) part (sym count) in
-    (λ i. assembled kept b (bytes i) (count i) (taken + length part) 0 p) ∙
-    ap (stream_of kept) (sym (still-held b taken p [] part none-whole (omega arith) (omega arith) room cut))
+    (b : Standing) (taken p : ℕ) (part : List ℕ) → taken % 8 ≡ 0 → taken + length part ≤ 32768 → length part < 8 →
+    open_of b part (taken + length part) p ≡ fed_bytes (open_of b [] taken p) part
+short-fed b taken p part even room short =
+    sym (still-held b taken p [] part none-whole (omega arith) (omega arith) room (short-cut part short))
 
 pub ended-back : (ended : ℕ) (b : Bool) → not (eqb (ended_as ended b) 0) ≡ b
 ended-back ended false = refl
@@ -178,7 +169,7 @@ ended-back ended true = by-test (eqb ended 0) (λ t. rw t) (λ f. rw (f, f))
 
 -- ---- held bytes that a part has completed
 
-module _ (b : Standing) (kept : Kept) (taken p count words : ℕ) (held filled part : List ℕ) (k : Complete held count taken filled words part) where
+module _ (b : Standing) (taken p count words : ℕ) (held filled part : List ℕ) (k : Complete held count taken filled words part) where
   abbrev begin : Standing
   begin = b
 
@@ -227,68 +218,37 @@ module _ (b : Standing) (kept : Kept) (taken p count words : ℕ) (held filled p
   one-is : one.number ≡ 0 → one ≡ open_of one.standing [] (taken - count + 8 * words) p
   one-is z =
       let o = judged_from begin 0 command in
-      let is = fed-is b kept (taken - count) p command k.even command-room in
+      let is = fed-is b (taken - count) p command k.even command-room in
       by-test (eqb o.number 0)
       (λ t.
-      let acc = is ∙ accepted-is b kept (taken - count) p command k.even command-room (eqb-true _ _ t) in
+      let acc = is ∙ accepted-is b (taken - count) p command k.even command-room (eqb-true _ _ t) in
       acc ∙ (λ i. open_of (sym acc i).standing (none_left i) (taken - count + command-long i) p))
       (λ f.
       let ne = eqb-false _ _ f in
-      let ref = is ∙ refused-is b kept (taken - count) p command k.even command-room ne in
+      let ref = is ∙ refused-is b (taken - count) p command k.even command-room ne in
       absurd (ne (sym (ap (λ (x : Feeding). x.number) ref) ∙ z)))
 
-  module _ (q : Stream) (is-q : q ≡ stream_of kept one) where
-    number-q : q.number ≡ one.number
-    unfolding stream_of
-    number-q = ap (λ (x : Stream). x.number) is-q
+  -- by what the check answers of the command
+  module _ (q : Resumed) (is-q : q ≡ resumed_of begin command) where
+    pub judged-room : taken - count + 8 * q.place ≤ 32768
+    judged-room = refused-room begin (taken - count) p command k.even command-room q is-q
 
-    pub one-refused : (q.number ≡ 0 → ⊥) → q ≡ stream_of kept all
-    one-refused ne = is-q ∙ ap (stream_of kept) (sym (all-is ∙ fed-refused one after (λ z. ne (number-q ∙ z))))
+    pub judged-refused :
+        (q.number ≡ 0 → ⊥) → nothing_held q.standing (8 * ((taken - count) / 8 + q.place)) q.number ((taken - count) / 8 + q.place) ≡ all
+    judged-refused ne =
+        let e = refused-fed begin (taken - count) p command k.even command-room q is-q ne in
+        e ∙ sym (all-is ∙ fed-refused one after (λ z. ne (ap (λ (f : Feeding). f.number) e ∙ z)))
 
-    standing-q : standing_in q ≡ one.standing
-    unfolding stream_of
-    standing-q =
-        ap standing_in is-q ∙ (λ i. record { hazards = one.standing.hazards; ended = ended-back kept.ended one.standing.ended i; words = one.standing.words; waited = one.standing.waited })
-
-    pub one-accepted :
-        q.number ≡ 0 → (n : Standing) → n ≡ standing_in q → (r : Stream) →
-        r ≡ stream_of kept (fed_bytes (open_of n [] (taken - count + 8 * words) p) after) → r ≡ stream_of kept all
-    one-accepted z n is-n r is-r =
-        is-r ∙
-        ap (stream_of kept)
-        ((λ i. fed_bytes (open_of ((is-n ∙ standing-q) i) [] (taken - count + 8 * words) p) after) ∙
-        ap (λ (f : Feeding). fed_bytes f after) (sym (one-is (sym number-q ∙ z))) ∙
-        sym all-is)
-
--- the same by what the check answers of the command
-module _ (b : Standing) (kept : Kept) (taken p count words : ℕ) (held filled part : List ℕ) (k : Complete held count taken filled words part) (q : Resumed) (is-q : q ≡ resumed_of b (take (8 * words) filled)) where
-  abbrev bytes : List ℕ
-  bytes = take (8 * words) filled
-
-  room : taken - count + length bytes ≤ 32768
-  room = command-room b kept taken p count words held filled part k
-
-  pub judged-room : taken - count + 8 * q.place ≤ 32768
-  judged-room = refused-room b kept (taken - count) p bytes k.even room q is-q
-
-  pub judged-refused :
-      (q.number ≡ 0 → ⊥) → emptied kept q.standing (taken - count) q.number q.place ≡ stream_of kept (fed_bytes (open_of b (take count held) taken p) part)
-  judged-refused ne =
-      one-refused b kept taken p count words held filled part k (emptied kept q.standing (taken - count) q.number q.place)
-      (refused-fed b kept (taken - count) p bytes k.even room q is-q ne) ne
-
-  pub judged-accepted :
-      q.number ≡ 0 → (r : Stream) →
-      r ≡ stream_of kept (fed_bytes (open_of q.standing [] (taken - count + 8 * words) p) (drop (8 * words - count) part)) →
-      r ≡ stream_of kept (fed_bytes (open_of b (take count held) taken p) part)
-  judged-accepted z r is-r =
-      one-accepted b kept taken p count words held filled part k (held_from kept q.standing (taken - count) p bytes (8 * q.place))
-      (held-fed b kept (taken - count) p bytes k.even room q is-q z) refl q.standing
-      (λ i. record { hazards = q.standing.hazards; ended = sym (ended-back kept.ended q.standing.ended) i; words = q.standing.words; waited = q.standing.waited }) r is-r
+    pub judged-accepted : q.number ≡ 0 → fed_bytes (open_of q.standing [] (taken - count + 8 * words) p) after ≡ all
+    judged-accepted z =
+        let e = held-fed begin (taken - count) p command k.even command-room q is-q z in
+        (λ i. fed_bytes (open_of (e i).standing [] (taken - count + 8 * words) p) after) ∙
+        ap (λ (f : Feeding). fed_bytes f after) (sym (one-is (sym (ap (λ (f : Feeding). f.number) e)))) ∙
+        sym all-is
 
 -- ---- a part copied after the held bytes
 
-module _ (b : Standing) (kept : Kept) (taken p count : ℕ) (held part : List ℕ) (k : Open held count taken (length part)) (n : ℕ) (is-n : n ≡ min (176 - count) (length part)) (filled : List ℕ) (is-filled : filled ≡ paste held count part n) where
+module _ (b : Standing) (taken p count : ℕ) (held part : List ℕ) (k : Open held count taken) (room : taken + length part ≤ 32768) (n : ℕ) (is-n : n ≡ min (length part) (176 - count)) (filled : List ℕ) (is-filled : filled ≡ paste held count part n) where
   abbrev before : List ℕ
   before = take count held
 
@@ -340,14 +300,21 @@ module _ (b : Standing) (kept : Kept) (taken p count : ℕ) (held part : List �
           let e : 176 - count - n ≡ 176 - length (before ++ part) = omega (arith, total-long, copied) in
           sym (drop-drop n count held) ∙ ap (drop n) k.past ∙ drop-replicate n (176 - count) ∙ ap (λ (m : ℕ). replicate m 0) e
 
-      pub held_all : assembled kept b filled (count + length part) (taken + length part) 0 p ≡ stream_of kept (fed_bytes (open_of b before taken p) part)
-      unfolding stream_of
-      held_all =
-          let bytes : filled ≡ (before ++ part) ++ replicate (176 - length (before ++ part)) 0 =
-          is-filled ∙ (λ i. (before ++ part-is i) ++ rest-zero i) in
-          (λ i. assembled kept b (bytes i) (sym total-long i) (taken + length part) 0 p) ∙
-          ap (stream_of kept)
-          (sym (still-held b taken p before part k.cut (rw before-long k.inside) (rw before-long k.whole) k.room cut-both))
+      bytes-held : filled ≡ (before ++ part) ++ replicate (176 - length (before ++ part)) 0
+      bytes-held = is-filled ∙ (λ i. (before ++ part-is i) ++ rest-zero i)
+
+      pub all-held : take (count + length part) filled ≡ before ++ part
+      all-held = padded-front (before ++ part) filled (count + length part) bytes-held (sym total-long)
+
+      pub open-held : Open filled (count + length part) (taken + length part)
+      open-held =
+          padded-open (before ++ part) filled (count + length part) bytes-held (sym total-long) (taken + length part) (cut_short (before ++ part) cut-both) cut-both
+          (omega (arith, total-long, k.inside))
+          (let e : taken + length part - length (before ++ part) ≡ taken - count = omega (arith, total-long) in rw e k.whole)
+          room
+
+      pub held-after : open_of b (before ++ part) (taken + length part) p ≡ fed_bytes (open_of b before taken p) part
+      held-after = sym (still-held b taken p before part k.cut (rw before-long k.inside) (rw before-long k.whole) room cut-both)
 
     module _ (there : words ≡ 0 → ⊥) where
       there-both : whole_words both ≡ 0 → ⊥
@@ -396,7 +363,7 @@ module _ (b : Standing) (kept : Kept) (taken p count : ℕ) (held part : List �
             counted = before-long;
             inside = k.inside;
             even = k.whole;
-            room = k.room;
+            room = room;
             cut = k.cut;
             few = rw words-is (rw w.words (words-most (first_number both) (number_small (word_at both 0))));
             more = more;

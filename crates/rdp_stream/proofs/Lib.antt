@@ -6,3 +6,4 @@ pub mod ArrivedLaws
 pub mod FitLaws
 pub mod WaitLaws
 pub mod StreamLaws
+mod KnownLaws

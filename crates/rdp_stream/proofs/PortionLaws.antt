@@ -17,7 +17,7 @@ use Rattle.rdp_check.specs.Commands.{commands_of, rest_of, words_in, joined}
 use Rattle.rdp_check.specs.Check.{State, start, check_refusals, refusal_at, Judgement, judge, outcome_within, outcome_of}
 use Rattle.rdp_state.specs.Resume.{state_in, idle, standing_after, settle_in, judge_in}
 use Rattle.rdp_state.specs.declared.Standing.{Standing}
-use Rattle.rdp_state.specs.declared.Resumed.{Resumed}
+use Rattle.rdp_state.specs.Resume.{Resumed}
 use Rattle.rdp_check.proofs.ListLaws.{commands-cut, rest-cut}
 use Rattle.rdp_check.proofs.JoinLaws.{Alone, command-some, commands-front, rest-front, parsed, length-split}
 use Rattle.rdp_stream.specs.Portions.{Feeding, fresh, settled, completed, after_byte, fed_bytes, fed_portions, closing_grounds, closed, answer_of}

@@ -13,11 +13,11 @@ use Rattle.rdp_hazards.specs.Syncs.{waiting}
 use Rattle.rdp_check.proofs.BoundLaws.{among_below}
 use Rattle.rdp_state.specs.After.{list_state_of}
 use Rattle.rdp_state.specs.RegisterWords.{registers_in}
-use Rattle.rdp_state.specs.declared.ListState.{ListState}
+use Rattle.rdp_state.specs.After.{ListState}
 use Rattle.rdp_stream.specs.declared.Stream.{Stream}
-use Rattle.rdp_stream.specs.declared.Kept.{Kept}
+use Rattle.rdp_stream.specs.Records.{Kept}
 use Rattle.rdp_words.specs.Grounds.{Answer}
-use Rattle.rdp_stream.specs.declared.Fed.{Fed}
+use Rattle.rdp_stream.specs.Records.{Fed}
 use Rattle.rdp_stream.specs.Portions.{Feeding, fresh, fed_bytes, fed_portions, closed, answer_of}
 use Rattle.rdp_stream.specs.Records.{all_zero, remembered, is_damaged, feeding_of, kept_in, stream_of, answered, fed_of, closed_of, fresh_stream, WaitsFor, Call, portion, closing, called_stream, arrived_by, fed_stream}
 use Rattle.rdp_stream.proofs.PortionLaws.{fed-portions, portions-end}

@@ -1,4 +1,5 @@
 pub mod Portions
 pub mod Records
 pub mod Steps
+pub mod Arrivals
 pub mod Arrived

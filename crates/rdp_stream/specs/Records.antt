@@ -1,5 +1,6 @@
 -- Document 02, #103 and #105: the record that the caller owns, what it stands for, and refusal 28.
 use Rattle.std.specs.Prelude.{ℕ, ◌-◌, ◌%◌, Bool, true, false, cond, not, ◌&&◌, List, [], ◌∷◌, ◌++◌, ◌≡◌, eqb, ltb, length, take, drop, replicate}
+use Rattle.rdp_words.specs.Grounds.{Answer}
 use Rattle.rdp_command.specs.Decode.{answer}
 use Rattle.rdp_words.specs.Kinds.{among}
 use Rattle.rdp_words.specs.Lengths.{whole_words}
@@ -8,9 +9,17 @@ use Rattle.rdp_check.specs.Commands.{commands_of}
 use Rattle.rdp_hazards.specs.Syncs.{waiting}
 use Rattle.rdp_state.specs.declared.Standing.{Standing}
 use Rattle.rdp_stream.specs.declared.Stream.{Stream}
-use Rattle.rdp_stream.specs.declared.Fed.{Fed}
-use Rattle.rdp_stream.specs.declared.Kept.{Kept}
 use Rattle.rdp_stream.specs.Portions.{Feeding, fed_bytes, closed, answer_of}
+
+-- what a call keeps of a record: whether a Sync Full has come, as a number, and the bytes that mean nothing
+pub record Kept : Type 0 where
+  pub ended : ℕ
+  pub spare : ℕ
+
+-- the record after a call, and the call's answer
+pub record Fed : Type 0 where
+  pub after : Stream
+  pub answer : Answer
 
 -- every byte is zero
 abbrev pub all_zero : List ℕ → Bool

@@ -1,265 +1,259 @@
-// Bytes fed to a record that is sound and remembers no refusal.
-ghost use Rattle.std.specs.Prelude.{cond, [], ◌≡◌, ◌+◌, ◌*◌, ◌-◌, ◌%◌, min, ◌≤◌, eqb, length, take};
-ghost use Rattle.rdp_stream.specs.Portions.{fed_bytes};
-ghost use Rattle.rdp_stream.specs.Records.{standing_in, ended_as, feeding_of, kept_in, stream_of};
-ghost use Rattle.rdp_stream.specs.Steps.{open_of, Open, Complete, assembled, emptied, held_from, answer_in, closing_in, closed_with, remembered_in};
+// What the next bytes of a list and its end do to what is known of it.
+ghost use Rattle.std.specs.Prelude.{true, false, [], ◌≡◌, ◌+◌, ◌*◌, ◌-◌, ◌/◌, ◌%◌, ◌≤◌, length, take, MatchResult};
+ghost use Rattle.rdp_words.specs.Lengths.{whole_words};
+ghost use Rattle.rdp_words.specs.Grounds.{answered, number_of, number_if};
+ghost use Rattle.rdp_stream.specs.Portions.{fed_bytes, closed, accepted, answer_of, remembering};
+ghost use Rattle.rdp_stream.specs.Records.{is_damaged, feeding_of, kept_in, stream_of, ended_as};
+ghost use Rattle.rdp_command.specs.Decode.{answer};
+ghost use Rattle.rdp_stream.specs.Steps.{Complete, open_of, nothing_held};
+ghost use Rattle.rdp_stream.specs.Arrivals.{known, IsOpen, IsRead};
 
-use crate::{Fed, Kept, Stream, holding};
-use rdp_command::Answer;
+use crate::{Arrival, Stream, holding};
 use rdp_state::Standing;
+use rdp_words::{Answer, Ground, Refusal};
 
 // Whether a Sync Full has come, as the record's number: that of the record before stays.
 fn ended_as(before: u8, ended: bool) -> u8
     ensures { result ≡ ended_as before ended }
 {
-    if ended {
-        if before == 0 {
-            return 1;
+    match (ended, before) {
+        (false, _) => 0,
+        (true, 0) => 1,
+        (true, _) => before,
+    }
+}
+
+// A ground as the record's number, 0 where there is none.
+fn number_of(refused: Option<Ground>) -> u32
+    ensures { result ≡ number_if refused }
+{
+    match refused {
+        None => 0,
+        Some(refused) => u32::from(refused),
+    }
+}
+
+impl Arrival {
+    // What a record stands for, or 28.
+    pub fn read(stream: &Stream) -> Result<Arrival, Ground>
+        ensures { IsRead stream.now result }
+    {
+        let count = stream.held_count;
+        if holding::is_damaged(&stream.held, count, stream.taken, stream.waited) {
+            return Err(Ground::Damaged);
         }
-        return before;
-    }
-    0
-}
-
-// A record by its parts.
-fn assemble(
-    kept: Kept,
-    standing: Standing,
-    held: [u8; 176],
-    count: u32,
-    taken: u32,
-    number: u32,
-    place: u32,
-) -> Stream
-    ensures { result ≡ assembled kept standing held count taken number place }
-{
-    let hazards = standing.hazards;
-    let ended = ended_as(kept.ended, standing.ended);
-    let words = standing.words;
-    Stream {
-        words,
-        held,
-        held_count: count,
-        taken,
-        number,
-        place,
-        hazards,
-        ended,
-        spare: kept.spare,
-        waited: standing.waited,
-    }
-}
-
-// Where a record's list stands.
-fn standing_of(before: Stream) -> Standing
-    ensures { result ≡ standing_in before }
-{
-    let hazards = before.hazards;
-    let ended = before.ended != 0;
-    let words = before.words;
-    Standing {
-        words,
-        hazards,
-        ended,
-        waited: before.waited,
-    }
-}
-
-// A command is refused, so many words after the first bytes of the part.
-fn empty(kept: Kept, standing: Standing, taken: u32, number: u32, words: u32) -> Stream
-    requires { taken + 8 * words ≤ 32768 }
-    ensures { result ≡ emptied kept standing taken number words }
-{
-    let place = taken / 8 + words;
-    let none = [0u8; 176];
-    assemble(kept, standing, none, 0, 8 * place, number, place)
-}
-
-// The bytes of a part from an index on are held.
-fn hold_from(
-    kept: Kept,
-    standing: Standing,
-    taken: u32,
-    place: u32,
-    part: &[u8],
-    from: usize,
-) -> Stream
-    requires { (from ≤ length part.now) × ((length part.now - from ≤ 175) × (taken + length part.now ≤ 32768)) }
-    ensures { result ≡ held_from kept standing taken place part.now from }
-{
-    let len = part.len();
-    let count = len - from;
-    let none = [0u8; 176];
-    let held = holding::fill(none, 0, &part[from..], count);
-    let end = taken + len as u32;
-    assemble(kept, standing, held, count as u32, end, 0, place)
-}
-
-// A part that begins at a command's first byte.
-fn feed_whole(kept: Kept, standing: Standing, taken: u32, place: u32, part: &[u8]) -> Stream
-    requires { (taken % 8 ≡ 0) × (taken + length part.now ≤ 32768) }
-    ensures { result ≡ stream_of kept (fed_bytes (open_of standing [] taken place) part.now) }
-{
-    if part.len() < 8 {
-        return hold_from(kept, standing, taken, place, part, 0);
-    }
-    let resumed = rdp_state::resume(standing, part);
-    let after = resumed.standing;
-    let number = resumed.number;
-    let words = resumed.place;
-    if number != 0 {
-        return empty(kept, after, taken, number, words);
-    }
-    let from = 8 * words as usize;
-    hold_from(kept, after, taken, place, part, from)
-}
-
-fn least(a: usize, b: usize) -> usize
-    ensures { result ≡ min a b }
-{
-    if a < b {
-        return a;
-    }
-    b
-}
-
-// Held bytes that a part has completed, and the part after them.
-fn finish(
-    kept: Kept,
-    standing: Standing,
-    held: [u8; 176],
-    count: u32,
-    taken: u32,
-    place: u32,
-    filled: [u8; 176],
-    words: usize,
-    part: &[u8],
-) -> Stream
-    requires { Complete held count taken filled words part.now }
-    ensures { result ≡ stream_of kept (fed_bytes (open_of standing (take count held) taken place) part.now) }
-{
-    let end = 8 * words;
-    let used = end - count as usize;
-    let start = taken - count;
-    let resumed = rdp_state::resume(standing, &filled[..end]);
-    let next = resumed.standing;
-    let number = resumed.number;
-    if number != 0 {
-        return empty(kept, next, start, number, resumed.place);
-    }
-    let from = start + end as u32;
-    feed_whole(kept, next, from, place, &part[used..])
-}
-
-// A part after held bytes.
-fn feed_held(
-    kept: Kept,
-    standing: Standing,
-    held: [u8; 176],
-    count: u32,
-    taken: u32,
-    place: u32,
-    part: &[u8],
-) -> Stream
-    requires { Open held count taken (length part.now) }
-    ensures { result ≡ stream_of kept (fed_bytes (open_of standing (take count held) taken place) part.now) }
-{
-    let at = count as usize;
-    let len = part.len();
-    let copied = least(176 - at, len);
-    let filled = holding::fill(held, at, part, copied);
-    let total = at + copied;
-    let words = rdp_words::whole_words(&filled[..total]);
-    if words == 0 {
-        return assemble(
-            kept,
-            standing,
-            filled,
-            count + len as u32,
-            taken + len as u32,
-            0,
-            place,
-        );
-    }
-    finish(
-        kept, standing, held, count, taken, place, filled, words, part,
-    )
-}
-
-// A part for which there is room.
-fn feed_some(before: Stream, part: &[u8]) -> Stream
-    requires { (before.number ≡ 0) × Open before.held before.held_count before.taken (length part.now) }
-    ensures { result ≡ stream_of (kept_in before) (fed_bytes (feeding_of before) part.now) }
-{
-    let kept = Kept {
-        ended: before.ended,
-        spare: before.spare,
-    };
-    let count = before.held_count;
-    let taken = before.taken;
-    let place = before.place;
-    let standing = standing_of(before);
-    if count == 0 {
-        return feed_whole(kept, standing, taken, place, part);
-    }
-    let held = before.held;
-    feed_held(kept, standing, held, count, taken, place, part)
-}
-
-// Part after part of what the record has room for; then 1.
-pub fn feed_open(before: Stream, portion: &[u8]) -> Stream
-    requires { (before.number ≡ 0) × Open before.held before.held_count before.taken 0 }
-    ensures { result ≡ stream_of (kept_in before) (fed_bytes (feeding_of before) portion.now) }
-{
-    let len = portion.len();
-    let fed = least(room_of(before.taken), len);
-    let after = feed_some(before, &portion[..fed]);
-    if fed == len {
-        return after;
-    }
-    if after.number == 0 {
-        return remember(after, 1, rdp_check::MOST_WORDS);
-    }
-    after
-}
-
-// A record with a refusal remembered.
-fn remember(before: Stream, number: u32, place: u32) -> Stream
-    ensures { result ≡ remembered_in before number place }
-{
-    let mut after = before;
-    after.number = number;
-    after.place = place;
-    after
-}
-
-// The bytes for which a record has room.
-fn room_of(taken: u32) -> usize
-    requires { taken ≤ 32768 }
-    ensures { result ≡ 32768 - taken }
-{
-    rdp_check::MOST_BYTES - taken as usize
-}
-
-// The answer of a record after a portion.
-pub fn answer_of(after: Stream) -> Answer
-    ensures { result ≡ answer_in after.number after.place after.taken after.held_count }
-{
-    holding::answer_in(after.number, after.place, after.taken, after.held_count)
-}
-
-// The closing of a record that remembers no refusal.
-pub fn close_open(before: Stream) -> Fed
-    ensures { result ≡ closed_with before (closing_in before.taken before.held_count) }
-{
-    let answer = holding::closing_in(before.taken, before.held_count);
-    let number = answer.number;
-    if number == 0 {
-        return Fed {
-            after: before,
-            answer,
+        let ground = holding::remembered(stream.number)?;
+        let words = stream.words;
+        let standing = Standing {
+            words,
+            hazards: stream.hazards,
+            ended: stream.ended != 0,
+            waited: stream.waited,
         };
+        let held = stream.held;
+        Ok(Arrival {
+            standing,
+            held,
+            held_count: count,
+            taken: stream.taken,
+            ground,
+            place: stream.place,
+        })
     }
-    let after = remember(before, number, answer.place);
-    Fed { after, answer }
+
+    // The record that stands for it, with what it keeps of the record before.
+    pub fn recorded(&self, before: &Stream) -> Stream
+        ensures { result ≡ stream_of (kept_in before.now) (known self.now) }
+    {
+        let standing = self.standing;
+        let words = standing.words;
+        let held = self.held;
+        Stream {
+            words,
+            held,
+            held_count: self.held_count,
+            taken: self.taken,
+            number: number_of(self.ground),
+            place: self.place,
+            hazards: standing.hazards,
+            ended: ended_as(before.ended, standing.ended),
+            spare: before.spare,
+            waited: standing.waited,
+        }
+    }
+
+    // No byte is held.
+    fn empty(standing: Standing, taken: u32, refused: Option<Ground>, place: u32) -> Arrival
+        requires { (taken % 8 ≡ 0) × (taken ≤ 32768) }
+        ensures { known result ≡ nothing_held standing taken (number_if refused) place }
+    {
+        Arrival {
+            standing,
+            held: [0; 176],
+            held_count: 0,
+            taken,
+            ground: refused,
+            place,
+        }
+    }
+
+    // A command is refused, so many words after the first bytes of a part.
+    fn refused(standing: Standing, taken: u32, refusal: Refusal) -> Arrival
+        requires { taken + 8 * refusal.place ≤ 32768 }
+        ensures { known result ≡ nothing_held standing (8 * (taken / 8 + refusal.place)) (number_of refusal.ground) (taken / 8 + refusal.place) }
+    {
+        let place = taken / 8 + refusal.place;
+        Arrival::empty(standing, 8 * place, Some(refusal.ground), place)
+    }
+
+    // What is left after the commands of a part is held.
+    fn holding(standing: Standing, taken: u32, place: u32, rest: &[u8]) -> Arrival
+        requires { (whole_words rest.now ≡ 0) × ((taken % 8 ≡ 0) × (taken + length rest.now ≤ 32768)) }
+        ensures { known result ≡ open_of standing rest.now (taken + length rest.now) place }
+    {
+        let count = rest.len();
+        let held = holding::fill([0; 176], 0, rest, count);
+        Arrival {
+            standing,
+            held,
+            held_count: count as u32,
+            taken: taken + count as u32,
+            ground: None,
+            place,
+        }
+    }
+
+    // A part that begins at a command's first byte.
+    fn feed_whole(&self, part: &[u8]) -> Arrival
+        requires { (IsOpen self.now × (self.now.held_count ≡ 0)) × (self.now.taken + length part.now ≤ 32768) }
+        ensures { known result ≡ fed_bytes (known self.now) part.now }
+    {
+        if part.len() < 8 {
+            return Arrival::holding(self.standing, self.taken, self.place, part);
+        }
+        let resumed = rdp_state::resume(self.standing, part);
+        let after = resumed.standing;
+        match resumed.outcome {
+            Ok(words) => {
+                let taken = self.taken + 8 * words;
+                Arrival::holding(after, taken, self.place, &part[8 * words as usize..])
+            }
+            Err(refusal) => Arrival::refused(after, self.taken, refusal),
+        }
+    }
+
+    // Held bytes that a part has completed, and the part after them.
+    fn finish(&self, filled: &[u8; 176], words: usize, part: &[u8]) -> Arrival
+        requires { IsOpen self.now × Complete self.now.held self.now.held_count self.now.taken filled.now words part.now }
+        ensures { known result ≡ fed_bytes (known self.now) part.now }
+    {
+        let end = 8 * words;
+        let used = end - self.held_count as usize;
+        let start = self.taken - self.held_count;
+        let resumed = rdp_state::resume(self.standing, &filled[..end]);
+        let after = resumed.standing;
+        match resumed.outcome {
+            Ok(_) => {
+                let next = Arrival::empty(after, start + end as u32, None, self.place);
+                next.feed_whole(&part[used..])
+            }
+            Err(refusal) => Arrival::refused(after, start, refusal),
+        }
+    }
+
+    // A part after held bytes.
+    fn feed_held(&self, part: &[u8]) -> Arrival
+        requires { IsOpen self.now × (self.now.taken + length part.now ≤ 32768) }
+        ensures { known result ≡ fed_bytes (known self.now) part.now }
+    {
+        let at = self.held_count as usize;
+        let len = part.len();
+        let copied = len.min(176 - at);
+        let filled = holding::fill(self.held, at, part, copied);
+        let words = rdp_words::whole_words(&filled[..at + copied]);
+        if words == 0 {
+            return Arrival {
+                standing: self.standing,
+                held: filled,
+                held_count: self.held_count + len as u32,
+                taken: self.taken + len as u32,
+                ground: None,
+                place: self.place,
+            };
+        }
+        self.finish(&filled, words, part)
+    }
+
+    // A part for which there is room.
+    fn feed_some(&self, part: &[u8]) -> Arrival
+        requires { IsOpen self.now × (self.now.taken + length part.now ≤ 32768) }
+        ensures { known result ≡ fed_bytes (known self.now) part.now }
+    {
+        if self.held_count == 0 {
+            return self.feed_whole(part);
+        }
+        self.feed_held(part)
+    }
+
+    // With a refusal remembered.
+    fn remembering(&self, refused: Ground, place: u32) -> Arrival
+        ensures { known result ≡ remembering (answer (number_of refused) place) (known self.now) }
+    {
+        let mut after = *self;
+        after.ground = Some(refused);
+        after.place = place;
+        after
+    }
+
+    // After a portion: what there is room for is fed; then 1.
+    pub fn feed(&self, portion: &[u8]) -> Arrival
+        ensures { known result ≡ fed_bytes (known self.now) portion.now }
+    {
+        if self.ground.is_some() {
+            return *self;
+        }
+        let room = rdp_check::MOST_BYTES - self.taken as usize;
+        let fed = portion.len().min(room);
+        let after = self.feed_some(&portion[..fed]);
+        if (fed == portion.len()) | after.ground.is_some() {
+            return after;
+        }
+        after.remembering(Ground::TooLong, rdp_check::MOST_WORDS)
+    }
+
+    // The words of the commands accepted so far.
+    fn accepted(&self) -> u32
+        ensures { result ≡ accepted (known self.now) }
+    {
+        (self.taken - self.held_count) / 8
+    }
+
+    // At the list's end: 2, then 3.
+    pub fn closed(&self) -> Arrival
+        ensures { known result ≡ closed (known self.now) }
+    {
+        if self.ground.is_some() {
+            return *self;
+        }
+        if self.taken % 8 != 0 {
+            return self.remembering(Ground::NotWords, self.taken / 8);
+        }
+        if self.held_count != 0 {
+            return self.remembering(Ground::Cut, self.accepted());
+        }
+        *self
+    }
+
+    // The remembered refusal, or the words of the commands accepted so far.
+    pub fn answer(&self) -> Answer
+        ensures { answered result ≡ answer_of (known self.now) }
+    {
+        match self.ground {
+            None => Ok(self.accepted()),
+            Some(ground) => Err(Refusal {
+                ground,
+                place: self.place,
+            }),
+        }
+    }
 }

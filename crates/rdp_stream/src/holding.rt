@@ -1,129 +1,81 @@
 // The held bytes and the numbers of a record.
-ghost use Rattle.std.specs.Prelude.{◌≡◌, ◌+◌, ◌*◌, ◌-◌, ◌/◌, ◌%◌, ◌≤◌, length, drop};
+ghost use Rattle.std.specs.Prelude.{true, false, ◌≡◌, ◌+◌, ◌≤◌, length, MatchResult};
 ghost use Rattle.std.proofs.Math.Seq.{paste};
-ghost use Rattle.rdp_words.specs.Words.{pasted};
-ghost use Rattle.rdp_stream.specs.Records.{all_zero};
-ghost use Rattle.rdp_stream.specs.Steps.{bytes_damaged, counts_damaged, answer_in, closing_in};
+ghost use Rattle.rdp_words.specs.Kinds.{among};
+ghost use Rattle.rdp_words.specs.Grounds.{number_of};
+ghost use Rattle.rdp_stream.specs.Records.{remembered};
+ghost use Rattle.rdp_stream.specs.Steps.{bytes_damaged, counts_damaged, unlike_any};
+ghost use Rattle.rdp_stream.specs.Arrivals.{IsRemembered};
 
-use rdp_command::Answer;
-
-// Whether every word from a place on is zero.
-fn zero_words(bytes: &[u8], from: usize) -> bool
-    requires { length bytes.now % 8 ≡ 0 }
-    ensures { result ≡ all_zero (drop (8 * from) bytes.now) }
-{
-    let words = bytes.len() / 8;
-    let mut k = from;
-    while k < words {
-        if rdp_words::word_at(bytes, k) != 0 {
-            return false;
-        }
-        k += 1;
-    }
-    true
-}
-
-// Whether every byte from an index on is zero.
-fn zero_from(bytes: &[u8], from: usize) -> bool
-    requires { (length bytes.now % 8 ≡ 0) × (from ≤ length bytes.now) }
-    ensures { result ≡ all_zero (drop from bytes.now) }
-{
-    let mut i = from;
-    while i % 8 != 0 {
-        if bytes[i] != 0 {
-            return false;
-        }
-        i += 1;
-    }
-    zero_words(bytes, i / 8)
-}
-
-// Whether the numbers of a record are such that these calls cannot have left them.
-pub fn counts_damaged(held: u32, taken: u32, number: u32, waited: u32) -> bool
-    ensures { result ≡ counts_damaged held taken number waited }
-{
-    if rdp_check::MOST_BYTES < taken as usize {
-        return true;
-    }
-    if taken < held {
-        return true;
-    }
-    ((taken - held) % 8 != 0) | (((9 < number) & (number != 19)) | (204_800 < waited))
-}
+use rdp_words::Ground;
 
 // Whether the held bytes of a record are such that these calls cannot have left them.
-pub fn bytes_damaged(held: &[u8], count: usize) -> bool
-    requires { (length held.now ≡ 176) × (count ≤ 175) }
+fn bytes_damaged(held: &[u8; 176], count: usize) -> bool
+    requires { count ≤ 175 }
     ensures { result ≡ bytes_damaged count held.now }
 {
-    if zero_from(held, count) {
-        return rdp_words::whole_words(&held[..count]) != 0;
+    let zero = [0u8; 176];
+    if held[count..] != zero[count..] {
+        return true;
     }
-    true
+    rdp_words::whole_words(&held[..count]) != 0
 }
 
-// Writes bytes from an index on.
-fn put(out: &mut [u8], at: usize, bytes: &[u8])
-    requires { at + length bytes.now ≤ length out.old }
-    ensures { out.new ≡ pasted at bytes.now out.old }
+// Whether the numbers of a record are.
+fn counts_damaged(count: u32, taken: u32, waited: u32) -> bool
+    ensures { result ≡ counts_damaged count taken waited }
 {
-    let end = at + bytes.len();
-    rdp_words::copy(&mut out[at..end], bytes);
+    rdp_check::MOST_BYTES < taken as usize
+        || taken < count
+        || (taken - count) % 8 != 0
+        || 204_800 < waited
 }
 
-// Held bytes with some of others at an index.
+// Whether one of the reasons of 28 holds, but for that of the remembered number.
+pub fn is_damaged(held: &[u8; 176], count: u32, taken: u32, waited: u32) -> bool
+    ensures { result ≡ unlike_any held.now count taken waited }
+{
+    175 < count || bytes_damaged(held, count as usize) || counts_damaged(count, taken, waited)
+}
+
+// Whether these calls remember a refusal of a ground: the grounds of the bytes that come, and those of closing.
+fn is_given(refused: Ground) -> bool
+    ensures { result ≡ among (number_of refused) remembered }
+{
+    match refused {
+        Ground::TooLong
+        | Ground::NotWords
+        | Ground::Cut
+        | Ground::AfterSyncFull
+        | Ground::Unset
+        | Ground::FillOnFourBits
+        | Ground::LoadMissing
+        | Ground::TileMissing
+        | Ground::PipeMissing
+        | Ground::Unassigned => true,
+        _ => false,
+    }
+}
+
+// The ground of a remembered number, 0 where none is; 28 where these calls give no such number.
+pub fn remembered(number: u32) -> Result<Option<Ground>, Ground>
+    ensures { IsRemembered number result }
+{
+    if number == 0 {
+        return Ok(None);
+    }
+    match Ground::try_from(number) {
+        Ok(refused) if is_given(refused) => Ok(Some(refused)),
+        _ => Err(Ground::Damaged),
+    }
+}
+
+// Held bytes with the first of others at an index.
 pub fn fill(held: [u8; 176], at: usize, bytes: &[u8], count: usize) -> [u8; 176]
     requires { (at + count ≤ 176) × (count ≤ length bytes.now) }
     ensures { result ≡ paste held at bytes.now count }
 {
     let mut next = held;
-    put(&mut next, at, &bytes[..count]);
+    next[at..at + count].copy_from_slice(&bytes[..count]);
     next
-}
-
-// The words of the commands accepted so far.
-fn accepted(taken: u32, held: u32) -> u32
-    ensures { result ≡ (taken - held) / 8 }
-{
-    if taken < held {
-        return 0;
-    }
-    (taken - held) / 8
-}
-
-// The answer by the numbers of a record.
-pub fn answer_in(number: u32, place: u32, taken: u32, held: u32) -> Answer
-    ensures { result ≡ answer_in number place taken held }
-{
-    if number == 0 {
-        let words = accepted(taken, held);
-        return Answer {
-            number: 0,
-            place: words,
-        };
-    }
-    Answer { number, place }
-}
-
-// What closing adds, by the numbers of a record that remembers no refusal.
-pub fn closing_in(taken: u32, held: u32) -> Answer
-    ensures { result ≡ closing_in taken held }
-{
-    if taken % 8 == 0 {
-        let words = accepted(taken, held);
-        if held == 0 {
-            return Answer {
-                number: 0,
-                place: words,
-            };
-        }
-        return Answer {
-            number: 3,
-            place: words,
-        };
-    }
-    Answer {
-        number: 2,
-        place: taken / 8,
-    }
 }

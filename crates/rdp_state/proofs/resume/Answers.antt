@@ -9,4 +9,4 @@ pub returns : goal.returns
 returns c =
     let b = c.args.before in
     let long : length b.words ≡ 32 = search (rules, c.well_formed.0.1.1.0) in
-    resumed-is b long c.args.bytes.now _ c.check_from-judged.ensures _ c.end_of-end.ensures _ c.replay_from-replay.ensures
+    resumed-is b long c.args.bytes.now _ c.check_from-judged.ensures _ c.end_of.ensures _ c.replay_from-replay.ensures

@@ -1,23 +1,19 @@
 -- `rdp_stream::close_value` meets its contract, by those of what it calls. Assumes nothing.
-use borrow.Author.Rules.{rules}
-use mathlib.Core.Path.{◌≡◌, sym, ◌∙◌}
-use lib.ListN.{length}
-use Rattle.rdp_stream.proofs.RecordLaws.{damaged, closed-repeats, closing-is}
+use Rattle.std.proofs.Common.{sym, ◌∙◌, ap}
+use Rattle.rdp_words.specs.Grounds.{number_of}
+use Rattle.rdp_stream.specs.Portions.{closed}
+use Rattle.rdp_stream.specs.Records.{feeding_of}
+use Rattle.rdp_stream.proofs.RecordLaws.{answered-with, answered-damaged}
 use Rattle.rdp_stream.proofs.close_value.Goals as goal
 
-pub returns-then-is_damaged : goal.returns-then-is_damaged
-returns-then-is_damaged c =
+pub returns-in-Ok : goal.returns-in-Ok
+returns-in-Ok c =
     let r = c.args.before in
-    c.answer_with.ensures ∙ damaged r _ (sym c.is_damaged.ensures ∙ c.if-is_damaged.true)
+    let told = c.in-Ok.ensures in
+    answered-with r told.1 _ _ (c.closed-closed.ensures ∙ ap closed told.0) _ c.recorded.ensures _ c.answer.ensures
 
-pub returns-then-number-ne0 : goal.returns-then-number-ne0
-returns-then-number-ne0 c =
+pub returns-in-Err : goal.returns-in-Err
+returns-in-Err c =
     let r = c.args.before in
-    let long : length r.held ≡ 176 = search (rules, c.well_formed.0.1.1.1.0) in
-    c.answer_with-then-number-ne0.ensures ∙ closed-repeats r (sym c.is_damaged.ensures ∙ c.if-is_damaged.false) long c.if-number-ne0.true
-
-pub returns : goal.returns
-returns c =
-    let r = c.args.before in
-    let long : length r.held ≡ 176 = search (rules, c.well_formed.0.1.1.1.0) in
-    c.close_open.ensures ∙ closing-is r (sym c.is_damaged.ensures ∙ c.if-is_damaged.false) long c.if-number-ne0.false
+    let told = c.in-Err.ensures in
+    (λ i. record { after = r; answer = record { number = number_of (told.0 i); place = 0 } }) ∙ sym (answered-damaged r (closed (feeding_of r)) told.1)

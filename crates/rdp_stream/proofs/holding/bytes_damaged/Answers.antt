@@ -1,21 +1,19 @@
 -- `rdp_stream::holding::bytes_damaged` meets its contract, by those of what it calls. Assumes nothing.
-use mathlib.Core.Bool.{not}
-use mathlib.Core.Path.{ap, sym, ◌∙◌}
-use Prim.Native.Nat.{ℕ}
-use native.Mathlib.Omega.{arith}
-use lib.Dec.{eqb}
-use lib.Seq.{length-take-le}
+use Rattle.std.specs.Prelude.{ℕ, not, List, drop, length}
+use Rattle.std.proofs.Common.{◌≡◌, rules, sym, ◌∙◌, ap}
+use Rattle.rdp_stream.specs.Records.{all_zero}
+use Rattle.rdp_stream.proofs.HeldLaws.{zero-past}
+use Rattle.rdp_stream.proofs.holding.bytes_damaged.Goals.{After-ne}
 use Rattle.rdp_stream.proofs.holding.bytes_damaged.Goals as goal
 
-pub slice_bounds-whole_words-end : goal.slice_bounds-whole_words-end
-slice_bounds-whole_words-end c =
-    let s = c.before in
-    sym (length-take-le s.args.count s.args.held.now (omega (arith, s.requires.0, s.requires.1)))
+unlike : (c : After-ne) → c.ne.result ≡ not (all_zero (drop c.args.count c.args.held.now))
+unlike c =
+    let held : List ℕ = c.args.held.now in
+    let long : length held ≡ 176 = search rules in
+    c.ne.ensures ∙ ap not (zero-past held c.args.count long)
 
-pub returns-then-zero_from : goal.returns-then-zero_from
-returns-then-zero_from c =
-    rw (sym c.zero_from.ensures ∙ c.if-zero_from.true)
-    (ap (λ (n : ℕ). not (eqb n 0)) c.whole_words.ensures.0)
+pub returns-then-ne : goal.returns-then-ne
+returns-then-ne c = rw (sym (unlike (goal.at.returns-then-ne c).After-ne) ∙ c.if-ne.true)
 
 pub returns : goal.returns
-returns c = rw (sym c.zero_from.ensures ∙ c.if-zero_from.false)
+returns c = rw (sym (unlike (goal.at.returns c).After-ne) ∙ c.if-ne.false, c.whole_words.ensures.0)
