@@ -12,19 +12,18 @@ use Rattle.rdp_hazards.specs.Hazards.{transition_of}
 use Rattle.rdp_check.specs.Check.{check_of}
 use Rattle.rdp_repair.specs.Repair.{RepairIs}
 use Rattle.rdp_repair.specs.Afresh.{AfreshIs}
-use Rattle.rdp_repair.specs.declared.Repaired.{Repaired}
+use Rattle.rdp_repair.specs.Repair.{Repaired}
 use Rattle.rdp_index.specs.Index.{build_answer, ask_of, replace_answer, ReplaceIs}
-use Rattle.rdp_index.specs.declared.Asked.{Asked}
+use Rattle.rdp_index.specs.Index.{Asked}
 use Rattle.rdp_draw.specs.Draw.{draw_answer}
 use Rattle.rdp_view.specs.View.{Framebuffer, view_answer}
 use Rattle.rdp_stream.specs.Records.{fed_of, closed_of}
 use Rattle.rdp_stream.specs.declared.Stream.{Stream}
-use Rattle.rdp_stream.specs.declared.Fed.{Fed}
-use Rattle.lanyardrove.specs.declared.Packed.{Packed}
+use Rattle.rdp_stream.specs.Records.{Fed}
 use Rattle.f3dex2.specs.Translate.{translate_answer, translate_out}
 use Rattle.rdp_compare.specs.Entries.{compare_answer}
 use Rattle.rdp_compare.specs.Part.{rest_start}
-use Rattle.f3dex2.specs.declared.Translated.{Translated}
+use Rattle.f3dex2.specs.Translate.{Translated}
 
 -- the number of the refusal, 0 for acceptance; a third number; and the place
 pub record Reply : Type 0 where
@@ -47,9 +46,12 @@ unpacked w = reply (w / 2 ^ 56) (w / 2 ^ 32 % 2 ^ 24) (w % 2 ^ 32)
 abbrev pub most_third : ℕ
 most_third = 0xFFFFFF
 
--- an answer that has no third number
+-- an answer with a third number, and one that has none
+abbrev pub told : ℕ → Answer → Reply
+told third a = reply a.number third a.place
+
 abbrev pub plain : Answer → Reply
-plain a = reply a.number 0 a.place
+plain a = told 0 a
 
 -- the check: the third number is the cause
 abbrev pub check_reply : List ℕ → Reply
@@ -67,6 +69,10 @@ abbrev pub close_reply : Stream → Reply
 close_reply r = told_reply (closed_of r)
 
 -- with the record after it
+pub record Packed : Type 0 where
+  pub after : Stream
+  pub answer : ℕ
+
 abbrev pub fed_packed : Stream → List ℕ → Packed
 fed_packed r portion = record { after = (fed_of r portion).after; answer = packed (feed_reply r portion) }
 

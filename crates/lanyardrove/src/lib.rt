@@ -1,16 +1,22 @@
 // The functions for callers in C. Every answer is one 64-bit number, returned in a register; include/lanyardrove.h declares them, in this order.
 #![tactic(auto)]
 
-ghost use Rattle.std.specs.Prelude.{cond, ◌≡◌, ◌+◌, ◌<◌, ◌^◌, min, eqb, length};
-ghost use Rattle.lanyardrove.specs.Replies.{most_lent, translate_reply, translate_bytes, most_place, compare_reply, rest_reply, reply, most_third, packed, step_reply, check_reply, RepairReplies, AfreshReplies, build_reply, ask_reply, ReplaceReplies, draw_reply, view_reply, decode_reply, decode_fields, encode_reply, encode_bytes, fed_packed, closed_packed};
+ghost use Rattle.std.specs.Prelude.{cond, not, ◌≡◌, ◌+◌, ◌<◌, ◌^◌, min, eqb, length};
+ghost use Rattle.lanyardrove.specs.Replies.{translate_reply, translate_bytes, compare_reply, rest_reply, reply, told, packed, step_reply, check_reply, repair_reply, RepairReplies, AfreshReplies, build_reply, ask_reply, ReplaceReplies, draw_reply, view_reply, decode_reply, decode_fields, encode_reply, encode_bytes, fed_packed, closed_packed};
+ghost use Rattle.rdp_words.specs.Grounds.{answered};
 ghost use Rattle.rdp_words.specs.Lengths.{command_words};
+ghost use Rattle.rdp_hazards.specs.Hazards.{code_in};
+ghost use Rattle.rdp_repair.specs.Repair as repair;
 ghost use Rattle.rdp_index.specs.Index.{build_out};
 ghost use Rattle.rdp_draw.specs.Draw.{drawn, memories};
 ghost use Rattle.rdp_view.specs.View.{framebuffer_at, view_out};
 ghost use Rattle.rdp_compare.specs.Entries.{entries_after};
 
-use rdp_command::Decoded;
+use rdp_compare::RestPlace;
+use rdp_hazards::Sync;
+use rdp_repair::Repaired;
 use rdp_stream::Stream;
+use rdp_words::{Answer, Ground, Refusal};
 
 // An answer as one number: the number of the refusal in bits 63:56, a third number in bits 55:32, the place in bits 31:0.
 fn pack(number: u32, third: u32, place: u32) -> u64
@@ -20,15 +26,26 @@ fn pack(number: u32, third: u32, place: u32) -> u64
     number as u64 * 0x0100_0000_0000_0000 + third as u64 * 0x1_0000_0000 + place as u64
 }
 
-// A count as a third number: at most 16,777,215, which stands for that and more.
-fn third_of(count: usize) -> u32
-    ensures { result ≡ min count most_third }
+// An answer with a third number as one number.
+fn pack_answer(answer: Answer, third: u32) -> u64
+    requires { third < 2 ^ 24 }
+    ensures { result ≡ packed (told third (answered answer)) }
 {
-    if count < 0xFF_FFFF {
-        return count as u32;
+    match answer {
+        Ok(count) => pack(0, third, count),
+        Err(refusal) => pack(u32::from(refusal.ground), third, refusal.place),
     }
-    0xFF_FFFF
 }
+
+// A count that has to fit: at most so many, which stands for that and more.
+fn capped(most: u32, count: usize) -> u32
+    ensures { result ≡ min count most }
+{
+    count.min(most as usize) as u32
+}
+
+// The most that a third number can be.
+const MOST_THIRD: u32 = 0xFF_FFFF;
 
 // The version of this library: major, minor and patch number, eight bits each. The header has the same number.
 #[unsafe(no_mangle)]
@@ -43,51 +60,25 @@ pub extern "C" fn lanyardrove_version() -> u32
 pub extern "C" fn lanyardrove_check(list: &[u8]) -> u64
     ensures { result ≡ packed (check_reply list.now) }
 {
-    let checked = rdp_check::check(list);
-    pack(checked.number, third_of(checked.cause), checked.place)
+    match rdp_check::check(list) {
+        Ok(accepted) => pack(0, capped(MOST_THIRD, list.len() / 8), accepted.words),
+        Err(refused) => {
+            let number = u32::from(refused.ground);
+            pack(number, capped(MOST_THIRD, refused.cause), refused.place)
+        }
+    }
 }
 
 // The cycles that a record has waited as a third number: none where 28 refuses the record.
-fn third_of_record(number: u32, waited: u32) -> u32
-    ensures { result ≡ cond (eqb number 28) 0 waited }
+fn third_of_record(answer: Answer, waited: u32) -> u32
+    ensures { result ≡ cond (eqb (answered answer).number 28) 0 waited }
 {
-    if number == 28 {
-        return 0;
-    }
-    waited
-}
-
-// A record after a call, and the call's answer as one number.
-#[derive(Clone, Copy)]
-pub struct Packed {
-    pub after: Stream,
-    pub answer: u64,
-}
-
-// A portion fed to a record by value.
-fn feed_packed(before: Stream, portion: &[u8]) -> Packed
-    ensures { result ≡ fed_packed before portion.now }
-{
-    let fed = rdp_stream::feed_value(before, portion);
-    let after = fed.after;
-    let told = fed.answer;
-    let third = third_of_record(told.number, after.waited);
-    let answer = pack(told.number, third, told.place);
-    Packed { after, answer }
-}
-
-// The closing of a record by value.
-fn close_packed(before: Stream) -> Packed
-    ensures { result ≡ closed_packed before }
-{
-    let closed = rdp_stream::close_value(before);
-    let left = closed.after;
-    let last = closed.answer;
-    let cycles = third_of_record(last.number, left.waited);
-    let answer = pack(last.number, cycles, last.place);
-    Packed {
-        after: left,
-        answer,
+    match answer {
+        Err(Refusal {
+            ground: Ground::Damaged,
+            ..
+        }) => 0,
+        _ => waited,
     }
 }
 
@@ -98,10 +89,8 @@ fn close_packed(before: Stream) -> Packed
 pub extern "C" fn lanyardrove_stream_feed(lent: &mut Stream, portion: &[u8]) -> u64
     ensures { (result ≡ (fed_packed lent.old portion.now).answer) × (lent.new ≡ (fed_packed lent.old portion.now).after) }
 {
-    let before = *lent;
-    let both = feed_packed(before, portion);
-    *lent = both.after;
-    both.answer
+    let answer = rdp_stream::feed(lent, portion);
+    pack_answer(answer, third_of_record(answer, lent.waited))
 }
 
 // Closes the list of the caller's record: 0 and its words, or the refusal that the record remembers, 2, 3 or an earlier one; 28 at 0 where the record is
@@ -110,20 +99,23 @@ pub extern "C" fn lanyardrove_stream_feed(lent: &mut Stream, portion: &[u8]) -> 
 pub extern "C" fn lanyardrove_stream_close(lent: &mut Stream) -> u64
     ensures { (result ≡ (closed_packed lent.old).answer) × (lent.new ≡ (closed_packed lent.old).after) }
 {
-    let before = *lent;
-    let both = close_packed(before);
-    *lent = both.after;
-    both.answer
+    let answer = rdp_stream::close(lent);
+    pack_answer(answer, third_of_record(answer, lent.waited))
 }
 
-// A sync that a command requires as a third number: 4 more where it is missing.
-fn third_of_sync(required: u8, missing: bool) -> u32
-    ensures { result ≡ required + cond missing 4 0 }
+// What a sync adds to its code where it is missing.
+const MISSING: u32 = 4;
+
+// A sync that a command requires, and that is missing then, as a third number.
+fn third_of_sync(required: Option<Sync>) -> u32
+    ensures { result ≡ code_in required + cond (not (eqb (code_in required) 0)) 4 0 }
 {
-    if missing {
-        return required as u32 + 4;
+    match required {
+        None => 0,
+        Some(Sync::Load) => 1 + MISSING,
+        Some(Sync::Tile) => 2 + MISSING,
+        Some(Sync::Pipe) => 3 + MISSING,
     }
-    required as u32
 }
 
 // One step of the hazards by the number of a command: 0, the sync that it requires and 4 where it is missing as the third number, and the hazards after it
@@ -133,8 +125,7 @@ pub extern "C" fn lanyardrove_step(hazards: u32, number: u32) -> u64
     ensures { result ≡ packed (step_reply hazards number) }
 {
     let step = rdp_hazards::step((hazards % 16) as u8, (number % 64) as u8);
-    let third = third_of_sync(step.required, step.missing);
-    pack(0, third, step.next as u32)
+    pack(0, third_of_sync(step.required), step.next as u32)
 }
 
 // The entries of a list at every 64th command (#111): the first of refusals 1 to 3, then 14 at the entries needed, or 0 and the entries.
@@ -144,7 +135,7 @@ pub extern "C" fn lanyardrove_index_build(list: &[u8], entries: &mut [u32]) -> u
     ensures entries { entries.new ≡ build_out list.now entries.old }
 {
     let built = rdp_index::build(list, entries);
-    pack(built.number, 0, built.place)
+    pack_answer(built, 0)
 }
 
 // The hazards before the command at a place, by a list's entries: the first of refusals 1, 2, 26, 3 and 24, or 0, at the place that is asked. The third number
@@ -153,9 +144,13 @@ pub extern "C" fn lanyardrove_index_build(list: &[u8], entries: &mut [u32]) -> u
 pub extern "C" fn lanyardrove_index_ask(list: &[u8], entries: &[u32], place: u32) -> u64
     ensures { result ≡ packed (ask_reply list.now entries.now place) }
 {
-    let asked = rdp_index::ask(list, entries, place);
-    let third = asked.hazards as u32 + 16 * asked.read;
-    pack(asked.number, third, asked.place)
+    match rdp_index::ask(list, entries, place) {
+        Ok(asked) => {
+            let third = asked.hazards as u32 + 16 * asked.read;
+            pack(0, third, place)
+        }
+        Err(refusal) => pack_answer(Err(refusal), 0),
+    }
 }
 
 // Replaces the command at a place by another of equal length, and the later entries: refused as building, then as a question; then 24, no command of the list
@@ -170,7 +165,18 @@ pub extern "C" fn lanyardrove_index_replace(
     ensures { ReplaceReplies list.old entries.old place new.now result list.new entries.new }
 {
     let replaced = rdp_index::replace(list, entries, place, new);
-    pack(replaced.number, 0, replaced.place)
+    pack_answer(replaced, 0)
+}
+
+// A repair's answer: the third number is the cycles.
+fn pack_repaired(repaired: Result<Repaired, Refusal>) -> u64
+    requires { (repair.told repaired).cycles < 2 ^ 24 }
+    ensures { result ≡ packed (repair_reply (repair.told repaired)) }
+{
+    match repaired {
+        Ok(r) => pack(0, r.cycles, r.words),
+        Err(refusal) => pack_answer(Err(refusal), 0),
+    }
 }
 
 // The repair of a list: the first of refusals 1 to 6, 19, 13 and 14, or 0, the cycles and the words written.
@@ -179,7 +185,7 @@ pub extern "C" fn lanyardrove_repair(list: &[u8], work: &mut [u8], out: &mut [u8
     ensures { RepairReplies list.now work.old out.old result work.new out.new }
 {
     let repaired = rdp_repair::repair(list, work, out);
-    pack(repaired.number, repaired.cycles, repaired.place)
+    pack_repaired(repaired)
 }
 
 // The second repair (#109), which chooses the Load, Tile and Pipe syncs of a list afresh: the first of the repair's refusals, or 0, all waiting and the words
@@ -189,7 +195,7 @@ pub extern "C" fn lanyardrove_repair_afresh(list: &[u8], work: &mut [u8], out: &
     ensures { AfreshReplies list.now work.old out.old result work.new out.new }
 {
     let renewed = rdp_repair::repair_afresh(list, work, out);
-    pack(renewed.number, renewed.cycles, renewed.place)
+    pack_repaired(renewed)
 }
 
 // Drawing a list into memory that starts at an address, with texture memory: the first of refusals 1 to 9, 19, 16, and 10, 11, 17, 12 and 18, or 0 and the words of
@@ -206,7 +212,7 @@ pub extern "C" fn lanyardrove_draw(
     ensures texture { texture.new ≡ (drawn list.now start (memories memory.old texture.old)).texture }
 {
     let answer = rdp_draw::draw(list, memory, start, texture);
-    pack(answer.number, 0, answer.place)
+    pack_answer(answer, 0)
 }
 
 // An image in memory that starts at an address, as RGBA rows (#113): 27, 12 or 14, or 0 and the bytes written.
@@ -224,7 +230,7 @@ pub extern "C" fn lanyardrove_view(
     ensures output { out.new ≡ view_out memory.now start (framebuffer_at address width height size) out.old }
 {
     let viewed = rdp_view::view(memory, start, address, width, height, size, out);
-    pack(viewed.number, 0, viewed.place)
+    pack_answer(viewed, 0)
 }
 
 // Compares two lists, command by command: the first of refusals 1, 2 and 3 of the first list, then of the second, then 14 at the numbers needed, or 0 and the
@@ -235,18 +241,11 @@ pub extern "C" fn lanyardrove_compare(first: &[u8], second: &[u8], entries: &mut
     ensures entries { entries.new ≡ entries_after first.now second.now entries.old }
 {
     let compared = rdp_compare::differences(first, second, entries);
-    pack(compared.number, 0, compared.place)
+    pack_answer(compared, 0)
 }
 
-// A byte of a list as a place: at most 4,294,967,295, which stands for that and more.
-fn place_of(byte: usize) -> u32
-    ensures { result ≡ min byte most_place }
-{
-    if byte < 0xFFFF_FFFF {
-        return byte as u32;
-    }
-    0xFFFF_FFFF
-}
+// The most that a place can be.
+const MOST_PLACE: u32 = 0xFFFF_FFFF;
 
 // Where the rest begins of the list that has more commands, where so many numbers are lent to a comparison: the comparison's number, the list (0 or 1) as the
 // third number, and the byte.
@@ -254,21 +253,15 @@ fn place_of(byte: usize) -> u32
 pub extern "C" fn lanyardrove_rest(first: &[u8], second: &[u8], count: usize) -> u64
     ensures { result ≡ packed (rest_reply first.now second.now count) }
 {
-    let rest = rdp_compare::rest_start(first, second, count);
-    let list = rest.second as u32;
-    let byte = place_of(rest.start);
-    pack(rest.number, list, byte)
+    match rdp_compare::rest_start(first, second, count) {
+        Ok(RestPlace::InFirst(byte)) => pack(0, 0, capped(MOST_PLACE, byte)),
+        Ok(RestPlace::InSecond(byte)) => pack(0, 1, capped(MOST_PLACE, byte)),
+        Err(refusal) => pack(u32::from(refusal.ground), 0, capped(MOST_PLACE, first.len())),
+    }
 }
 
-// How many bytes of a memory count as lent: at most 4,294,967,288, so that every offset fits 32 bits.
-fn lent_length(length: usize) -> usize
-    ensures { result ≡ min length most_lent }
-{
-    if length < 0xFFFF_FFF8 {
-        return length;
-    }
-    0xFFFF_FFF8
-}
+// The most bytes of a memory that count as lent, so that every offset fits 32 bits.
+const MOST_LENT: u32 = 0xFFFF_FFF8;
 
 // Writes the RDP list of the Fast3DEX2 display list at an offset of a memory: the first of refusals 20 to 23 at the offset of the refused command, then 14 at
 // the words needed, or 0 and the words written. The third number is the display list commands read.
@@ -277,11 +270,14 @@ pub extern "C" fn lanyardrove_translate(memory: &[u8], start: u32, out: &mut [u8
     ensures reply { result ≡ packed (translate_reply memory.now start (length out.old)) }
     ensures output { out.new ≡ translate_bytes memory.now start out.old }
 {
-    let end = lent_length(memory.len());
-    let translated = f3dex2::translate(&memory[0..end], start as usize, out);
-    let read = translated.read as u32;
-    let offset = translated.place as u32;
-    pack(translated.number, read, offset)
+    let end = capped(MOST_LENT, memory.len()) as usize;
+    match f3dex2::translate(&memory[..end], start as usize, out) {
+        Ok(made) => pack(0, made.read as u32, made.words as u32),
+        Err(unmade) => {
+            let number = u32::from(unmade.ground);
+            pack(number, unmade.read as u32, unmade.place as u32)
+        }
+    }
 }
 
 // The words of the command that begins with a word: a plain count.
@@ -299,17 +295,12 @@ pub extern "C" fn lanyardrove_decode(list: &[u8], fields: &mut [u64]) -> u64
     ensures reply { result ≡ packed (decode_reply list.now fields.old) }
     ensures fields { fields.new ≡ decode_fields list.now fields.old }
 {
-    let decoded = rdp_command::decode(list);
-    match decoded {
-        Decoded::Whole(command) => {
-            let written = rdp_encode::fields(command, fields);
-            if written.number != 0 {
-                return pack(written.number, 0, written.place);
-            }
-            let head = rdp_command::head_at(list, 0);
-            return pack(0, head.number as u32, written.place);
-        }
-        Decoded::Refused(cut) => return pack(cut.number, 0, cut.place),
+    match rdp_command::decode(list) {
+        Ok(command) => match rdp_encode::fields(command, fields) {
+            Ok(count) => pack(0, rdp_words::number_at(list, 0) as u32, count),
+            Err(refusal) => pack_answer(Err(refusal), 0),
+        },
+        Err(cut) => pack_answer(Err(cut), 0),
     }
 }
 
@@ -325,12 +316,8 @@ pub extern "C" fn lanyardrove_encode(
     ensures reply { result ≡ packed (encode_reply number fields.now suffix.now out.old) }
     ensures output { out.new ≡ encode_bytes number fields.now suffix.now out.old }
 {
-    let made = rdp_encode::from_fields(number, fields);
-    match made {
-        Decoded::Whole(command) => {
-            let encoded = rdp_encode::encode(command, suffix, out);
-            return pack(encoded.number, 0, encoded.place);
-        }
-        Decoded::Refused(unmade) => return pack(unmade.number, 0, unmade.place),
+    match rdp_encode::from_fields(number, fields) {
+        Ok(command) => pack_answer(rdp_encode::encode(command, suffix, out), 0),
+        Err(unmade) => pack_answer(Err(unmade), 0),
     }
 }
