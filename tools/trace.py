@@ -42,8 +42,19 @@ def is_promised(crate, function):
     for path in sorted((ROOT / 'crates' / crate / 'src').glob('*.rt')):
         found = re.search(rf'(?m)^pub (?:extern "C" )?fn {function}\b(.*?)\{{$', path.read_text(), re.S)
         if found:
-            return 'ensures' in found.group(1) and 'requires' not in found.group(1)
+            # a promise may stand in the type of what is answered, as a ghost field
+            promise = found.group(1) + ghost_fields(crate, found.group(1))
+            return ('ensures' in promise or 'ghost' in promise) and 'requires' not in promise
     return False
+
+
+def ghost_fields(crate, signature):
+    answered = re.search(r'-> (\w+)\s*$', signature)
+    for path in sorted((ROOT / 'crates' / crate / 'src').glob('*.rt')) if answered else []:
+        found = re.search(rf'(?m)^pub struct {answered.group(1)} \{{(.*?)^\}}', path.read_text(), re.S)
+        if found:
+            return ''.join(re.findall(r'(?m)^    ghost .*$', found.group(1)))
+    return ''
 
 
 def applies(crate, name):
