@@ -26,11 +26,9 @@ use Rattle.rdp_check.specs.Refusals.{state_after, CommandHolds, past_end, at_com
 use Rattle.rdp_check.specs.View.{refusals_by, Numbers, IsJudged}
 use Rattle.rdp_hazards.proofs.HazardLaws.{at-state}
 use Rattle.rdp_check.proofs.MarkLaws.{IsMark, is-P, is_T, is-D, is-G, exactly, state-low}
-use Rattle.rdp_check.proofs.JoinLaws.{Alone, AllAlone, command-some, commands-joined, rest-joined, length-joined, words_append, joined-append, parsed, joined-whole}
+use Rattle.rdp_check.proofs.JoinLaws.{Alone, AllAlone, command-some, commands-joined, rest-joined, length-joined, words_append, joined-append, parsed}
 use Rattle.rdp_check.proofs.OrderLaws.{among-parts}
 use Rattle.rdp_check.proofs.FirstLaws.{Numbered, own-numbered, check-numbered, commands-first, check-first}
-use Rattle.rdp_check.proofs.LeftLaws.{Left, none_left, fits, commands-next, left-next}
-use Rattle.rdp_check.proofs.ListLaws.{command-number}
 
 not-true : (b : Bool) → not b ≡ true → b ≡ false
 not-true true e = absurd (false≢true e)
@@ -405,36 +403,38 @@ module _ (list : List ℕ) (number place : ℕ) (whole : Bool) where
 
 -- ---- the loop that seeks the latest
 
--- what holds at its head: from what was found, the latest of what is left is the answer
-pub record Seeking (numbers : ℕ) (list : List ℕ) (words goal at found : ℕ) : Type 0 where
-  pub left : Left list words at
-  pub same : latest (is_among numbers) found at (commands_of (drop (8 * at) list)) ≡ goal
+-- no list has more words in its commands than bytes
+words-within : (list : List ℕ) → words_in (commands_of list) ≤ length list
+words-within list =
+    let p = parsed list in
+    omega (arith, length-joined (commands_of list) p.alone, length-append (joined (commands_of list)) (rest_of list), ap length p.joins)
 
-pub seek-first :
-    (numbers : ℕ) (list : List ℕ) (other : ℕ) → rest_of list ≡ [] →
-    Seeking numbers list (length list / 8) (latest (is_among numbers) other 0 (commands_of list)) 0 other
-seek-first numbers list other none =
-    let long : length list ≡ 8 * (length list / 8) =
-    omega (arith, length-joined (commands_of list) (parsed list).alone, ap length (joined-whole list none)) in
-    record { left = record { long = long; within = omega arith; none = none }; same = refl }
+-- what holds at its head: from what was found, the latest of the commands that are left is the answer, and these have the words that are left
+pub record Seeking (numbers : ℕ) (list : List ℕ) (other : ℕ) (rest : List ℕ) (at found : ℕ) : Type 0 where
+  pub same : latest (is_among numbers) found at (commands_of rest) ≡ latest (is_among numbers) other 0 (commands_of list)
+  pub within : at + words_in (commands_of rest) ≡ words_in (commands_of list)
 
-module _ {numbers : ℕ} {list : List ℕ} {words goal at found : ℕ} (s : Seeking numbers list words goal at found) where
-  pub seek-end : words ≤ at → found ≡ goal
+pub seek-first : (numbers : ℕ) (list : List ℕ) (other : ℕ) → Seeking numbers list other list 0 other
+seek-first numbers list other = record { same = refl; within = omega arith }
+
+module _ {numbers : ℕ} {list : List ℕ} {other : ℕ} {rest : List ℕ} {at found : ℕ} (s : Seeking numbers list other rest at found) (c rest' : List ℕ) (steps : commands_of rest ≡ c ∷ commands_of rest') where
+  left : at + (words_of (first_number c) + words_in (commands_of rest')) ≡ words_in (commands_of list)
+  left = ap (λ (cs : List (List ℕ)). at + words_in cs) (sym steps) ∙ s.within
+
+  pub seek-few : at + words_of (first_number c) ≤ length list
+  seek-few = omega (arith, left, words-within list)
+
+  pub seek-next : (found' : ℕ) → found' ≡ cond (is_among numbers (first_number c)) at found → Seeking numbers list other rest' (at + words_of (first_number c)) found'
   unfolding latest
-  seek-end h = ap (latest (is_among numbers) found at) (sym (none_left s.left h)) ∙ s.same
-
-  pub seek-next :
-      at < words → (n : ℕ) → n ≡ number_in (word_at list at) → (b : Bool) → b ≡ is_among numbers n → (found' : ℕ) → found' ≡ cond b at found → (count : ℕ) →
-      count ≡ words_of n → Seeking numbers list words goal (at + count) found'
-  unfolding latest
-  seek-next more n is b is_b found' is_found count long =
-      let rest = commands_of (drop (8 * (at + count)) list) in
-      let number = command-number list at n is (fits s.left more n is count long) in
+  seek-next found' is =
       record {
-        left = left-next s.left more n is count long;
         same =
-            (λ i. latest (is_among numbers) ((is_found ∙ ap (λ (x : Bool). cond x at found) is_b) i) (at + long i) rest) ∙
-            ap (λ (k : ℕ). latest (is_among numbers) (cond (is_among numbers k) at found) (at + words_of k) rest) (sym number) ∙
-            ap (latest (is_among numbers) found at) (sym (commands-next s.left more n is count long)) ∙
+            ap (λ (f : ℕ). latest (is_among numbers) f (at + words_of (first_number c)) (commands_of rest')) is ∙
+            ap (latest (is_among numbers) found at) (sym steps) ∙
             s.same;
+        within = omega (arith, left);
       }
+
+pub seek-end : {numbers : ℕ} {list : List ℕ} {other : ℕ} {rest : List ℕ} {at found : ℕ} → Seeking numbers list other rest at found → commands_of rest ≡ [] → found ≡ latest (is_among numbers) other 0 (commands_of list)
+unfolding latest
+seek-end {numbers} {at = at} {found = found} s none = ap (latest (is_among numbers) found at) (sym none) ∙ s.same

@@ -1,5 +1,4 @@
 pub mod ListLaws
-pub mod LeftLaws
 pub mod JoinLaws
 pub mod KeptLaws
 pub mod ViewLaws

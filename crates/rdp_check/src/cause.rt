@@ -1,11 +1,12 @@
 // The command that caused the refusal of another: the latest that set the mark which that one needs cleared.
-ghost use Rattle.std.specs.Prelude.{cond, true, [], ◌≡◌, ◌/◌, ◌<◌, length};
+ghost use Rattle.std.specs.Prelude.{cond, true, ◌≡◌, ◌/◌, ◌<◌, length};
 ghost use Rattle.rdp_words.specs.Grounds.{number_if};
 ghost use Rattle.rdp_words.specs.Kinds.{between, is_among};
-ghost use Rattle.rdp_check.specs.Commands.{commands_of, rest_of};
+ghost use Rattle.rdp_check.specs.Commands.{commands_of};
 ghost use Rattle.rdp_check.specs.Cause.{awaited, latest, cause_of};
 ghost use Rattle.rdp_check.specs.View.{Numbers, IsJudged};
 
+use crate::Commands;
 use rdp_words::Ground;
 
 // Command numbers, a bit for each: the textured draws and the loads.
@@ -25,26 +26,17 @@ fn awaited_by(number: u8) -> u64
     rdp_words::DRAWS
 }
 
-fn place_if(set: bool, at: usize, other: usize) -> usize
-    ensures { result ≡ cond set at other }
-{
-    if set {
-        return at;
-    }
-    other
-}
-
 // The place of the latest command of a list whose number is among some; where there is none, the other.
 fn latest_among(numbers: u64, list: &[u8], other: usize) -> usize
-    requires { rest_of list.now ≡ [] }
     ensures { result ≡ latest (is_among numbers) other 0 (commands_of list.now) }
 {
-    let words = list.len() / 8;
-    let mut at: usize = 0;
+    let mut at = 0;
     let mut found = other;
-    while at < words {
-        let number = rdp_words::number_at(list, at);
-        found = place_if(rdp_words::is_among(numbers, number), at, found);
+    for command in Commands(list) {
+        let number = rdp_words::number_at(command, 0);
+        if rdp_words::is_among(numbers, number) {
+            found = at;
+        }
         at += rdp_words::words_of(number);
     }
     found

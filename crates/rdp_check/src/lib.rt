@@ -6,10 +6,12 @@ ghost use Rattle.rdp_check.specs.Check.{check_of, repair_check_of, checked_in, r
 ghost use Rattle.rdp_check.specs.Checkpoint.{check_from, judged_in};
 
 mod cause;
+mod commands;
 mod hazards;
 mod onward;
 mod walk;
 
+pub use commands::Commands;
 use rdp_command::{
     Color, Convert, Image, KeyGb, KeyR, OtherModes, PrimitiveColor, PrimitiveDepth, Scissor,
     TexelCorner, TileDescriptor,

@@ -7,7 +7,6 @@ ghost use Rattle.rdp_repair.specs.Work.{basis_of, Repairs};
 
 mod plan;
 mod repairing;
-mod walk;
 
 use rdp_words::Refusal;
 

@@ -9,8 +9,8 @@ ghost use Rattle.rdp_check.specs.Check.{repair_refusals, outcome_within};
 ghost use Rattle.rdp_repair.specs.Repair.{told};
 ghost use Rattle.rdp_repair.specs.Work.{drops, basis_of, noted_number, kept_words, kept_of, noted_in, options_in, inserts_of, Below, option_bytes, due_bytes, NotedIs, BackwardIs, PlannedIs, Repairs};
 
-use crate::walk::Commands;
 use crate::{Repaired, plan};
+use rdp_check::Commands;
 use rdp_hazards::{SYNC_LOAD, SYNC_PIPE, SYNC_TILE, StepTable, Sync, table};
 use rdp_words::{Ground, Refusal};
 

@@ -1,9 +1,9 @@
--- `rdp_repair::walk::Commands::next` meets its contract: the first command, and those after it. Assumes nothing.
+-- `rdp_check::commands::Commands::next` meets its contract: the first command, and those after it. Assumes nothing.
 use Rattle.std.proofs.Common.{◌≡◌, ℕ, List, ◌*◌, ◌∷◌, length, take, drop, sym, ap, ◌∙◌, arith}
 use Rattle.rdp_check.specs.Commands.{commands_of}
 use Rattle.rdp_check.proofs.ListLaws.{commands-head, commands-cut}
-use Rattle.rdp_repair.proofs.walk.CommandsIterator.next.Goals.{After-split_at}
-use Rattle.rdp_repair.proofs.walk.CommandsIterator.next.Goals as goal
+use Rattle.rdp_check.proofs.commands.CommandsIterator.next.Goals.{After-split_at}
+use Rattle.rdp_check.proofs.commands.CommandsIterator.next.Goals as goal
 
 pub returns-then-n-eq0-clause-steps : goal.returns-then-n-eq0-clause-steps
 returns-then-n-eq0-clause-steps c =
