@@ -70,9 +70,6 @@ slice_bounds-copy-end c =
 pub slice_bounds-copy-end-in-loop-i : goal.slice_bounds-copy-end-in-loop-i
 slice_bounds-copy-end-in-loop-i c = sym (sixteen (goal.at.slice_bounds-copy-end-in-loop-i c).After-row_before-row)
 
-pub copy-requires : goal.copy-requires
-copy-requires c = tt
-
 pub loop-i-preserved : goal.loop-i-preserved
 loop-i-preserved c =
     let there = (goal.at.loop-i-preserved c).In-loop-i in
