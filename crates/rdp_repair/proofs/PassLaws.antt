@@ -138,8 +138,8 @@ module _ {afresh : Bool} {list left work out₀ out : List ℕ} {m i to : ℕ} (
     abbrev choice : ℕ
     choice = get_or work (16 * i + m) 0
 
-    pub option-small : choice / 16 < 4
-    option-small = omega (arith, w.below (16 * i + m) choice-there)
+    pub choice-small : choice < 64
+    choice-small = w.below (16 * i + m) choice-there
 
     -- the bytes of a turn
     abbrev turn : List ℕ

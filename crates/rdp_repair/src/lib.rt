@@ -3,12 +3,12 @@
 
 ghost use Rattle.rdp_repair.specs.Repair.{told, RepairIs};
 ghost use Rattle.rdp_repair.specs.Afresh.{AfreshIs};
-ghost use Rattle.rdp_repair.specs.Work.{basis_of, Repairs};
 
 mod plan;
 mod repairing;
 
 use rdp_words::Refusal;
+use repairing::Basis;
 
 // A list that is repaired: the words written, and the cycles of the first repair's inserted syncs or of all syncs that the second one leaves.
 #[derive(Clone, Copy, Debug, PartialEq, Eq)]
@@ -17,27 +17,16 @@ pub struct Repaired {
     pub cycles: u32,
 }
 
-// Either repair: of the list as given, or afresh, of the list without its Load, Tile and Pipe syncs. Refusals 1 to 6 and 19 of the list as given, where 7 to 9
-// are passed over, then 13 by its commands and 14; else the words written and the cycles of the plan.
-fn repair_by(
-    list: &[u8],
-    work: &mut [u8],
-    out: &mut [u8],
-    afresh: bool,
-) -> Result<Repaired, Refusal>
-    ensures { Repairs (basis_of afresh list.now) list.now work.old out.old (told result) work.new out.new }
-{
-    rdp_check::check_for_repair(list)?;
-    repairing::test_room(list, work.len() / 16)?;
-    repairing::repair_whole(list, work, out, afresh)
-}
-
 // Writes to out the list with the syncs that it misses inserted, at the least cycles. The work buffer lends sixteen bytes a command. Refusals 1 to 6 and 19 of
 // the list, where 7 to 9 are passed over, then 13 and 14 of the room; else the words written and the cycles inserted.
 pub fn repair(list: &[u8], work: &mut [u8], out: &mut [u8]) -> Result<Repaired, Refusal>
     ensures { RepairIs list.now work.old out.old (told result) work.new out.new }
 {
-    repair_by(list, work, out, false)
+    Basis {
+        list,
+        afresh: false,
+    }
+    .repair(work, out)
 }
 
 // #109: writes to out the list without its Load, Tile and Pipe syncs, with those that it then misses, at the least waiting of all lists with its other
@@ -45,5 +34,5 @@ pub fn repair(list: &[u8], work: &mut [u8], out: &mut [u8]) -> Result<Repaired, 
 pub fn repair_afresh(list: &[u8], work: &mut [u8], out: &mut [u8]) -> Result<Repaired, Refusal>
     ensures { AfreshIs list.now work.old out.old (told result) work.new out.new }
 {
-    repair_by(list, work, out, true)
+    Basis { list, afresh: true }.repair(work, out)
 }

@@ -1,5 +1,5 @@
 // The passes of the repair over a list of whole commands: numbers, choices from the back, words to insert, output.
-ghost use Rattle.std.specs.Prelude.{◌++◌, ◌≡◌, ◌+◌, ◌*◌, ◌<◌, ◌≤◌, min, length, replicate, MatchResult};
+ghost use Rattle.std.specs.Prelude.{◌++◌, ◌≡◌, ◌+◌, ◌*◌, ◌/◌, ◌<◌, ◌≤◌, min, length, replicate, MatchResult};
 ghost use Rattle.rdp_words.specs.Grounds.{answered};
 ghost use Rattle.rdp_command.specs.Decode.{answer};
 ghost use Rattle.rdp_words.specs.Words.{overwrite, WrittenIs};
@@ -23,7 +23,7 @@ fn count_commands(list: &[u8]) -> usize
 
 // Refuses by 13 where there is room for fewer commands than the list has. It has no more of them than words, so they are counted only where the words
 // do not tell.
-pub fn test_room(list: &[u8], room: usize) -> Result<(), Refusal>
+fn test_room(list: &[u8], room: usize) -> Result<(), Refusal>
     requires { length list.now ≤ 16384 }
     ensures { let count = length (commands_of list.now) in
         MatchResult result (λ _. count ≤ room) (λ r. (room < count) × (answered (Err r) ≡ answer 13 count)) }
@@ -42,44 +42,6 @@ pub fn test_room(list: &[u8], room: usize) -> Result<(), Refusal>
     Ok(())
 }
 
-// Whether a repair leaves a command out: the second one its Load, Tile and Pipe syncs. The flag is one operand of the test, which an enum would first be
-// turned into.
-fn left_out(afresh: bool, number: u8) -> bool
-    ensures { result ≡ drops afresh number }
-{
-    afresh & (((number == SYNC_LOAD) | (number == SYNC_TILE)) | (number == SYNC_PIPE))
-}
-
-// The number to plan with: a no operation's for a command that is left out.
-fn noted_number(afresh: bool, number: u8) -> u8
-    ensures { result ≡ noted_number afresh number }
-{
-    if left_out(afresh, number) {
-        return 0;
-    }
-    number
-}
-
-// How many of a command's words are kept.
-fn kept_words(afresh: bool, number: u8) -> usize
-    ensures { result ≡ kept_words afresh number }
-{
-    if left_out(afresh, number) {
-        return 0;
-    }
-    rdp_words::words_of(number)
-}
-
-// What is kept of a command: its bytes, or none of them.
-fn kept(afresh: bool, command: &[u8]) -> &[u8]
-    ensures { result.now ≡ kept_of afresh command.now }
-{
-    if left_out(afresh, rdp_words::number_at(command, 0)) {
-        return &command[..0];
-    }
-    command
-}
-
 // The commands of a list, and the words of those that are kept.
 #[derive(Clone, Copy)]
 pub struct Noted {
@@ -87,20 +49,12 @@ pub struct Noted {
     pub words: usize,
 }
 
-// Notes the number of each command at the start of its sixteen bytes of work.
-fn note_numbers(list: &[u8], work: &mut [u8], afresh: bool) -> Noted
-    requires { 16 * length (commands_of list.now) ≤ length work.old }
-    ensures { NotedIs afresh list.now work.old result work.new }
-{
-    let mut commands: usize = 0;
-    let mut words: usize = 0;
-    for command in Commands(list) {
-        let number = rdp_words::number_at(command, 0);
-        work[16 * commands] = noted_number(afresh, number);
-        words += kept_words(afresh, number);
-        commands += 1;
-    }
-    Noted { commands, words }
+// The commands of a list, its least cycles, and the words that are kept with the plan's syncs.
+#[derive(Clone, Copy)]
+pub struct Planned {
+    pub commands: usize,
+    pub cycles: u32,
+    pub words: usize,
 }
 
 // The backward pass: from the numbers to the choices at each command. The sixteen best totals are carried from command to command. It answers the
@@ -122,11 +76,11 @@ fn backward(table: &StepTable, work: &mut [u8], commands: usize) -> u32
     totals[0]
 }
 
-// The sync of a choice's option.
-fn sync_of(option: u8) -> Option<Sync>
-    ensures { option < 4 → code_in result ≡ option }
+// The sync of a choice, by its option.
+fn sync_in(choice: u8) -> Option<Sync>
+    ensures { choice < 64 → code_in result ≡ choice / 16 }
 {
-    match option {
+    match choice / 16 {
         0 => None,
         1 => Some(Sync::Load),
         2 => Some(Sync::Tile),
@@ -143,7 +97,7 @@ fn count_inserts(work: &[u8], commands: usize) -> usize
     let mut count: usize = 0;
     for i in 0..commands {
         let choice = work[16 * i + hazards as usize];
-        let sync = sync_of(choice / 16);
+        let sync = sync_in(choice);
         count += sync.is_some() as usize;
         hazards = choice % 16;
     }
@@ -176,22 +130,6 @@ fn write_command(sync: Option<Sync>, command: &[u8], out: &mut [u8], to: usize) 
     after
 }
 
-// Writes the commands of a list that are kept, with the plan in the work buffer.
-fn write_plan(list: &[u8], work: &[u8], out: &mut [u8], afresh: bool)
-    requires { let count = length (commands_of list.now) in
-        (16 * count ≤ length work.now) × Below 64 work.now (16 * count) × (length (due_bytes afresh list.now work.now) ≤ length out.old) }
-    ensures { out.new ≡ overwrite (due_bytes afresh list.now work.now) out.old }
-{
-    let mut hazards: u8 = 0;
-    let mut to: usize = 0;
-    for (i, command) in Commands(list).enumerate() {
-        let choice = work[16 * i + hazards as usize];
-        let sync = sync_of(choice / 16);
-        to = write_command(sync, kept(afresh, command), out, to);
-        hazards = choice % 16;
-    }
-}
-
 // Sets the first n bytes to 0.
 fn clear(work: &mut [u8], n: usize)
     requires { n ≤ length work.old }
@@ -200,56 +138,131 @@ fn clear(work: &mut [u8], n: usize)
     work[..n].fill(0);
 }
 
-// The commands of a list, its least cycles, and the words that are kept with the plan's syncs.
+// A list that is to be repaired: as it is given, or afresh, without its Load, Tile and Pipe syncs.
 #[derive(Clone, Copy)]
-pub struct Planned {
-    pub commands: usize,
-    pub cycles: u32,
-    pub words: usize,
+pub struct Basis<'a> {
+    pub list: &'a [u8],
+    pub afresh: bool,
 }
 
-// Leaves the choices at each command in the work buffer.
-fn plan_list(list: &[u8], work: &mut [u8], afresh: bool) -> Planned
-    requires { (length list.now ≤ 16384) × (16 * length (commands_of list.now) ≤ length work.old) }
-    ensures { PlannedIs afresh list.now work.old result work.new }
-{
-    let noted = note_numbers(list, work, afresh);
-    let commands = noted.commands;
-    let table = table::step_table();
-    let cycles = backward(&table, work, commands);
-    let total = noted.words + count_inserts(work, commands);
-    Planned {
-        commands,
-        cycles,
-        words: total,
+impl<'a> Basis<'a> {
+    // Whether a command of the given list is left out, by its number.
+    fn leaves_out(self, number: u8) -> bool
+        ensures { result ≡ drops self.entry.afresh number }
+    {
+        self.afresh & (((number == SYNC_LOAD) | (number == SYNC_TILE)) | (number == SYNC_PIPE))
     }
-}
 
-// Repairs a list that none of refusals 1 to 6 and 19 holds for, where the work buffer has sixteen bytes for each command.
-pub fn repair_whole(
-    list: &[u8],
-    work: &mut [u8],
-    out: &mut [u8],
-    afresh: bool,
-) -> Result<Repaired, Refusal>
-    requires { ((outcome_within 2048 repair_refusals list.now).number ≡ 0) × (16 * length (commands_of list.now) ≤ length work.old) }
-    ensures { Repairs (basis_of afresh list.now) list.now work.old out.old (told result) work.new out.new }
-{
-    let planned = plan_list(list, work, afresh);
-    let needed = planned.words;
-    let used = 16 * planned.commands;
-    let words = needed as u32;
-    if out.len() / 8 < needed {
+    // The number to plan with: a no operation's for a command that is left out.
+    fn noted_number(self, number: u8) -> u8
+        ensures { result ≡ noted_number self.entry.afresh number }
+    {
+        if self.leaves_out(number) {
+            return 0;
+        }
+        number
+    }
+
+    // How many of a command's words are kept.
+    fn kept_words(self, number: u8) -> usize
+        ensures { result ≡ kept_words self.entry.afresh number }
+    {
+        if self.leaves_out(number) {
+            return 0;
+        }
+        rdp_words::words_of(number)
+    }
+
+    // What is kept of a command: its bytes, or none of them.
+    fn kept(self, command: &'a [u8]) -> &'a [u8]
+        ensures { result.now ≡ kept_of self.entry.afresh command.now }
+    {
+        if self.leaves_out(rdp_words::number_at(command, 0)) {
+            return &command[..0];
+        }
+        command
+    }
+
+    // Notes the number of each command at the start of its sixteen bytes of work.
+    fn note_numbers(self, work: &mut [u8]) -> Noted
+        requires { 16 * length (commands_of self.list.now) ≤ length work.old }
+        ensures { NotedIs self.entry.afresh self.entry.list.now work.old result work.new }
+    {
+        let mut commands: usize = 0;
+        let mut words: usize = 0;
+        for command in Commands(self.list) {
+            let number = rdp_words::number_at(command, 0);
+            work[16 * commands] = self.noted_number(number);
+            words += self.kept_words(number);
+            commands += 1;
+        }
+        Noted { commands, words }
+    }
+
+    // Leaves the choices at each command in the work buffer.
+    fn plan(self, work: &mut [u8]) -> Planned
+        requires { (length self.list.now ≤ 16384) × (16 * length (commands_of self.list.now) ≤ length work.old) }
+        ensures { PlannedIs self.entry.afresh self.entry.list.now work.old result work.new }
+    {
+        let noted = self.note_numbers(work);
+        let commands = noted.commands;
+        let table = table::step_table();
+        let cycles = backward(&table, work, commands);
+        let total = noted.words + count_inserts(work, commands);
+        Planned {
+            commands,
+            cycles,
+            words: total,
+        }
+    }
+
+    // Writes the commands that are kept, with the plan in the work buffer.
+    fn write(self, work: &[u8], out: &mut [u8])
+        requires { let count = length (commands_of self.list.now) in
+            (16 * count ≤ length work.now) × Below 64 work.now (16 * count) × (length (due_bytes self.afresh self.list.now work.now) ≤ length out.old) }
+        ensures { out.new ≡ overwrite (due_bytes self.entry.afresh self.entry.list.now work.now) out.old }
+    {
+        let mut hazards: u8 = 0;
+        let mut to: usize = 0;
+        for (i, command) in Commands(self.list).enumerate() {
+            let choice = work[16 * i + hazards as usize];
+            let sync = sync_in(choice);
+            to = write_command(sync, self.kept(command), out, to);
+            hazards = choice % 16;
+        }
+    }
+
+    // Repairs a list that none of refusals 1 to 6 and 19 holds for, where the work buffer has sixteen bytes for each command.
+    fn repair_whole(self, work: &mut [u8], out: &mut [u8]) -> Result<Repaired, Refusal>
+        requires { ((outcome_within 2048 repair_refusals self.list.now).number ≡ 0) × (16 * length (commands_of self.list.now) ≤ length work.old) }
+        ensures { Repairs (basis_of self.entry.afresh self.entry.list.now) self.entry.list.now work.old out.old (told result) work.new out.new }
+    {
+        let planned = self.plan(work);
+        let needed = planned.words;
+        let used = 16 * planned.commands;
+        let words = needed as u32;
+        if out.len() / 8 < needed {
+            clear(work, used);
+            return Err(Refusal {
+                ground: Ground::OutputTooShort,
+                place: words,
+            });
+        }
+        self.write(work, out);
         clear(work, used);
-        return Err(Refusal {
-            ground: Ground::OutputTooShort,
-            place: words,
-        });
+        Ok(Repaired {
+            words,
+            cycles: planned.cycles,
+        })
     }
-    write_plan(list, work, out, afresh);
-    clear(work, used);
-    Ok(Repaired {
-        words,
-        cycles: planned.cycles,
-    })
+
+    // Repairs a list. Refusals 1 to 6 and 19 of it as given, where 7 to 9 are passed over, then 13 by its commands and 14; else the words written and the
+    // cycles of the plan.
+    pub fn repair(self, work: &mut [u8], out: &mut [u8]) -> Result<Repaired, Refusal>
+        ensures { Repairs (basis_of self.entry.afresh self.entry.list.now) self.entry.list.now work.old out.old (told result) work.new out.new }
+    {
+        rdp_check::check_for_repair(self.list)?;
+        test_room(self.list, work.len() / 16)?;
+        self.repair_whole(work, out)
+    }
 }

@@ -4,4 +4,4 @@ use Rattle.rdp_repair.proofs.RepairLaws.{first-least, repairs-by}
 use Rattle.rdp_repair.proofs.repair.Goals as goal
 
 pub returns : goal.returns
-returns c = repairs-by LeastRepair _ _ (first-least _) _ _ _ _ _ c.repair_by.ensures
+returns c = repairs-by LeastRepair _ _ (first-least _) _ _ _ _ _ c.repair.ensures

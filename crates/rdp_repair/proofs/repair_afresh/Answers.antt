@@ -4,4 +4,4 @@ use Rattle.rdp_repair.proofs.RepairLaws.{second-least, repairs-by}
 use Rattle.rdp_repair.proofs.repair_afresh.Goals as goal
 
 pub returns : goal.returns
-returns c = repairs-by LeastAfresh _ _ (second-least _) _ _ _ _ _ c.repair_by.ensures
+returns c = repairs-by LeastAfresh _ _ (second-least _) _ _ _ _ _ c.repair.ensures

@@ -11,7 +11,7 @@ use Rattle.rdp_repair.proofs.repairing.count_inserts.Goals as goal
 counted : (c : After-is_some) → bool_byte c.is_some.result ≡ min (get_or c.args.work.now (16 * c.loop-i.i + c.loop-i.hazards) 0 / 16) 1
 counted c =
     let small = c.requires.1 (16 * c.loop-i.i + c.loop-i.hazards) (omega (arith, c.loop-i.invariant.0)) in
-    ap bool_byte c.is_some.ensures ∙ sync-counted c.sync_of-sync.result ∙ ap (λ k. min k 1) (c.sync_of-sync.ensures (omega (arith, small)))
+    ap bool_byte c.is_some.ensures ∙ sync-counted c.sync_in-sync.result ∙ ap (λ k. min k 1) (c.sync_in-sync.ensures small)
 
 pub loop-i-init : goal.loop-i-init
 loop-i-init c = (omega arith, omega arith, simp (zero-add, sub-zero))

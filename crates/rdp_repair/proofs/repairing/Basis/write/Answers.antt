@@ -1,17 +1,17 @@
--- `rdp_repair::repairing::write_plan` meets its contract: what is written and what is due make the whole. Assumes nothing.
+-- `rdp_repair::repairing::Basis::write` meets its contract: what is written and what is due make the whole. Assumes nothing.
 use Rattle.std.proofs.Common.{◌≡◌, ◌+◌, ◌*◌, ◌/◌, get_or, sym, arith}
 use Rattle.rdp_hazards.specs.Hazards.{code_in}
-use Rattle.rdp_repair.proofs.PassLaws.{Writing, writing-first, writing-next, all-written, choice-there, option-small, turn-fits}
-use Rattle.rdp_repair.proofs.repairing.write_plan.Goals.{After-kept}
-use Rattle.rdp_repair.proofs.repairing.write_plan.Goals as goal
+use Rattle.rdp_repair.proofs.PassLaws.{Writing, writing-first, writing-next, all-written, choice-there, choice-small, turn-fits}
+use Rattle.rdp_repair.proofs.repairing.Basis.write.Goals.{After-kept}
+use Rattle.rdp_repair.proofs.repairing.Basis.write.Goals as goal
 
 -- the loop's invariant at a turn, by the command's index
-here : (c : After-kept) → Writing c.args.afresh c.args.list.now c.loop-i.i-iterator.iter.0.now c.args.work.now c.args.out.now c.loop-i.out c.loop-i.hazards c.in-Some.i c.loop-i.to
+here : (c : After-kept) → Writing c.args.self.afresh c.args.self.list.now c.loop-i.i-iterator.iter.0.now c.args.work.now c.args.out.now c.loop-i.out c.loop-i.hazards c.in-Some.i c.loop-i.to
 here c = rw (sym c.in-Some.ensures.steps.1) at c.loop-i.invariant
 
 -- the option of the sync
-same : (c : After-kept) → code_in c.sync_of-sync.result ≡ get_or c.args.work.now (16 * c.in-Some.i + c.loop-i.hazards) 0 / 16
-same c = c.sync_of-sync.ensures (option-small (here c) _ _ c.in-Some.ensures.steps.0)
+same : (c : After-kept) → code_in c.sync_in-sync.result ≡ get_or c.args.work.now (16 * c.in-Some.i + c.loop-i.hazards) 0 / 16
+same c = c.sync_in-sync.ensures (choice-small (here c) _ _ c.in-Some.ensures.steps.0)
 
 pub loop-i-init : goal.loop-i-init
 loop-i-init c =

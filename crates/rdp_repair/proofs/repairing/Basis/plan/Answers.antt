@@ -1,4 +1,4 @@
--- `rdp_repair::repairing::plan_list` meets its contract: the passes one after the other, by `RepairLaws`. Assumes nothing.
+-- `rdp_repair::repairing::Basis::plan` meets its contract: the passes one after the other, by `RepairLaws`. Assumes nothing.
 use mathlib.Core.Path.{◌≡◌, sym, ap, ap₂, ◌∙◌, subst}
 use mathlib.Core.Bool.{Bool}
 use mathlib.Core.List.{List}
@@ -12,16 +12,16 @@ use Rattle.rdp_repair.specs.declared.repairing.Noted.{Noted}
 use Rattle.rdp_words.specs.Words.{overwrite}
 use Rattle.rdp_repair.proofs.PassLaws.{few-commands}
 use Rattle.rdp_repair.proofs.RepairLaws.{words-few, noted-below, cycles-are, choices-are, choices-below, plan-held}
-use Rattle.rdp_repair.proofs.repairing.plan_list.Goals.{After-backward-cycles}
-use Rattle.rdp_repair.proofs.repairing.plan_list.Goals as goal
+use Rattle.rdp_repair.proofs.repairing.Basis.plan.Goals.{After-backward-cycles}
+use Rattle.rdp_repair.proofs.repairing.Basis.plan.Goals as goal
 
 -- after the backward pass
 module _ (b : After-backward-cycles) where
   abbrev afresh : Bool
-  afresh = b.args.afresh
+  afresh = b.args.self.afresh
 
   abbrev list : List ℕ
-  list = b.args.list.now
+  list = b.args.self.list.now
 
   abbrev work : List ℕ
   work = b.args.work.now
@@ -56,9 +56,9 @@ note_numbers-noted-requires c = c.requires.1
 
 pub backward-cycles-requires : goal.backward-cycles-requires
 backward-cycles-requires c = (
-  omega (arith, c.note_numbers-noted.ensures.counted, few-commands c.args.list.now, c.requires.0),
+  omega (arith, c.note_numbers-noted.ensures.counted, few-commands c.args.self.list.now, c.requires.0),
   omega (arith, c.note_numbers-noted.ensures.counted, c.requires.1, c.note_numbers-noted.auto.work),
-  noted-below c.args.afresh c.args.list.now c.args.work.now _ _ c.note_numbers-noted.ensures,
+  noted-below c.args.self.afresh c.args.self.list.now c.args.work.now _ _ c.note_numbers-noted.ensures,
 )
 
 pub count_inserts-requires : goal.count_inserts-requires
