@@ -174,9 +174,9 @@ module _ (file c : List ℕ) (there : whole_words c ≡ 0 → ⊥) where
         λ i. record {
           cycle_type = reads.mode i;
           rectangle = textured_rectangle_in w v;
-          tile_set = (tile-is i).set;
-          tile = (tile-is i).descriptor;
-          tile_corner = (tile-is i).upper_left;
+          tile_set = (tile-is i).descriptor.set;
+          tile = (tile-is i).descriptor.value;
+          tile_corner = (tile-is i).size.value.upper_left;
           scissor = reads.scissor i;
           image = reads.image i;
           perspective = texture_reads.perspective i;
@@ -227,8 +227,8 @@ module _ (file c : List ℕ) (there : whole_words c ≡ 0 → ⊥) where
       λ i. record {
         image_set = texture_reads.image-set i;
         image = texture_reads.image i;
-        tile_set = (tile-is i).set;
-        tile = (tile-is i).descriptor;
+        tile_set = (tile-is i).descriptor.set;
+        tile = (tile-is i).descriptor.value;
         area = tile_area_in w;
       }
 

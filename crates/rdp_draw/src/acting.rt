@@ -7,7 +7,7 @@ ghost use Rattle.rdp_draw.specs.Seen.{act_with, act_refusal, first_refusal};
 use crate::walk;
 use walk::Reached;
 
-// Does an act that is not refused: a fill, a copy or a load.
+// Does an act that is not refused, a fill, a copy or a load: so what it answers is Ok.
 fn act(
     list: &[u8],
     at: Reached,
@@ -25,15 +25,20 @@ fn act(
         return;
     }
     if at.number == 0x24 {
-        rdp_texels::copy_rectangle(texture, memory, start, walk::copy_at(list, at.place, file));
+        let _ = rdp_texels::copy_rectangle(
+            texture,
+            memory,
+            start,
+            walk::copy_at(list, at.place, file),
+        );
         return;
     }
     let load = walk::load_at(list, at.place, file);
     if at.number == 0x34 {
-        rdp_texels::load_tile(memory, start, texture, load);
+        let _ = rdp_texels::load_tile(memory, start, texture, load);
         return;
     }
-    rdp_block::load_block(memory, start, texture, load);
+    let _ = rdp_block::load_block(memory, start, texture, load);
 }
 
 // Does the acts of a list in order, of which every command is whole and no act is refused.
