@@ -4,11 +4,18 @@ use mathlib.Core.Path.{◌≡◌, refl, ap, sym, ◌∙◌}
 use mathlib.Core.List.{List, [], ◌∷◌, ◌++◌}
 use native.Mathlib.Numerals.{add-one}
 use native.Mathlib.Omega.{arith}
-use lib.ListN.{length, length-append}
+use lib.ListN.{length, length-append, take, drop}
 use Rattle.rdp_words.specs.Words.{bytes_of, overwrite, pasted}
 use Rattle.rdp_words.specs.Lengths.{suffix_words}
 use Rattle.rdp_words.proofs.OverwriteLaws.{overwrite-none, pasted-after}
 use Rattle.rdp_encode.specs.Encode.{packed_word, packed_bytes, base_words, bytes_with}
+
+-- bytes put into the part from a to e, which they fill
+pub part-put : (bytes out : List ℕ) (a e : ℕ) → a + length bytes ≡ e → take a out ++ (bytes ++ drop (e - a) (drop a out)) ≡ pasted a bytes out
+unfolding pasted overwrite
+part-put bytes out a e fills =
+    let n : e - a ≡ length bytes = omega arith in
+    ap (λ (k : ℕ). take a out ++ (bytes ++ drop k (drop a out))) n
 
 pub packed-long : (n : ℕ) (ns : List ℕ) (k : ℕ) → length (packed_bytes n ns k) ≡ 8 * k
 unfolding packed_bytes

@@ -17,7 +17,8 @@ use Rattle.rdp_words.specs.Words.{number_in}
 use Rattle.rdp_words.specs.Kinds.{words_of}
 use Rattle.rdp_words.specs.Lengths.{suffix_of}
 use Rattle.rdp_command.specs.Layout.{Line, width, layout, triangle_base_lines}
-use Rattle.rdp_encode.specs.Table.{AllReadable}
+use Rattle.rdp_encode.specs.Table.{Readable}
+use Rattle.std.specs.List.{AllByRecursion}
 use Rattle.rdp_command.specs.Fields.{Value, unsigned, signed, fields_of}
 use Rattle.rdp_encode.specs.Placed.{number_of_value, fits_line, all_fit, at_lines}
 use Rattle.rdp_command.specs.Groups.{triangle_base_of}
@@ -59,7 +60,7 @@ value-again l v q = by l.is_signed v
         let r : width l - 1 ≤ 63 = omega arith in
         ap signed (to_z-of_z {w = w64} (record { sfits = lt_of_lt_of_le (ltb-true (mag z) (2 ^ (width l - 1)) (sym (signed-fits (2 ^ (width l - 1)) z) ∙ e)) (pow_mono r) }))
 
-values-again : (ls : List Line) (vs : List Value) → AllReadable ls → T (matched ls vs) → all_fit ls vs ≡ true → values_from ls (map number_of_value vs) ≡ vs
+values-again : (ls : List Line) (vs : List Value) → AllByRecursion Readable ls → T (matched ls vs) → all_fit ls vs ≡ true → values_from ls (map number_of_value vs) ≡ vs
 values-again [] [] r t a = refl
 values-again [] (v ∷ vs) r t a = absurd t
 values-again (l ∷ ls) [] r t a = absurd t

@@ -8,7 +8,8 @@ use native.Mathlib.Omega.{arith}
 use lib.Dec.{T, eqb, ltb, ltb→lt}
 use lib.ListN.{length, get_or}
 use Rattle.rdp_command.specs.Layout.{Line, width, layout, bits}
-use Rattle.rdp_encode.specs.Table.{AllReadable}
+use Rattle.rdp_encode.specs.Table.{Readable}
+use Rattle.std.specs.List.{AllByRecursion}
 use Rattle.rdp_command.specs.Fields.{Value, bits_at, value_of, fields_of}
 use Rattle.rdp_encode.specs.Placed.{number_of_value, fits_line, all_fit, at_lines}
 use Rattle.rdp_encode.specs.Encode.{fixed_bits, packed_word, base_words}
@@ -123,7 +124,7 @@ matched-long (l ∷ ls) [] t = absurd t
 matched-long (l ∷ ls) (v ∷ vs) t = ap suc (matched-long ls vs (both (sign_is l.is_signed v) (matched ls vs) t).1)
 
 all_back :
-    (ws : List ℕ) (ls : List Line) (vs : List Value) → AllReadable ls → T (matched ls vs) →
+    (ws : List ℕ) (ls : List Line) (vs : List Value) → AllByRecursion Readable ls → T (matched ls vs) →
     ((k : ℕ) → k < length ls → bits_at (get_or ls k (bits 0 0 0)) (get_or ws (get_or ls k (bits 0 0 0)).word 0) ≡ get_or (map number_of_value vs) k 0 % 2 ^ width (get_or ls k (bits 0 0 0))) →
     all_fit ls vs ≡ true → fields_of ls ws ≡ vs
 all_back ws [] [] r t f a = refl
@@ -138,7 +139,7 @@ all_back ws (l ∷ ls) (v ∷ vs) r t f a =
 
 -- words that hold the values, as many as the command has
 pub words_back :
-    (n : ℕ) (vs : List Value) (ws : List ℕ) → n < 64 → AllReadable (layout n) → T (matched (layout n) vs) → all_fit (layout n) vs ≡ true →
+    (n : ℕ) (vs : List Value) (ws : List ℕ) → n < 64 → AllByRecursion Readable (layout n) → T (matched (layout n) vs) → all_fit (layout n) vs ≡ true →
     ((i : ℕ) → i < base_words n → get_or ws i 0 ≡ packed_word n (map number_of_value vs) i) → fields_of (layout n) ws ≡ vs
 words_back n vs ws h r t a w =
     let ns = map number_of_value vs in
@@ -174,7 +175,7 @@ numbers-from (l ∷ ls) (n ∷ ns) e g =
     )
 
 pub fields_back :
-    (n : ℕ) (ns : List ℕ) → n < 64 → AllReadable (layout n) → length (layout n) ≡ length ns → ((k : ℕ) → get_or ns k 0 < 2 ^ 64) →
+    (n : ℕ) (ns : List ℕ) → n < 64 → AllByRecursion Readable (layout n) → length (layout n) ≡ length ns → ((k : ℕ) → get_or ns k 0 < 2 ^ 64) →
     all_fit (layout n) (values_from (layout n) ns) ≡ true → fields_of (layout n) (packed_words n ns) ≡ values_from (layout n) ns
 fields_back n ns h r e g a =
     let f = numbers-from (layout n) ns e g in

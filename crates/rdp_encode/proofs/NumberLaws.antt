@@ -12,7 +12,8 @@ use lib.Pow.{pow_pos}
 use mir.Val.{bool_byte}
 use Rattle.rdp_words.specs.Words.{number_in}
 use Rattle.rdp_command.specs.Layout.{Line, width, layout, triangle_base_lines}
-use Rattle.rdp_encode.specs.Table.{AllReadable}
+use Rattle.rdp_encode.specs.Table.{Readable}
+use Rattle.std.specs.List.{AllByRecursion}
 use Rattle.rdp_command.specs.Fields.{shift_right, bits_at, fields_of}
 use Rattle.rdp_encode.specs.Placed.{number_of_value, all_fit, at_lines}
 use Rattle.rdp_command.specs.Commands.{command_of, number_of, values_of}
@@ -200,7 +201,7 @@ number-in-row-read =
     )
     (λ n e ws. ap number_in_row (unassigned-command n (fields_of (layout n) ws) e) ∙ e)
 
-pub fits_read : (ls : List Line) (ws : List ℕ) → AllReadable ls → all_fit ls (fields_of ls ws) ≡ true
+pub fits_read : (ls : List Line) (ws : List ℕ) → AllByRecursion Readable ls → all_fit ls (fields_of ls ws) ≡ true
 fits_read [] ws r = refl
 fits_read (l ∷ ls) ws r =
     let q : width l ≤ 64 = omega (arith, r.0.narrow) in
@@ -209,7 +210,7 @@ fits_read (l ∷ ls) ws r =
 
 -- the words of its values are the words that were read, with the unused bits zero
 pub packed-read :
-    (i : ℕ) (ls : List Line) (ws : List ℕ) → AllReadable ls → at_lines i ls (map number_of_value (fields_of ls ws)) ≡ bits_kept i ls (get_or ws i 0)
+    (i : ℕ) (ls : List Line) (ws : List ℕ) → AllByRecursion Readable ls → at_lines i ls (map number_of_value (fields_of ls ws)) ≡ bits_kept i ls (get_or ws i 0)
 packed-read i [] ws r = refl
 packed-read i (l ∷ ls) ws r =
     let q : width l ≤ 64 = omega (arith, r.0.narrow) in

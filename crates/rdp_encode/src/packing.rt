@@ -1,34 +1,15 @@
-// The words that hold the numbers of fields, by the bit lines of the layout's table.
-ghost use Rattle.std.specs.Prelude.{cond, eqb, ◌≡◌, ◌<◌, ◌^◌};
+// The words that hold the numbers of fields, by the bit lines of the layout.
+ghost use Rattle.std.specs.Prelude.{cond, map, eqb, length, ◌&&◌, ◌≡◌, ◌<◌, ◌^◌};
 ghost use Rattle.std.specs.Int.Signed.{mag};
 ghost use Rattle.std.specs.Int.{w64};
+ghost use Rattle.std.specs.List.{All};
 ghost use Rattle.std.proofs.Common.{to_z};
+ghost use Rattle.rdp_command.specs.Layout.{layout, width};
 ghost use Rattle.rdp_encode.specs.Placed.{fits_line, at_line, at_lines};
 ghost use Rattle.rdp_encode.specs.Numbers.{value_from, each_fits};
-ghost use Rattle.rdp_encode.specs.Table.{line_of, lines_for, Stand, Readable, LineIs};
+ghost use Rattle.rdp_encode.specs.Table.{line_of, Readable};
 
-// A bit line: its word, its width in bits and its low bit.
-#[derive(Clone, Copy)]
-pub struct BitLine {
-    pub is_signed: bool,
-    pub word: usize,
-    pub width: u32,
-    pub low: u32,
-}
-
-fn line_of(code: u32) -> BitLine
-    requires { Readable (line_of code) }
-    ensures { LineIs (line_of code) result }
-{
-    let high = code / 100 % 100;
-    let low = code % 100;
-    BitLine {
-        is_signed: code / 100000 == 1,
-        word: (code / 10000 % 10) as usize,
-        width: high - low + 1,
-        low,
-    }
-}
+use crate::table::{BitLine, lines_of};
 
 // How far a number of 64 bits in two's complement is from 0, or from -1 where it is negative.
 fn magnitude(n: u64) -> u64
@@ -41,63 +22,78 @@ fn magnitude(n: u64) -> u64
     }
 }
 
-// Whether a number fits a bit line.
-fn fits_line(code: u32, n: u64) -> bool
-    requires { Readable (line_of code) }
-    ensures { result ≡ fits_line (line_of code) (value_from (line_of code).is_signed n) }
-{
-    let line = line_of(code);
-    let is_signed = line.is_signed;
-    let width = line.width;
-    if is_signed {
-        magnitude(n) < 1u64 << (width - 1)
-    } else {
-        n < 1u64 << width
+impl BitLine {
+    fn width(self) -> u32
+        requires { Readable (line_of self) }
+        ensures { result ≡ width (line_of self) }
+    {
+        self.high - self.low + 1
     }
-}
 
-// Whether each number fits its bit line; the lines stand in the table from an index on.
-pub fn all_fit(table: &[u32; 203], first: usize, numbers: &[u64]) -> bool
-    requires { Stand table.now first numbers.now }
-    ensures { result ≡ each_fits (lines_for table.now first numbers.now) numbers.now }
-{
-    let mut k = 0;
-    while k < numbers.len() {
-        if fits_line(table[first + k], numbers[k]) {
-            k += 1;
+    // Whether a number fits its bits.
+    fn fits(self, n: u64) -> bool
+        requires { Readable (line_of self) }
+        ensures { result ≡ fits_line (line_of self) (value_from self.is_signed n) }
+    {
+        if self.is_signed {
+            magnitude(n) < 1u64 << (self.width() - 1)
         } else {
-            return false;
+            n < 1u64 << self.width()
         }
     }
-    true
-}
 
-// A number at the place of its bit line in a word; 0 in every other word.
-fn placed_in(word: usize, code: u32, n: u64) -> u64
-    requires { Readable (line_of code) }
-    ensures { result ≡ cond (eqb (line_of code).word word) (at_line (line_of code) n) 0 }
-{
-    let line = line_of(code);
-    let own = line.word;
-    let width = line.width;
-    let low = line.low;
-    if own == word {
-        (n % (1u64 << width)) << low
-    } else {
-        0
+    // A number at its place in a word; 0 in every other word.
+    fn placed(self, word: usize, n: u64) -> u64
+        requires { Readable (line_of self) }
+        ensures { result ≡ cond (eqb self.word word) (at_line (line_of self) n) 0 }
+    {
+        if self.word == word {
+            (n % (1u64 << self.width())) << self.low
+        } else {
+            0
+        }
     }
 }
 
-// A word of a command: the numbers at their bit lines, all other bits zero.
-pub fn packed(table: &[u32; 203], first: usize, word: usize, numbers: &[u64]) -> u64
-    requires { Stand table.now first numbers.now × (at_lines word (lines_for table.now first numbers.now) numbers.now < 2 ^ 64) }
-    ensures { result ≡ at_lines word (lines_for table.now first numbers.now) numbers.now }
-{
-    let mut sum = 0u64;
-    let mut k = 0;
-    while k < numbers.len() {
-        sum += placed_in(word, table[first + k], numbers[k]);
-        k += 1;
+// The bit lines of a command number.
+#[derive(Clone, Copy)]
+pub struct Layout {
+    pub lines: &'static [BitLine],
+    ghost readable: { All (λ l. Readable (line_of l)) lines.now },
+}
+
+impl Layout {
+    pub fn of(number: u8) -> Self
+        requires { number < 64 }
+        ensures { map line_of result.lines.now ≡ layout number }
+    {
+        Layout {
+            lines: lines_of(number),
+        }
     }
-    sum
+
+    // Whether there are as many numbers as bit lines, and each fits its own.
+    pub fn fits(self, numbers: &[u64]) -> bool
+        ensures { result ≡ (eqb (length numbers.now) (length (map line_of self.lines.now))
+            && each_fits (map line_of self.lines.now) numbers.now) }
+    {
+        numbers.len() == self.lines.len()
+            && self
+                .lines
+                .iter()
+                .zip(numbers)
+                .all(|(line, number)| line.fits(*number))
+    }
+
+    // A word of a command: the numbers at their bit lines, all other bits zero.
+    pub fn packed(self, word: usize, numbers: &[u64]) -> u64
+        requires { at_lines word (map line_of self.lines.now) numbers.now < 2 ^ 64 }
+        ensures { result ≡ at_lines word (map line_of self.lines.now) numbers.now }
+    {
+        self.lines
+            .iter()
+            .zip(numbers)
+            .map(|(line, number)| line.placed(word, *number))
+            .sum()
+    }
 }

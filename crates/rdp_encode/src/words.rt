@@ -7,7 +7,6 @@ pub fn put_word(out: &mut [u8], at: usize, w: u64)
     requires { at + 8 ≤ length out.old }
     ensures { out.new ≡ pasted at (bytes_of w) out.old }
 {
-    let bytes = rdp_words::bytes_of(w);
     let end = at + 8;
-    rdp_words::copy(&mut out[at..end], &bytes);
+    out[at..end].copy_from_slice(&rdp_words::bytes_of(w));
 }

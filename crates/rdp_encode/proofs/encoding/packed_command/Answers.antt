@@ -1,68 +1,53 @@
-use mathlib.Core.Bool.{Bool, true, ◌&&◌}
-use mathlib.Core.List.{[], ◌∷◌}
-use mathlib.Core.Path.{◌≡◌, ap, sym, ◌∙◌}
-use lib.Dec.{lit<}
-use lib.ListN.{length}
-use Rattle.rdp_command.specs.Layout.{layout}
+use Rattle.std.proofs.Common.{◌≡◌, Bool, true, ◌&&◌, [], ◌∷◌, None, Some, arith, ap, sym, ◌∙◌}
+use Rattle.std.proofs.lemmas.Option.{MatchOption-at_none, MatchOption-at_some}
 use Rattle.rdp_command.specs.Commands.{command_of}
-use Rattle.rdp_command.specs.Decode.{command_in, decoded_from}
-use Rattle.rdp_encode.specs.Numbers.{flags_agree}
-use Rattle.rdp_encode.specs.Steps.{Packable}
+use Rattle.rdp_command.specs.Decode.{command_in}
+use Rattle.rdp_encode.specs.Numbers.{numbers_fit, flags_agree}
 use Rattle.rdp_encode.proofs.TableLaws.{layout-readable}
-use Rattle.rdp_encode.proofs.LayoutLaws.{fields_back}
+use Rattle.rdp_encode.proofs.LayoutLaws.{fields_back, packed_words}
 use Rattle.rdp_encode.proofs.AnswerLaws.{fit_parts, accepted, misfit, too_large}
-use Rattle.rdp_encode.proofs.encoding.packed_command.Goals.{After-numbers_fit}
+use Rattle.rdp_encode.proofs.encoding.packed_command.Goals.{After-flags_agree}
 use Rattle.rdp_encode.proofs.encoding.packed_command.Goals as goal
 
-counted : (c : After-numbers_fit) → c.numbers_fit.result ≡ true → length c.args.numbers.now ≡ length (layout c.args.number)
-counted c e = (fit_parts c.args.number c.args.numbers.now (sym c.numbers_fit.ensures ∙ e)).0
+-- once the numbers are known to fit
+module _ (c : After-flags_agree) where
+  same : (c.in_ok-packable.packable.number ≡ c.args.number) × (c.in_ok-packable.packable.numbers.now ≡ c.args.numbers.now)
+  same =
+      let some : c.new.result ≡ Some c.in_ok-packable.packable = grind arith in
+      MatchOption-at_some _ _ c.in_ok-packable.packable some c.new.ensures
 
-packable :
-    (c : After-numbers_fit) → c.numbers_fit.result ≡ true →
-    Packable c.layout_table-table.result c.args.number c.args.numbers.now
-packable c e = record { agrees = c.layout_table-table.ensures; small = c.if-number-lt64.true; long = counted c e }
+  fit : numbers_fit c.args.number c.args.numbers.now ≡ true
+  fit = (λ i. numbers_fit (sym same.0 i) (sym same.1 i)) ∙ c.in_ok-packable.packable.fit
 
-pub flags_agree-requires : goal.flags_agree-requires
-flags_agree-requires c = counted (goal.at.flags_agree-requires c).After-numbers_fit c.if-numbers_fit.true
+  flags : c.flags_agree.result ≡ flags_agree c.args.number c.args.numbers.now
+  flags = c.flags_agree.ensures ∙ (λ i. flags_agree (same.0 i) (same.1 i))
 
-pub packed_word-requires : goal.packed_word-requires
-packed_word-requires c = (packable (goal.at.packed_word-requires c).After-numbers_fit c.if-numbers_fit.true, lit< tt)
+pub returns-then-number-ge64 : goal.returns-then-number-ge64
+returns-then-number-ge64 c = too_large c.args.number c.args.numbers.now c.if-number-ge64.true
 
-pub packed_word-requires-then-flags_agree : goal.packed_word-requires-then-flags_agree
-packed_word-requires-then-flags_agree c = (packable (goal.at.packed_word-requires-then-flags_agree c).After-numbers_fit c.if-numbers_fit.true, lit< tt)
-
-pub packed_word-requires-then-flags_agree-2 : goal.packed_word-requires-then-flags_agree-2
-packed_word-requires-then-flags_agree-2 c = (packable (goal.at.packed_word-requires-then-flags_agree-2 c).After-numbers_fit c.if-numbers_fit.true, lit< tt)
-
-pub packed_word-requires-then-flags_agree-3 : goal.packed_word-requires-then-flags_agree-3
-packed_word-requires-then-flags_agree-3 c = (packable (goal.at.packed_word-requires-then-flags_agree-3 c).After-numbers_fit c.if-numbers_fit.true, lit< tt)
-
-pub returns-then-flags_agree : goal.returns-then-flags_agree
-unfolding decoded_from
-returns-then-flags_agree c =
+pub returns-in_err-packable : goal.returns-in_err-packable
+returns-in_err-packable c =
     let n = c.args.number in
     let ns = c.args.numbers.now in
-    let fit = sym c.numbers_fit.ensures ∙ c.if-numbers_fit.true in
-    let agree = sym c.flags_agree.ensures ∙ c.if-flags_agree.true in
-    let small = c.if-number-lt64.true in
-    let parts = fit_parts n ns fit in
-    accepted n ns small (λ i. fit i && agree i)
-    ((λ i. command_in n (c.packed_word.ensures i ∷ c.packed_word-then-flags_agree.ensures i ∷ c.packed_word-then-flags_agree-2.ensures i ∷ c.packed_word-then-flags_agree-3.ensures i ∷ [])) ∙
-    ap (command_of n) (fields_back n ns small (layout-readable n small) (sym parts.0) (λ k. (c.shared_slice_known-1.given k).fits) parts.1))
+    let none : c.new.result ≡ None = grind arith in
+    rw c.from_residual.ensures
+    (misfit n ns c.if-number-ge64.false (ap (λ (b : Bool). b && flags_agree n ns) (MatchOption-at_none _ _ none c.new.ensures)))
 
-pub returns-else-flags_agree : goal.returns-else-flags_agree
-unfolding decoded_from
-returns-else-flags_agree c =
-    misfit c.args.number c.args.numbers.now c.if-number-lt64.true (λ i. (sym c.numbers_fit.ensures ∙ c.if-numbers_fit.true) i && (sym c.flags_agree.ensures ∙ c.if-flags_agree.false) i)
+pub returns-then-not-flags_agree : goal.returns-then-not-flags_agree
+returns-then-not-flags_agree c =
+    let at = (goal.at.returns-then-not-flags_agree c).After-flags_agree in
+    misfit c.args.number c.args.numbers.now c.if-number-ge64.false (λ i. fit at i && (sym (flags at) ∙ c.if-not-flags_agree.true) i)
 
-pub returns-else-numbers_fit : goal.returns-else-numbers_fit
-unfolding decoded_from
-returns-else-numbers_fit c =
+pub returns : goal.returns
+returns c =
+    let at = (goal.at.returns c).After-flags_agree in
     let n = c.args.number in
     let ns = c.args.numbers.now in
-    misfit n ns c.if-number-lt64.true (ap (λ (b : Bool). b && flags_agree n ns) (sym c.numbers_fit.ensures ∙ c.if-numbers_fit.false))
-
-pub returns-else-number-lt64 : goal.returns-else-number-lt64
-unfolding decoded_from
-returns-else-number-lt64 c =
-    too_large c.args.number c.args.numbers.now c.if-number-lt64.false
+    let small = c.if-number-ge64.false in
+    let agree = sym (flags at) ∙ c.if-not-flags_agree.false in
+    let parts = fit_parts n ns (fit at) in
+    let words : packed_words c.in_ok-packable.packable.number c.in_ok-packable.packable.numbers.now ≡ packed_words n ns = λ i. packed_words ((same at).0 i) ((same at).1 i) in
+    accepted n ns small (λ i. fit at i && agree i)
+    ((λ i. command_in n (c.word.ensures i ∷ c.word-2.ensures i ∷ c.word-3.ensures i ∷ c.word-4.ensures i ∷ [])) ∙
+    ap (command_in n) words ∙
+    ap (command_of n) (fields_back n ns small (layout-readable n small) (sym parts.0) (λ k. (c.type_inv.numbers k).fits) parts.1))

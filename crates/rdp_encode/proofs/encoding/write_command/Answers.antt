@@ -1,29 +1,31 @@
-use Prim.Native.Nat.{ℕ, ◌*◌, ◌/◌, ◌≤◌}
-use mathlib.Core.Bool.{Bool, true, ◌&&◌}
-use mathlib.Core.List.{List}
-use mathlib.Core.Path.{◌≡◌, ap, sym, ◌∙◌}
-use native.Mathlib.Omega.{arith}
+use Rattle.std.proofs.Common.{◌≡◌, ℕ, ◌*◌, ◌/◌, List, true, false, ◌&&◌, eqb, leb, Some, None, length, arith, ap, sym, ◌∙◌}
+use Rattle.std.proofs.lemmas.Option.{MatchOption-at_none, MatchOption-at_some}
+use Rattle.std.proofs.lemmas.Result.{err_from_is_err_and}
 use borrow.Author.Tests.{eqb-true, leb-true}
-use lib.Dec.{eqb, leb}
-use lib.ListN.{length}
+use Rattle.rdp_words.specs.Words.{overwrite}
 use Rattle.rdp_words.specs.Kinds.{words_of}
-use Rattle.rdp_words.specs.Lengths.{suffix_words}
-use Rattle.rdp_encode.specs.Encode.{verdict_of, has_room, answer_with, out_with}
-use Rattle.rdp_encode.specs.Numbers.{numbers_fit}
 use Rattle.rdp_words.specs.Grounds.{Answer}
+use Rattle.rdp_words.specs.Lengths.{suffix_words}
+use Rattle.rdp_words.specs.declared.grounds.Ground.TheVariants.{NotEncodable}
+use Rattle.rdp_encode.specs.Encode.{verdict_of, has_room, answer_with, out_with, bytes_with}
+use Rattle.rdp_encode.specs.Numbers.{numbers_fit}
+use Rattle.rdp_encode.specs.Steps.{encodable_by}
 use Rattle.rdp_words.proofs.KindLaws.{words-most}
 use Rattle.rdp_words.proofs.Tests.{and-true}
-use Rattle.rdp_encode.proofs.AnswerLaws.{fit_parts}
-use Rattle.rdp_encode.proofs.encoding.write_command.Goals.{After-numbers_fit-fits, After-words_of-n}
+use Rattle.rdp_encode.proofs.AnswerLaws.{unfit-by}
+use Rattle.rdp_encode.proofs.encoding.write_command.Goals.{After-suffix_len, After-branch-packable}
 use Rattle.rdp_encode.proofs.encoding.write_command.Goals as goal
 
--- once the numbers are tested
-module _ (c : After-numbers_fit-fits) where
-  abbrev number : ℕ
-  number = c.args.number
+unfit-at : (c : After-branch-packable) → c.new.result ≡ None → numbers_fit c.args.number c.args.numbers.now ≡ false
+unfit-at c none = MatchOption-at_none _ _ none c.new.ensures
 
-  abbrev numbers : List ℕ
-  numbers = c.args.numbers.now
+-- once the numbers are known to fit
+module _ (c : After-suffix_len) where
+  abbrev n : ℕ
+  n = c.args.number
+
+  abbrev ns : List ℕ
+  ns = c.args.numbers.now
 
   abbrev suffix : List ℕ
   suffix = c.args.suffix.now
@@ -31,69 +33,64 @@ module _ (c : After-numbers_fit-fits) where
   abbrev out : List ℕ
   out = c.args.out.now
 
-  words : c.words_of-n.result ≡ words_of number
-  words = c.words_of-n.ensures
+  same : (c.in_ok-packable.packable.number ≡ n) × (c.in_ok-packable.packable.numbers.now ≡ ns)
+  same =
+      let some : c.new.result ≡ Some c.in_ok-packable.packable = grind arith in
+      MatchOption-at_some _ _ c.in_ok-packable.packable some c.new.ensures
 
-  abbrev encodable : Bool
-  encodable = numbers_fit number numbers && eqb (length suffix) (8 * suffix_words (words_of number))
+  fit : numbers_fit n ns ≡ true
+  fit = (λ i. numbers_fit (sym same.0 i) (sym same.1 i)) ∙ c.in_ok-packable.packable.fit
 
   -- the tests of the code are those of the definition
-  by_code : (c.numbers_fit-fits.result && eqb (length suffix) c.suffix_len-due.result) ≡ encodable
-  by_code =
-      λ i.
-      c.numbers_fit-fits.ensures i && eqb (length suffix) ((c.suffix_len-due.ensures ∙ ap (λ (k : ℕ). 8 * suffix_words k) words) i)
+  by_suffix : eqb (length suffix) c.suffix_len.result ≡ encodable_by n ns suffix
+  by_suffix = rw fit (ap (eqb (length suffix)) (c.suffix_len.ensures ∙ ap (λ (k : ℕ). 8 * suffix_words k) c.words_of-n.ensures))
 
-  by-room : leb c.words_of-n.result (length out / 8) ≡ has_room number out
-  by-room = ap (λ (k : ℕ). leb k (length out / 8)) words
+  by-room : leb c.words_of-n.result (length out / 8) ≡ has_room n out
+  by-room = ap (λ (k : ℕ). leb k (length out / 8)) c.words_of-n.ensures
 
-  tests :
-      ((c.numbers_fit-fits.result && eqb (length suffix) c.suffix_len-due.result) && leb c.words_of-n.result (length out / 8)) ≡
-      encodable && has_room number out
-  tests = λ i. by_code i && by-room i
+  tests : (eqb (length suffix) c.suffix_len.result && leb c.words_of-n.result (length out / 8)) ≡ encodable_by n ns suffix && has_room n out
+  tests = λ i. by_suffix i && by-room i
 
-  both_true :
-      ((c.numbers_fit-fits.result && eqb (length suffix) c.suffix_len-due.result) && leb c.words_of-n.result (length out / 8)) ≡ true →
-      (encodable ≡ true) × (has_room number out ≡ true)
-  both_true e = and-true encodable (has_room number out) (sym tests ∙ e)
+  by_code :
+      {a : Answer} → a ≡ verdict_of (eqb (length suffix) c.suffix_len.result) (leb c.words_of-n.result (length out / 8)) c.words_of-n.result →
+      a ≡ verdict_of (encodable_by n ns suffix) (has_room n out) (words_of n)
+  by_code e = e ∙ (λ i. verdict_of (by_suffix i) (by-room i) (c.words_of-n.ensures i))
 
-  answered :
-      {r : Answer} → r ≡
-      verdict_of (c.numbers_fit-fits.result && eqb (length suffix) c.suffix_len-due.result)
-      (leb c.words_of-n.result (length out / 8)) c.words_of-n.result →
-      r ≡ verdict_of encodable (has_room number out) (words_of number)
-  answered e = e ∙ (λ i. verdict_of (by_code i) (by-room i) (words i))
+pub returns-in_err-packable : goal.returns-in_err-packable
+returns-in_err-packable c =
+    let p = err_from_is_err_and c.from_residual.result c.from_residual.ensures.1 in
+    let r : c.in_err-packable.field-0.0 ≡ record { ground = NotEncodable; place = 0 } = grind arith in
+    let unfit = unfit-at (goal.at.returns-in_err-packable c).After-branch-packable (grind arith) in
+    let a = unfit-by c.args.number c.args.numbers.now c.args.suffix.now c.args.out.now unfit in
+    record { answer = rw (p.1, p.2, r) a.0; output = a.1 }
 
-few : (c : After-words_of-n) → c.words_of-n.result ≤ 22
-few c = rw c.words_of-n.ensures (words-most _ c.requires)
+pub suffix_len-requires : goal.suffix_len-requires
+suffix_len-requires c = rw c.words_of-n.ensures (words-most c.args.number c.requires)
 
-pub suffix_len-due-requires : goal.suffix_len-due-requires
-suffix_len-due-requires c = few c
+pub verdict-requires : goal.verdict-requires
+verdict-requires c = rw c.words_of-n.ensures (words-most c.args.number c.requires)
 
-pub verdict-answer-requires : goal.verdict-answer-requires
-verdict-answer-requires c = few (goal.at.verdict-answer-requires c).After-words_of-n
+pub returns-in_err-count : goal.returns-in_err-count
+unfolding answer_with out_with
+returns-in_err-count c =
+    let at = (goal.at.returns-in_err-count c).After-suffix_len in
+    let p = err_from_is_err_and c.from_residual-in_err-count.result c.from_residual-in_err-count.ensures.1 in
+    record { answer = rw (p.1, p.2) (by_code at c.in_err-count.ensures.answer); output = rw (sym (tests at) ∙ sym c.in_err-count.ensures.whole) }
 
 pub write_whole-requires : goal.write_whole-requires
 write_whole-requires c =
-    let there = (goal.at.write_whole-requires c).After-numbers_fit-fits in
-    let parts = both_true there c.if-encodable-room.true in
-    let ok = and-true (numbers_fit (number there) (numbers there)) (eqb (length (suffix there)) (8 * suffix_words (words_of (number there)))) parts.0 in
-    let n = fit_parts (number there) (numbers there) ok.0 in (
-      record {
-        agrees = c.layout_table-table.ensures;
-        small = c.requires;
-        long = n.0;
-      },
-      (words there, (omega (arith, words there, leb-true (words_of (number there)) (length (out there) / 8) parts.1), eqb-true (length (suffix there)) (8 * suffix_words (words_of (number there))) ok.1 ∙ ap (λ (k : ℕ). 8 * suffix_words k) (sym (words there)))),
+    let at = (goal.at.write_whole-requires c).After-suffix_len in
+    let ok = and-true (eqb (length (suffix at)) c.suffix_len.result) (leb c.words_of-n.result (length (out at) / 8)) (sym c.in_ok-count.ensures.whole) in (
+      c.words_of-n.ensures ∙ ap words_of (sym (same at).0),
+      (omega (arith, leb-true c.words_of-n.result (length (out at) / 8) ok.1), eqb-true (length (suffix at)) c.suffix_len.result ok.0 ∙ c.suffix_len.ensures),
     )
 
-pub returns-then-encodable-room : goal.returns-then-encodable-room
+pub returns : goal.returns
 unfolding answer_with out_with
-returns-then-encodable-room c =
-    let there = (goal.at.returns-then-encodable-room c).After-numbers_fit-fits in
-    record { answer = answered there c.verdict-answer.ensures; output = rw (sym (tests there) ∙ c.if-encodable-room.true) c.write_whole.ensures }
-
-pub returns-else-encodable-room : goal.returns-else-encodable-room
-unfolding answer_with out_with
-returns-else-encodable-room c =
-    let there = (goal.at.returns-else-encodable-room c).After-numbers_fit-fits in
-    record { answer = answered there c.verdict-answer.ensures; output = rw (sym (tests there) ∙ c.if-encodable-room.false) }
+returns c =
+    let at = (goal.at.returns c).After-suffix_len in
+    let s = same at in
+    record {
+      answer = by_code at c.in_ok-count.ensures.answer;
+      output = rw (sym (tests at) ∙ sym c.in_ok-count.ensures.whole) (c.write_whole.ensures ∙ (λ i. overwrite (bytes_with (s.0 i) (s.1 i) (suffix at)) (out at)));
+    }

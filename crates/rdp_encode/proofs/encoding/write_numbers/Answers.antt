@@ -1,37 +1,41 @@
-use mathlib.Core.Bool.{Bool}
-use mathlib.Core.Path.{ap, sym, ◌∙◌}
-use lib.Seq.{length-take-le}
+use Rattle.std.proofs.Common.{◌≡◌, Bool, None, Some, arith, ap, sym, ◌∙◌}
+use Rattle.std.proofs.lemmas.Result.{err_from_is_err_and}
+use Rattle.rdp_words.specs.declared.grounds.Ground.TheVariants.{NotEncodable}
 use Rattle.rdp_command.specs.Commands.{number_of}
-use Rattle.rdp_encode.specs.Encode.{answer_with, out_with, bytes_with, encoded_bytes}
+use Rattle.rdp_encode.specs.Encode.{answer_with, out_with, encoded_bytes}
+use Rattle.rdp_encode.specs.Steps.{answer_by, out_by}
 use Rattle.rdp_encode.proofs.AnswerLaws.{unfit}
-use Rattle.rdp_encode.proofs.Spreading.{front, number_is, known_is, by_front, encodable-by, not-encodable}
+use Rattle.rdp_encode.proofs.Spreading.{given, missing, encodable-by, not-encodable}
 use Rattle.rdp_encode.proofs.encoding.write_numbers.Goals as goal
 
-pub slice_bounds-all-end : goal.slice_bounds-all-end
-slice_bounds-all-end c = c.requires.fits
+pub returns-in_err-number-clause-answer : goal.returns-in_err-number-clause-answer
+returns-in_err-number-clause-answer c = λ command s.
+    let p = err_from_is_err_and c.from_residual.result c.from_residual.ensures.1 in
+    let none : c.args.numbered.now.number ≡ None = grind arith in
+    let r : c.in_err-number.field-0.0 ≡ record { ground = NotEncodable; place = 0 } = grind arith in
+    rw (p.1, p.2, r) ((unfit (not-encodable command c.args.suffix.now (missing command _ s none)) (number_of command) (encoded_bytes command c.args.suffix.now) c.args.out.now).0)
 
-pub slice_bounds-write_command-end : goal.slice_bounds-write_command-end
-slice_bounds-write_command-end c = sym (length-take-le c.args.numbers.count c.args.numbers.values c.requires.fits)
+pub returns-in_err-number-clause-output : goal.returns-in_err-number-clause-output
+returns-in_err-number-clause-output c = λ command s.
+    let none : c.args.numbered.now.number ≡ None = grind arith in
+    (unfit (not-encodable command c.args.suffix.now (missing command _ s none)) (number_of command) (encoded_bytes command c.args.suffix.now) c.args.out.now).1
 
-pub write_command-requires : goal.write_command-requires
-write_command-requires c = c.requires.small c.if-numbers.true
-
-pub returns-then-numbers : goal.returns-then-numbers
-returns-then-numbers c =
+pub returns-clause-answer : goal.returns-clause-answer
+returns-clause-answer c = λ command s.
     let suffix = c.args.suffix.now in
     let out = c.args.out.now in
-    let w = c.write_command.ensures in record {
-      answer = λ command s.
-          let ok = encodable-by _ _ s suffix (sym (known_is _ _ s) ∙ c.if-numbers.true) in
-          w.answer ∙ (λ i. answer_with (by_front _ _ s suffix i) (number_is _ _ s i) out) ∙ ap (λ (b : Bool). answer_with b (number_of command) out) (sym ok);
-      output = λ command s.
-          let ok = encodable-by _ _ s suffix (sym (known_is _ _ s) ∙ c.if-numbers.true) in
-          w.output ∙ (λ i. out_with (by_front _ _ s suffix i) (number_is _ _ s i) (bytes_with (number_is _ _ s i) (front _ _ s i) suffix) out) ∙
-          ap (λ (b : Bool). out_with b (number_of command) (encoded_bytes command suffix) out) (sym ok);
-    }
+    let some : c.args.numbered.now.number ≡ Some c.in_ok-number.number = grind arith in
+    let g = given command _ s some in
+    let ns = c.as_slice.ensures.0 ∙ s.numbers in
+    c.write_command.ensures.answer ∙ (λ i. answer_by (g.1 i) (ns i) suffix out) ∙
+    ap (λ (b : Bool). answer_with b (number_of command) out) (sym (encodable-by command _ s suffix g.0))
 
-pub returns : goal.returns
-returns c =
+pub returns-clause-output : goal.returns-clause-output
+returns-clause-output c = λ command s.
     let suffix = c.args.suffix.now in
     let out = c.args.out.now in
-    let refused = c.if-numbers.false in record { answer = λ command s. (unfit (not-encodable command suffix (sym (known_is _ _ s) ∙ refused)) (number_of command) (encoded_bytes command suffix) out).0; output = λ command s. (unfit (not-encodable command suffix (sym (known_is _ _ s) ∙ refused)) (number_of command) (encoded_bytes command suffix) out).1 }
+    let some : c.args.numbered.now.number ≡ Some c.in_ok-number.number = grind arith in
+    let g = given command _ s some in
+    let ns = c.as_slice.ensures.0 ∙ s.numbers in
+    c.write_command.ensures.output ∙ (λ i. out_by (g.1 i) (ns i) suffix out) ∙
+    ap (λ (b : Bool). out_with b (number_of command) (encoded_bytes command suffix) out) (sym (encodable-by command _ s suffix g.0))

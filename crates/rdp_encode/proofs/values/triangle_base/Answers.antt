@@ -1,19 +1,10 @@
-use mathlib.Core.Bool.{true}
 use mathlib.Core.List.{List, [], ◌∷◌, ◌++◌}
-use mathlib.Core.Path.{ap, ◌∙◌}
 use Prim.Native.Nat.{ℕ}
-use lib.Dec.{lit≤}
-use lib.ListN.{length, get_or}
+use lib.ListN.{get_or}
 use mir.Val.{bool_byte}
-use Rattle.rdp_command.specs.Layout.{Line}
 use Rattle.rdp_command.specs.Fields.{unsigned, signed, flag}
-use Rattle.rdp_encode.specs.Encode.{numbers_of}
-use Rattle.rdp_encode.specs.Numbers.{values_from}
-use Rattle.rdp_encode.specs.Steps.{numbered}
 use Rattle.rdp_command.specs.declared.TriangleBase.{TriangleBase}
-use Rattle.rdp_command.specs.declared.Command.TheVariants.{FillTriangle}
 use Rattle.rdp_encode.proofs.TwosLaws.{given}
-use Rattle.rdp_command.proofs.Triangles.{triangle-layout, triangle-small}
 use borrow.Author.Rules.{rules}
 use Rattle.rdp_encode.proofs.values.triangle_base.Goals as goal
 
@@ -32,15 +23,9 @@ returns c =
     let yh = given g.yh (search rules) c.twos-3.ensures in
     let l = c.edge-l.ensures in
     let h = c.edge-h.ensures in
-    let m = c.edge-m.ensures in
-    record {
-      numbers = c.padded.ensures ∙ (λ i. numbered (c.triangle_number.ensures i) true (laid g (yl.0 i) (ym.0 i) (yh.0 i) (l.0 i) (h.0 i) (m.0 i)));
-      kept =
-          ap (λ (ls : List Line). values_from ls (numbers_of (FillTriangle g))) (triangle-layout g) ∙
-          (λ i.
+    let m = c.edge-m.ensures in (
+      λ i. laid g (yl.0 i) (ym.0 i) (yh.0 i) (l.0 i) (h.0 i) (m.0 i),
+      λ i.
           flag g.shade ∷ flag g.texture ∷ flag g.zbuffer ∷ flag g.lmajor ∷ unsigned g.level ∷ unsigned g.tile ∷
-          signed (yl.1 i) ∷ signed (ym.1 i) ∷ signed (yh.1 i) ∷ (l.1 i ++ (h.1 i ++ m.1 i)));
-      sized = λ _. ap length (triangle-layout g);
-      small = λ _. triangle-small g;
-      few = lit≤ tt;
-    }
+          signed (yl.1 i) ∷ signed (ym.1 i) ∷ signed (yh.1 i) ∷ (l.1 i ++ (h.1 i ++ m.1 i)),
+    )

@@ -1,10 +1,11 @@
-use Prim.Native.Nat.{◌+◌}
-use native.Mathlib.Omega.{arith}
-use Rattle.rdp_words.proofs.OverwriteLaws.{part-copied}
+use Rattle.std.proofs.Common.{◌+◌, refl, ◌∙◌}
+use Rattle.rdp_words.specs.Words.{bytes_of}
+use Rattle.rdp_encode.proofs.Bytes.{part-put}
 use Rattle.rdp_encode.proofs.words.put_word.Goals as goal
 
 pub returns : goal.returns
 returns c =
     let at = c.args.at in
-    rw (← c.bytes_of-bytes.ensures)
-    (part-copied c.bytes_of-bytes.result c.args.out.now c.copy.new.out at (at + 8) (omega arith) (omega arith) c.copy.ensures)
+    let out = c.args.out.now in
+    let e = c.copy_from_slice.ensures.after ∙ c.bytes_of.ensures in
+    rw e (part-put (bytes_of c.args.w) out at (at + 8) refl)
