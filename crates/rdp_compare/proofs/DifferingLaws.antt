@@ -1,38 +1,42 @@
 -- Which fields of two commands differ: field after field, their bits below a bound, and a suffix. Assumes nothing.
-use Prim.Native.Nat.{ℕ, zero, suc, ◌+◌, ◌*◌, ◌/◌, ◌%◌, ◌^◌, ◌≤◌, ◌<◌}
+use Prim.Native.Nat.{ℕ, zero, suc, ◌+◌, ◌*◌, ◌%◌, ◌^◌, ◌≤◌, ◌<◌}
 use mathlib.Core.Bool.{Bool, true, false, cond, not, ◌&&◌}
 use mathlib.Core.List.{List, [], ◌∷◌, ◌++◌}
 use mathlib.Core.Path.{◌≡◌, refl, ap, sym, ◌∙◌}
 use native.Mathlib.Nat.{le_refl, add-zero, zero-add}
 use native.Mathlib.Numerals.{add-one}
 use native.Mathlib.Omega.{arith}
-use borrow.Author.Tests.{eq-eqb, ne_eqb, le-ltb, ltb-true, ltb-false}
+use borrow.Author.Tests.{eq-eqb, ne_eqb, le-ltb}
 use lib.Dec.{eqb, ltb, ltb→lt}
-use lib.ListN.{length, get_or, take, drop, length-drop, drop_of_length-le}
+use lib.ListN.{length, take}
 use lib.Pow.{pow_mono}
-use lib.Seq.{drop-cons, drop-length, take_all}
-use Rattle.rdp_words.specs.Words.{word_at, number_in, overwrite, same_bytes}
+use Rattle.std.specs.Prelude.{Some, None, Result, Ok, Err}
+use Rattle.std.specs.Result.{result_unwrap_or}
+use Rattle.std.specs.List.{zip, enumerate_from, sum_by}
+use Rattle.std.proofs.lemmas.List.Sums.{sum_by-cons}
+use Rattle.rdp_words.specs.Words.{word_at, overwrite, same_bytes}
 use Rattle.rdp_words.specs.Kinds.{words_of}
-use Rattle.rdp_words.specs.Lengths.{first_number, whole_words, suffix_words, suffix_start, suffix_of}
-use Rattle.rdp_words.proofs.Tests.{below, both, by-test}
+use Rattle.rdp_words.specs.Lengths.{first_number, whole_words, suffix_of}
+use Rattle.rdp_words.specs.Grounds.{Answer, answered}
+use Rattle.rdp_words.specs.declared.grounds.Refusal.{Refusal}
+use Rattle.rdp_words.proofs.GroundLaws.{refused-number}
+use Rattle.rdp_words.proofs.Tests.{below, both}
 use Rattle.rdp_words.proofs.KindLaws.{words-pos}
 use Rattle.rdp_words.proofs.PlaceLaws.{number_small, words-there}
 use Rattle.rdp_words.proofs.OverwriteLaws.{take-overwrite, overwrite-none}
 use Rattle.rdp_command.specs.Layout.{layout}
-use Rattle.rdp_command.specs.Decode.{own_word, command_in, decode_of, decoded_from}
-use Rattle.rdp_words.specs.Grounds.{Answer}
+use Rattle.rdp_command.specs.Decode.{Decoded, Whole, Refused, decode_of, answer}
 use Rattle.rdp_command.specs.declared.Command.{Command}
-use Rattle.rdp_command.specs.Decode.{Decoded}
-use Rattle.rdp_command.specs.Decode.{Whole, Refused}
 use Rattle.rdp_command.proofs.ReadLaws.{decodes}
 use Rattle.rdp_command.proofs.BoundLaws.{lines-most}
 use Rattle.rdp_encode.specs.Encode.{numbers_of}
 use Rattle.rdp_encode.specs.Numbers.{fields_answer, fields_out}
 use Rattle.rdp_encode.proofs.PackLaws.{power}
-use Rattle.rdp_encode.proofs.BoundLaws.{fields-decoded, fields-place}
+use Rattle.rdp_encode.proofs.BoundLaws.{fields-decoded}
 use Rattle.rdp_compare.specs.Differing.{numbers_in, field_numbers, unlike, fields_differ, unnamed_before, line_index, bits_from, differing_fields}
 use Rattle.rdp_compare.specs.Entries.{differ}
-use Rattle.rdp_compare.specs.Steps.{OneCommand, Alike, DifferenceIs}
+use Rattle.rdp_compare.specs.Places.{OneCommand}
+use Rattle.rdp_compare.specs.Steps.{Alike, difference}
 use Rattle.rdp_compare.proofs.WordLaws.{same-same, bytes_same}
 
 -- a bit at an index of at most 40
@@ -43,19 +47,16 @@ bit-most {i} {j} e h =
 
 -- ---- field after field
 
-module _ (n : ℕ) (xs ys : List ℕ) (long : length xs ≡ length ys) where
-  abbrev pub due : ℕ → ℕ
-  due k = bits_from n k (unlike (drop k xs) (drop k ys))
+abbrev pub field_bit : ℕ → ℕ × (ℕ × ℕ) → ℕ
+field_bit n p = cond (not (eqb p.1.0 p.1.1)) (2 ^ line_index n p.0) 0
 
-  pub bits-step : (k : ℕ) → k < length xs → due k ≡ cond (not (eqb (get_or xs k 0) (get_or ys k 0))) (2 ^ line_index n k) 0 + due (k + 1)
-  unfolding unlike bits_from
-  bits-step k h =
-      (λ i. bits_from n k (unlike (drop-cons xs k 0 h i) (drop-cons ys k 0 (omega (arith, long)) i))) ∙
-      ap (λ (j : ℕ). cond (not (eqb (get_or xs k 0) (get_or ys k 0))) (2 ^ line_index n k) 0 + bits_from n j (unlike (drop j xs) (drop j ys))) (sym (add-one k))
-
-  pub bits-end : due (length xs) ≡ 0
-  unfolding unlike bits_from
-  bits-end = ap (λ (l : List ℕ). bits_from n (length xs) (unlike l (drop (length xs) ys))) (drop-length xs)
+pub bits-summed : (n k : ℕ) (xs ys : List ℕ) → sum_by (field_bit n) (enumerate_from k (zip xs ys)) ≡ bits_from n k (unlike xs ys)
+unfolding unlike bits_from
+bits-summed n k [] ys = refl
+bits-summed n k (x ∷ xs) [] = refl
+bits-summed n k (x ∷ xs) (y ∷ ys) =
+    sum_by-cons (field_bit n) (k, (x, y)) (enumerate_from (k + 1) (zip xs ys)) ∙
+    ap (λ (m : ℕ). field_bit n (k, (x, y)) + m) (bits-summed n (k + 1) xs ys ∙ ap (λ (j : ℕ). bits_from n j (unlike xs ys)) (add-one k))
 
 -- ---- a bound
 
@@ -95,38 +96,8 @@ length-unlike [] ys e = refl
 length-unlike (x ∷ xs) [] e = absurd (omega arith)
 length-unlike (x ∷ xs) (y ∷ ys) e = ap suc (length-unlike xs ys (omega arith))
 
--- ---- the loop over the fields
-
--- the bits of the fields before k, and those to come
-pub record Adding (n : ℕ) (xs ys : List ℕ) (sum k : ℕ) : Type 0 where
-  pub long : length xs ≡ length ys
-  pub few : length xs ≤ 37
-  pub within : k ≤ length xs
-  pub whole : sum + due n xs ys long k ≡ bits_from n 0 (unlike xs ys)
-
-pub adding-first : (n : ℕ) (xs ys : List ℕ) → (length xs ≡ length ys) × (length xs ≤ 37) → Adding n xs ys 0 0
-adding-first n xs ys h = record { long = h.0; few = h.1; within = omega arith; whole = zero-add _ }
-
-module _ {n : ℕ} {xs ys : List ℕ} {sum k : ℕ} (t : Adding n xs ys sum k) where
-  bound : bits_from n 0 (unlike xs ys) < 2 ^ 40
-  bound = bits-lt n (unlike xs ys) (rw (length-unlike xs ys t.long) t.few)
-
-  module _ (h : k < length xs) {r : ℕ} (is : r ≡ cond (not (eqb (get_or xs k 0) (get_or ys k 0))) (2 ^ line_index n k) 0) where
-    stepped : due n xs ys t.long k ≡ r + due n xs ys t.long (k + 1)
-    stepped = bits-step n xs ys t.long k h ∙ ap (λ (x : ℕ). x + due n xs ys t.long (k + 1)) (sym is)
-
-    pub adding-small : sum + r < 2 ^ 40
-    adding-small = omega (arith, stepped, t.whole, bound)
-
-    pub adding-next : Adding n xs ys (sum + r) (k + 1)
-    adding-next = record { long = t.long; few = t.few; within = omega arith; whole = omega (arith, stepped, t.whole) }
-
-  pub added : length xs ≤ k → (sum ≡ bits_from n 0 (unlike xs ys)) × (sum < 2 ^ 40)
-  added h =
-      let e : k ≡ length xs = omega (arith, h, t.within) in
-      let z = ap (due n xs ys t.long) e ∙ bits-end n xs ys t.long in
-      let s : sum ≡ bits_from n 0 (unlike xs ys) = omega (arith, z, t.whole) in
-      (s, omega (arith, s, bound))
+pub bits-small : (n : ℕ) (xs ys : List ℕ) → (length xs ≡ length ys) × (length xs ≤ 37) → bits_from n 0 (unlike xs ys) < 2 ^ 40
+bits-small n xs ys h = bits-lt n (unlike xs ys) (rw (length-unlike xs ys h.0) h.1)
 
 -- ---- one field more
 
@@ -155,61 +126,28 @@ module _ (c : List ℕ) (one : OneCommand c) where
       ap (λ (x : Decoded). length (numbers_in x)) (decodes c there) ∙
       fields-decoded c (decodes c there)
 
-  -- its suffix is what follows its first four words
-  pub suffix-is : suffix_of c ≡ drop 32 c
-  unfolding suffix_of suffix_start
-  suffix-is =
-      ap (λ (k : ℕ). take (8 * suffix_words k) (drop (cond (ltb 4 k) 32 0) c)) whole ∙
-      by-test (ltb 4 (words_of (first_number c)))
-      (λ t.
-      let h : 4 < words_of (first_number c) = ltb-true 4 (words_of (first_number c)) t in
-      rw t (take_all (8 * suffix_words (words_of (first_number c))) (drop 32 c) (omega (arith, length-drop 32 c, one))))
-      (λ f.
-      let h : words_of (first_number c) ≤ 4 = ltb-false 4 (words_of (first_number c)) f in
-      let z : 8 * suffix_words (words_of (first_number c)) ≡ 0 = omega arith in
-      let short : length c ≤ 32 = omega (arith, one, h) in
-      rw (f, z) (sym (drop_of_length-le c short)))
-
 -- ---- its fields as the code takes them
 
--- a word that is read is its own, or 0 where it has none
-own-word : (c : List ℕ) → OneCommand c → (k : ℕ) → own_word c (whole_words c) k ≡ word_at c k
-unfolding word_at
-own-word c one k =
-    let m = words-there c (omega (arith, one)) in
-    by-test (ltb k (whole_words c)) (λ t. rw t)
-    (λ f. let h : length c / 8 ≤ k = omega (arith, one, m, ltb-false k (whole_words c) f) in rw (f, le-ltb k (length c / 8) h))
-
--- the base of a command gives what decoding does
-pub base-decodes :
-    (c : List ℕ) → OneCommand c →
-    {n w₀ w₁ w₂ w₃ : ℕ} → n ≡ first_number c → w₀ ≡ word_at c 0 → w₁ ≡ word_at c 1 → w₂ ≡ word_at c 2 → w₃ ≡ word_at c 3 →
-    {r : Decoded} → r ≡ decoded_from 3 (record { ok = true; number = n; w0 = w₀; w1 = w₁; w2 = w₂; w3 = w₃ }) → r ≡ decode_of c
-unfolding decoded_from
-base-decodes c one is-n e₀ e₁ e₂ e₃ e =
-    e ∙
-    (λ i.
-    Whole
-    (command_in (is-n i)
-    (e₀ i ∷ (e₁ ∙ sym (own-word c one 1)) i ∷ (e₂ ∙ sym (own-word c one 2)) i ∷ (e₃ ∙ sym (own-word c one 3)) i ∷ []))) ∙
-    sym (decodes c (there c one))
-
-module _ (c numbers : List ℕ) (room : 37 ≤ length numbers) {r : Decoded} (is : r ≡ decode_of c) where
+module _ (c numbers : List ℕ) (room : 37 ≤ length numbers) where
   pub whole_numbers :
-      {x : Command} → r ≡ Whole x → {a : Answer} {new : List ℕ} → a ≡ fields_answer x numbers → new ≡ fields_out x numbers →
-      ((a.place ≡ length (field_numbers c)) × (a.place ≤ 37)) × (new ≡ overwrite (field_numbers c) numbers)
-  unfolding fields_out
-  whole_numbers {x} w {a} {new} is-a is-new =
-      let d : decode_of c ≡ Whole x = sym is ∙ w in
+      {x : Command} → Whole x ≡ decode_of c → (a : Result ℕ Refusal) {new : List ℕ} → answered a ≡ fields_answer x numbers → new ≡ fields_out x numbers →
+      ((result_unwrap_or a 0 ≡ length (field_numbers c)) × (result_unwrap_or a 0 ≤ 37)) × (new ≡ overwrite (field_numbers c) numbers)
+  unfolding fields_answer fields_out
+  whole_numbers {x} is a {new} is-a is-new =
+      let d : decode_of c ≡ Whole x = sym is in
       let e : field_numbers c ≡ numbers_of x = ap numbers_in d in
-      let p : a.place ≡ length (numbers_of x) = ap (λ (y : Answer). y.place) is-a ∙ fields-place x numbers in
       let l : length (numbers_of x) ≤ 37 = rw (fields-decoded c d) (lines-most (first_number c) (number_small (word_at c 0))) in
       let fits = le-ltb (length numbers) (length (numbers_of x)) (omega (arith, l, room)) in
+      let p = given a (is-a ∙ rw fits refl) in
       ((p ∙ ap length (sym e), rw p l), is-new ∙ rw fits (ap (λ (l : List ℕ). overwrite l numbers) (sym e)))
+    where
+      given : (a : Result ℕ Refusal) {n : ℕ} → answered a ≡ answer 0 n → result_unwrap_or a 0 ≡ n
+      given (Ok m) f = ap (λ (y : Answer). y.place) f
+      given (Err r) f = absurd (refused-number r.ground (ap (λ (y : Answer). y.number) f))
 
-  pub no-numbers : {a : Answer} → r ≡ Refused a → ((0 ≡ length (field_numbers c)) × (0 ≤ 37)) × (numbers ≡ overwrite (field_numbers c) numbers)
+  pub no-numbers : {a : Answer} → Refused a ≡ decode_of c → ((0 ≡ length (field_numbers c)) × (0 ≤ 37)) × (numbers ≡ overwrite (field_numbers c) numbers)
   no-numbers {a} w =
-      let e : field_numbers c ≡ [] = ap numbers_in (sym is ∙ w) in
+      let e : field_numbers c ≡ [] = ap numbers_in (sym w) in
       ((ap length (sym e), omega arith), sym (overwrite-none numbers) ∙ ap (λ (l : List ℕ). overwrite l numbers) (sym e))
 
 -- the numbers at the front of what holds them
@@ -231,18 +169,15 @@ module _ {c d : List ℕ} {n : ℕ} (a : Alike c d n) where
   pub as_many : length (field_numbers c) ≡ length (field_numbers d)
   as_many = fields-long c a.one ∙ ap (λ (k : ℕ). length (layout k)) same ∙ sym (fields-long d a.two)
 
-  suffixes : same_bytes (suffix_of c) (suffix_of d) ≡ same_bytes (drop 32 c) (drop 32 d)
-  suffixes = λ i. same_bytes (suffix-is c a.one i) (suffix-is d a.two i)
-
   module _ {x y bits : ℕ} {xs ys : List ℕ} (is_x : x ≡ length (field_numbers c)) (is_y : y ≡ length (field_numbers d))
       (is-xs : xs ≡ field_numbers c) (is-ys : ys ≡ field_numbers d) (is-bits : bits ≡ bits_from n 0 (unlike xs ys))
-      {s : Bool} (is-s : s ≡ same_bytes (drop 32 c) (drop 32 d)) where
+      {s : Bool} (is-s : s ≡ same_bytes (suffix_of c) (suffix_of d)) where
     together : differing_fields c d ≡ bits + cond (not s) (2 ^ line_index n x) 0
     unfolding differing_fields
     together =
         let us = unlike (field_numbers c) (field_numbers d) in
         let k : 0 + length us ≡ x = zero-add (length us) ∙ length-unlike (field_numbers c) (field_numbers d) as_many ∙ sym is_x in
-        let t : same_bytes (suffix_of c) (suffix_of d) ≡ s = suffixes ∙ sym is-s in
+        let t : same_bytes (suffix_of c) (suffix_of d) ≡ s = sym is-s in
         rw (eq-eqb (first_number c) (first_number d) same)
         (ap (λ (j : ℕ). bits_from j 0 (fields_differ c d)) (sym a.first) ∙
         bits-last n 0 us (not (same_bytes (suffix_of c) (suffix_of d))) ∙
@@ -274,36 +209,19 @@ no_difference c d e f s =
     (ap (λ (l : List ℕ). bits_from (first_number c) 0 (unlike (field_numbers c) l ++ (not (same_bytes (suffix_of c) (suffix_of d)) ∷ []))) (sym f) ∙
     none-unlike (first_number c) 0 (field_numbers c) (not (same_bytes (suffix_of c) (suffix_of d))) b)
 
-same_none : (c d : List ℕ) → c ≡ d → (false ≡ differ c d) × (0 ≡ differing_fields c d)
+same_none : (c d : List ℕ) → c ≡ d → differ c d ≡ false
 same_none c d e =
     let n = ap first_number e in
     let z = no_difference c d n (ap field_numbers e) (ap suffix_of e) in
-    (sym (rw (eq-eqb (first_number c) (first_number d) n, eq-eqb (differing_fields c d) 0 z)), sym z)
+    rw (eq-eqb (first_number c) (first_number d) n, eq-eqb (differing_fields c d) 0 z)
 
 -- ---- as the code takes the numbers
 
-module _ (c d : List ℕ) {w v n m : ℕ} (is-w : w ≡ word_at c 0) (is-n : n ≡ number_in w) (is-v : v ≡ word_at d 0) (is_m : m ≡ number_in v) where
-  first-is : n ≡ first_number c
-  first-is = is-n ∙ ap number_in is-w
+pub other-numbers : (c d : List ℕ) → (first_number c ≡ first_number d → ⊥) → Some 0 ≡ difference c d
+other-numbers c d h = rw (ne_eqb (first_number c) (first_number d) h) (ap Some (numbers-differ c d h))
 
-  second_is : m ≡ first_number d
-  second_is = is_m ∙ ap number_in is-v
+pub of_fields : (c d : List ℕ) → first_number c ≡ first_number d → {mask : ℕ} → mask ≡ differing_fields c d → cond (not (eqb mask 0)) (Some mask) None ≡ difference c d
+of_fields c d same e = rw (eq-eqb (first_number c) (first_number d) same) (ap (λ (k : ℕ). cond (not (eqb k 0)) (Some k) None) e)
 
-  pub of-other-numbers : (n ≡ m → ⊥) → DifferenceIs c d (record { differs = true; mask = 0 })
-  of-other-numbers ne =
-      let h : first_number c ≡ first_number d → ⊥ = λ e. ne (first-is ∙ e ∙ sym second_is) in
-      record { differs = rw (ne_eqb (first_number c) (first_number d) h); mask = numbers-differ c d h }
-
-  module _ (same : n ≡ m) where
-    pub alike : OneCommand c × OneCommand d → Alike c d n
-    alike b = record { one = b.0; two = b.1; first = first-is; second = same ∙ second_is }
-
-    pub of_fields : {mask : ℕ} → mask ≡ differing_fields c d → DifferenceIs c d (record { differs = not (eqb mask 0); mask = mask })
-    of_fields {mask} e =
-        record {
-          differs = rw (eq-eqb (first_number c) (first_number d) (sym first-is ∙ same ∙ second_is)) (ap (λ (k : ℕ). not (eqb k 0)) e);
-          mask = e;
-        }
-
-pub of-same-bytes : (c d : List ℕ) → same_bytes c d ≡ true → DifferenceIs c d (record { differs = false; mask = 0 })
-of-same-bytes c d t = let s = same_none c d (bytes_same c d t) in record { differs = s.0; mask = s.1 }
+pub of-same-bytes : (c d : List ℕ) → same_bytes c d ≡ true → None ≡ difference c d
+of-same-bytes c d t = rw (same_none c d (bytes_same c d t))

@@ -21,9 +21,12 @@ use Rattle.rdp_check.specs.Check.{State, start, after_command, no_refusals}
 use Rattle.rdp_check.specs.Refusals.{is_some, command_grounds, grounds_of}
 use Rattle.rdp_check.proofs.ListLaws.{commands-at, command-number, rest_at, commands-past, rest-past}
 use Rattle.rdp_compare.specs.Entries.{pair_entries, decode_grounds, room_grounds, compare_answer, entries_after}
-use Rattle.rdp_compare.specs.Part.{in_first, longer_in, rest_start}
-use Rattle.rdp_compare.specs.declared.RestStart.{RestStart}
-use Rattle.rdp_compare.specs.Steps.{Decodable, decode_answer}
+use Rattle.std.specs.Prelude.{Ok}
+use Rattle.rdp_compare.specs.Part.{RestStart, in_first, longer_in, rest_as, rest_start}
+use Rattle.rdp_compare.specs.declared.RestPlace.{RestPlace}
+use Rattle.rdp_compare.specs.declared.RestPlace.TheVariants.{InFirst, InSecond}
+use Rattle.rdp_compare.specs.Places.{Decodable}
+use Rattle.rdp_compare.specs.Steps.{decode_answer}
 
 pub commands-none : commands_of [] ≡ []
 unfolding commands_from
@@ -294,3 +297,8 @@ module _ (first second : List ℕ) (room : ℕ) where
   pub handed : {count : ℕ} → compare_answer first second room ≡ answer 0 count → {r : RestStart} → r ≡ longer_in first second → r ≡ rest_start first second room
   unfolding rest_start
   handed a e = e ∙ rw a
+
+-- a place in a list, whatever the end
+pub same_place : (a b : ℕ) (p : RestPlace) → rest_as a (Ok p) ≡ rest_as b (Ok p)
+same_place a b (InFirst n) = refl
+same_place a b (InSecond n) = refl

@@ -29,7 +29,8 @@ use Rattle.rdp_encode.proofs.FieldLaws.{values-decoded}
 use Rattle.rdp_command.proofs.Signed.{bool_le}
 use Rattle.rdp_command.proofs.Triangles.{layout-at}
 use Rattle.rdp_compare.specs.Differing.{numbers_in, field_numbers, unlike, fields_differ, unnamed_before, line_index, bits_from, differing_fields}
-use Rattle.rdp_compare.specs.Steps.{OneCommand, Alike}
+use Rattle.rdp_compare.specs.Places.{OneCommand}
+use Rattle.rdp_compare.specs.Steps.{Alike}
 use Rattle.rdp_compare.proofs.DifferingLaws.{there, length-unlike, fields-long, as_many}
 
 -- ---- the indices rise

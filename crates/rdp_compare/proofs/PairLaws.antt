@@ -1,14 +1,15 @@
--- The loops over the paired commands of two lists that decode: what holds at their heads, and what a turn does. Assumes nothing.
-use Prim.Native.Nat.{ℕ, zero, suc, ◌+◌, ◌*◌, ◌-◌, ◌/◌, ◌<◌, ◌≤◌}
+-- The paired commands of two lists that decode: what a pair adds to the entries, and where the rest begins after them. Assumes nothing.
+use Prim.Native.Nat.{ℕ, ◌+◌, ◌*◌, ◌-◌, ◌/◌, ◌%◌, ◌^◌, ◌<◌, ◌≤◌}
 use mathlib.Core.Bool.{Bool, true, false, cond}
 use mathlib.Core.List.{List, [], ◌∷◌, ◌++◌, append-nil, append_assoc}
+use mathlib.Core.Logic.{◌⊎◌, inl, inr}
 use mathlib.Core.Path.{◌≡◌, refl, sym, ap, ap₂, subst, ◌∙◌}
-use native.Mathlib.Nat.{lt_of_not-le}
+use native.Mathlib.Nat.{lt_of_not-le, zero-add}
 use native.Mathlib.Decide.{dec_le}
 use native.Mathlib.Omega.{arith}
-use lib.ListN.{length, take, drop, set, length-append, length-drop, drop_of_length-le}
+use lib.ListN.{length, take, drop, length-append, length-drop, drop_of_length-le}
 use lib.Dec.{eqb, ltb}
-use lib.Seq.{take_all, length-take-le}
+use lib.Seq.{length-take-le}
 use borrow.Author.Tests.{lt-ltb, le-ltb, ltb-true, ltb-false}
 use Rattle.rdp_words.specs.Words.{word_at, number_in, overwrite, pasted, WrittenIs}
 use Rattle.rdp_words.specs.Kinds.{words_of}
@@ -21,18 +22,15 @@ use Rattle.rdp_check.specs.Commands.{commands_of, rest_of, words_in}
 use Rattle.rdp_check.proofs.ListLaws.{commands-at, command-number, rest_at, rest-past}
 use Rattle.rdp_check.proofs.JoinLaws.{parsed, count-joined, words_inside}
 use Rattle.rdp_compare.specs.Entries.{differ, entry_with, pair_entry, pair_entries_from, pair_entries, compare_answer}
-use Rattle.rdp_compare.specs.Part.{in_first, in_second, longer_from, longer_in, rest_start}
-use Rattle.rdp_compare.specs.Steps.{Decodable, words_from, OneCommand, DifferenceIs, PairedIs}
-use Rattle.rdp_compare.specs.declared.RestStart.{RestStart}
-use Rattle.rdp_compare.specs.declared.pairs.Difference.{Difference}
+use Rattle.rdp_compare.specs.Part.{RestStart, longer_from, longer_in, rest_start}
+use Rattle.rdp_compare.specs.Places.{Decodable, At, words_from, OneCommand}
+use Rattle.std.specs.Prelude.{Some, None}
+use Rattle.rdp_compare.specs.Steps.{difference, words_at, Ends, Turns, rest_by}
+use Rattle.rdp_compare.specs.declared.pairs.Pair.{Pair}
+use Rattle.rdp_compare.specs.declared.pairs.Pairs.{Pairs}
 use Rattle.rdp_compare.proofs.GroundLaws.{commands-none}
 
 -- ---- a place of one list, at which a command begins or the list ends
-
-pub record At (list : List ℕ) (words at : ℕ) : Type 0 where
-  pub sound : Decodable list words
-  pub within : at ≤ words
-  pub none : rest_of (drop (8 * at) list) ≡ []
 
 pub at_first : {list : List ℕ} {words : ℕ} → Decodable list words → At list words 0
 at_first s = record { sound = s; within = omega arith; none = s.none }
@@ -89,8 +87,8 @@ module _ {list : List ℕ} {words at : ℕ} (r : At list words at) where
         length-take-le (8 * count) (drop (8 * at) list) (omega (arith, length-drop (8 * at) list, in_list)) ∙
         ap (λ (k : ℕ). 8 * k) (sym next-words)
 
-    pub falls : words - (at + count) < words - at
-    falls = omega (arith, is, inside, some_words list at n refl)
+    pub some-words : 0 < count
+    some-words = omega (arith, is, some_words list at n refl)
 
     pub at_next : At list words (at + count)
     at_next =
@@ -109,9 +107,20 @@ entry-some : (b : Bool) (x y m : ℕ) → length (entry_with b x y m) ≤ 4
 entry-some true x y m = omega arith
 entry-some false x y m = omega arith
 
-pub entry-long : (b : Bool) (x y m : ℕ) → length (entry_with b 0 0 m) ≡ length (entry_with b x y m)
-entry-long true x y m = refl
-entry-long false x y m = refl
+entry-by-none : (b : Bool) (x y m : ℕ) → None ≡ cond b (Some m) None → entry_with b x y m ≡ []
+entry-by-none true x y m e = absurd cc
+entry-by-none false x y m e = refl
+
+entry-by-some : (b : Bool) (x y m n : ℕ) → Some n ≡ cond b (Some m) None → entry_with b x y m ≡ x ∷ y ∷ n / 2 ^ 32 ∷ n % 2 ^ 32 ∷ []
+entry-by-some true x y m n e = let f : m ≡ n = cc in ap (λ (k : ℕ). x ∷ y ∷ k / 2 ^ 32 ∷ k % 2 ^ 32 ∷ []) f
+entry-by-some false x y m n e = absurd cc
+
+module _ (a b : ℕ) (c d : List ℕ) where
+  pub entry-none : None ≡ difference c d → pair_entry a b c d ≡ []
+  entry-none e = entry-by-none (differ c d) a b (differing_fields c d) e
+
+  pub entry-of : (m : ℕ) → Some m ≡ difference c d → pair_entry a b c d ≡ a ∷ b ∷ m / 2 ^ 32 ∷ m % 2 ^ 32 ∷ []
+  entry-of m e = entry-by-some (differ c d) a b (differing_fields c d) m e
 
 entries-most : (a b : ℕ) (cs ds : List (List ℕ)) → length (pair_entries_from a b cs ds) ≤ 4 * length cs
 unfolding pair_entries_from
@@ -163,168 +172,163 @@ module _ {first second : List ℕ} {n m a b : ℕ} (one : At first n a) (two : A
         ap₂ (λ (u v : ℕ). pair_entry a b c d ++ pair_entries_from (a + u) (b + v) (left first (a + x)) (left second (b + y)))
         (next-words one more-one is_x) (next-words two more-two is_y)
 
-    module _ {r : Difference} (is : DifferenceIs c d r) where
-      abbrev turn : List ℕ
-      turn = entry_with r.differs a b r.mask
-
-      pub due-turn : due first second a b ≡ turn ++ due first second (a + x) (b + y)
-      due-turn = due-next ∙ (λ i. entry_with (sym is.differs i) a b (sym is.mask i) ++ due first second (a + x) (b + y))
-
--- ---- counting
-
 abbrev pub rest_for : List ℕ → List ℕ → ℕ → ℕ → RestStart
 rest_for first second a b = longer_from (length first) a b (left first a) (left second b)
 
-pub record Counting (first : List ℕ) (n : ℕ) (second : List ℕ) (m a b count : ℕ) : Type 0 where
-  pub one : At first n a
-  pub two : At second m b
-  pub whole : count + length (due first second a b) ≡ length (pair_entries first second)
-  pub same : rest_for first second a b ≡ longer_in first second
+-- ---- the entries and the rest from pairs on
 
-pub counting-first : {first second : List ℕ} {n m : ℕ} → Decodable first n → Decodable second m → Counting first n second m 0 0 0
-counting-first s t = record { one = at_first s; two = at_first t; whole = omega arith; same = refl }
+abbrev pub due_in : Pairs → List ℕ
+due_in p = due p.first.now p.second.now p.a p.b
 
-module _ {first second : List ℕ} {n m a b count : ℕ} (t : Counting first n second m a b count) where
+abbrev pub rest_in : Pairs → RestStart
+rest_in p = rest_for p.first.now p.second.now p.a p.b
+
+-- a pair
+module _ {s : Pairs} {p : Pair} {t : Pairs} (u : Turns s p t) where
+  pub due-turn : due_in s ≡ pair_entry p.a p.b p.first.now p.second.now ++ due_in t
+  due-turn =
+      due-next s.one s.two u.more-one u.more-two refl refl ∙
+      (λ i.
+      pair_entry (sym u.a i) (sym u.b i) (sym u.one i) (sym u.two i) ++
+      due (sym u.first i) (sym u.second i) (sym u.after_a i) (sym u.after_b i))
+
+  pub rest-turn : rest_in s ≡ rest_in t
+  unfolding longer_from
+  rest-turn =
+      (λ i. longer_from (length s.first.now) s.a s.b (next s.one u.more-one refl i) (next s.two u.more-two refl i)) ∙
+      ap₂ (λ (x y : ℕ). longer_from (length s.first.now) (s.a + x) (s.b + y) (left s.first.now (s.a + words_at s.first.now s.a)) (left s.second.now (s.b + words_at s.second.now s.b)))
+      (next-words s.one u.more-one refl) (next-words s.two u.more-two refl) ∙
+      (λ i. rest_for (sym u.first i) (sym u.second i) (sym u.after_a i) (sym u.after_b i))
+
+  pub nearer : length t.first.now / 8 - t.a < length s.first.now / 8 - s.a
+  nearer =
+      let e : length t.first.now / 8 ≡ length s.first.now / 8 = ap (λ (l : List ℕ). length l / 8) u.first in
+      omega (arith, e, u.after_a, u.more-one, some-words s.one u.more-one refl)
+
+-- no pair
+module _ {s t : Pairs} (e : Ends s t) where
+  over : (length t.first.now / 8 ≤ t.a) ⊎ (length t.second.now / 8 ≤ t.b)
+  over =
+      elim e.over [
+        | inl h ↦ inl (rw (e.first, e.a) h)
+        | inr h ↦ inr (rw (e.second, e.b) h)
+      ]
+
+  pub due-none : due_in t ≡ []
+  due-none =
+      elim over [
+        | inl h ↦ due-none-first t.one t.two h
+        | inr h ↦ due-none-second t.one t.two h
+      ]
+
+  by-first : length t.first.now / 8 ≤ t.a → rest_by t ≡ rest_in t
+  unfolding longer_from
+  by-first h =
+      by-test (ltb t.b (length t.second.now / 8))
+      (λ u. rw (le-ltb _ _ h, u) (sym (λ i. longer_from (length t.first.now) t.a t.b (none_left t.one h i) (next t.two (ltb-true _ _ u) refl i))))
+      (λ u. rw (le-ltb _ _ h, u) (sym (λ i. longer_from (length t.first.now) t.a t.b (none_left t.one h i) (none_left t.two (ltb-false _ _ u) i))))
+
+  by-second : t.a < length t.first.now / 8 → length t.second.now / 8 ≤ t.b → rest_by t ≡ rest_in t
+  unfolding longer_from
+  by-second h k = rw (lt-ltb _ _ h) (sym (λ i. longer_from (length t.first.now) t.a t.b (next t.one h refl i) (none_left t.two k i)))
+
+  pub rest-none : rest_by t ≡ rest_in t
+  rest-none =
+      elim over [
+        | inl h ↦ by-first h
+        | inr k ↦ by-test (ltb t.a (length t.first.now / 8)) (λ u. by-second (ltb-true _ _ u) k) (λ u. by-first (ltb-false _ _ u))
+      ]
+
+-- ---- counting
+
+pub record Counting (first second : List ℕ) (p : Pairs) (count : ℕ) : Type 0 where
+  pub lists : (p.first.now ≡ first) × (p.second.now ≡ second)
+  pub whole : count + length (due_in p) ≡ length (pair_entries first second)
+  pub rest : rest_in p ≡ longer_in first second
+
+pub begins :
+    {first second : List ℕ} (p : Pairs) → ((p.first.now ≡ first) × (p.second.now ≡ second)) × ((p.a ≡ 0) × (p.b ≡ 0)) →
+    (due_in p ≡ pair_entries first second) × (rest_in p ≡ longer_in first second)
+begins p e = (λ i. due (e.0.0 i) (e.0.1 i) (e.1.0 i) (e.1.1 i), λ i. rest_for (e.0.0 i) (e.0.1 i) (e.1.0 i) (e.1.1 i))
+
+pub counting-first :
+    {first second : List ℕ} (p : Pairs) → ((p.first.now ≡ first) × (p.second.now ≡ second)) × ((p.a ≡ 0) × (p.b ≡ 0)) → Counting first second p 0
+counting-first p e =
+    let b = begins p e in
+    record { lists = e.0; whole = zero-add _ ∙ ap length b.0; rest = b.1 }
+
+module _ {first second : List ℕ} {s : Pairs} {count : ℕ} (c : Counting first second s count) where
   pub count-few : count ≤ 16384
-  count-few = omega (arith, t.whole, entries-few second t.one.sound)
+  count-few =
+      let d : Decodable first (length first / 8) = subst (λ (l : List ℕ). Decodable l (length l / 8)) c.lists.0 s.one.sound in
+      omega (arith, c.whole, entries-few second d)
 
-  abbrev rest_by : RestStart
-  rest_by = cond (ltb a n) (in_first 0 (8 * a)) (cond (ltb b m) (in_second (8 * b)) (in_first 0 (length first)))
+  module _ {p : Pair} {t : Pairs} (u : Turns s p t) where
+    turn-long : length (due_in s) ≡ length (pair_entry p.a p.b p.first.now p.second.now) + length (due_in t)
+    turn-long = ap length (due-turn u) ∙ length-append (pair_entry p.a p.b p.first.now p.second.now) (due_in t)
 
-  counted : due first second a b ≡ [] → rest_by ≡ longer_in first second → PairedIs first n second m (record { count = count; a = a; b = b })
-  counted e r =
-      record { count = omega (arith, t.whole, ap length e); few = count-few; one = t.one.within; two = t.two.within; rest = r }
+    pub counting-next : {k : ℕ} → k ≡ length (pair_entry p.a p.b p.first.now p.second.now) → Counting first second t (count + k)
+    counting-next is =
+        record { lists = (u.first ∙ c.lists.0, u.second ∙ c.lists.1); whole = omega (arith, c.whole, turn-long, is); rest = sym (rest-turn u) ∙ c.rest }
 
-  -- the second list is at its end
-  pub counted-second : a < n → m ≤ b → PairedIs first n second m (record { count = count; a = a; b = b })
-  unfolding longer_from
-  counted-second h k =
-      counted (due-none-second t.one t.two k)
-      (rw (lt-ltb a n h) (sym (λ i. longer_from (length first) a b (next t.one h refl i) (none_left t.two k i)) ∙ t.same))
+  module _ {t : Pairs} (e : Ends s t) where
+    same_due : due_in s ≡ due_in t
+    same_due = λ i. due (sym e.first i) (sym e.second i) (sym e.a i) (sym e.b i)
 
-  -- the first list is at its end
-  pub counted-first : n ≤ a → PairedIs first n second m (record { count = count; a = a; b = b })
-  unfolding longer_from
-  counted-first h =
-      counted (due-none-first t.one t.two h)
-      (by-test (ltb b m)
-      (λ u. rw (le-ltb a n h, u) (sym (λ i. longer_from (length first) a b (none_left t.one h i) (next t.two (ltb-true b m u) refl i)) ∙ t.same))
-      (λ u. rw (le-ltb a n h, u) (sym (λ i. longer_from (length first) a b (none_left t.one h i) (none_left t.two (ltb-false b m u) i)) ∙ t.same)))
+    pub all-counted : count ≡ length (pair_entries first second)
+    all-counted = omega (arith, c.whole, ap length (same_due ∙ due-none e))
 
-  module _ (more-one : a < n) (more-two : b < m) {x y : ℕ} (is_x : x ≡ words_of (number_in (word_at first a))) (is_y : y ≡ words_of (number_in (word_at second b)))
-      {r : Difference} (is : DifferenceIs (words_from first a x) (words_from second b y) r) {k : ℕ} (is-k : k ≡ length (entry_with r.differs 0 0 r.mask)) where
-    turn-long : length (due first second a b) ≡ k + length (due first second (a + x) (b + y))
-    turn-long =
-        ap length (due-turn t.one t.two more-one more-two is_x is_y is) ∙
-        length-append (entry_with r.differs a b r.mask) (due first second (a + x) (b + y)) ∙
-        ap (λ (j : ℕ). j + length (due first second (a + x) (b + y))) (sym (is-k ∙ entry-long r.differs a b r.mask))
-
-    turn-rest : rest_for first second a b ≡ rest_for first second (a + x) (b + y)
-    unfolding longer_from
-    turn-rest =
-        (λ i. longer_from (length first) a b (next t.one more-one is_x i) (next t.two more-two is_y i)) ∙
-        ap₂ (λ (u v : ℕ). longer_from (length first) (a + u) (b + v) (left first (a + x)) (left second (b + y)))
-        (next-words t.one more-one is_x) (next-words t.two more-two is_y)
-
-    pub counting-next : Counting first n second m (a + x) (b + y) (count + k)
-    counting-next =
-        record {
-          one = at_next t.one more-one is_x;
-          two = at_next t.two more-two is_y;
-          whole = omega (arith, t.whole, turn-long);
-          same = sym turn-rest ∙ t.same;
-        }
+    pub rest-counted : rest_by t ≡ longer_in first second
+    rest-counted = rest-none e ∙ (λ i. rest_for (e.first i) (e.second i) (e.a i) (e.b i)) ∙ c.rest
 
 -- ---- writing
 
-pub record Writing (first : List ℕ) (n : ℕ) (second : List ℕ) (m : ℕ) (old new : List ℕ) (a b to : ℕ) : Type 0 where
-  pub one : At first n a
-  pub two : At second m b
+pub record Writing (first second old new : List ℕ) (p : Pairs) (to : ℕ) : Type 0 where
   pub room : length (pair_entries first second) ≤ length old
   pub done : List ℕ
   pub output : new ≡ overwrite done old
   pub index : to ≡ length done
-  pub whole : done ++ due first second a b ≡ pair_entries first second
+  pub whole : done ++ due_in p ≡ pair_entries first second
 
 pub writing-first :
-    {first second old : List ℕ} {n m : ℕ} → Decodable first n → Decodable second m → length (pair_entries first second) ≤ length old →
-    Writing first n second m old old 0 0 0
+    {first second old : List ℕ} (p : Pairs) → ((p.first.now ≡ first) × (p.second.now ≡ second)) × ((p.a ≡ 0) × (p.b ≡ 0)) →
+    length (pair_entries first second) ≤ length old → Writing first second old old p 0
 unfolding overwrite
-writing-first s t h = record { one = at_first s; two = at_first t; room = h; done = []; output = refl; index = refl; whole = refl }
+writing-first p e h = record { room = h; done = []; output = refl; index = refl; whole = (begins p e).0 }
 
-module _ {first second old new : List ℕ} {n m a b to : ℕ} (t : Writing first n second m old new a b to) where
-  fitting : length t.done ≤ length old
-  fitting = omega (arith, t.room, ap length t.whole, length-append t.done (due first second a b))
+module _ {first second old new : List ℕ} {s : Pairs} {to : ℕ} (w : Writing first second old new s to) where
+  fitting : length w.done ≤ length old
+  fitting = omega (arith, w.room, ap length w.whole, length-append w.done (due_in s))
 
-  pub new-long : length new ≡ length old
-  new-long = ap length t.output ∙ length-overwrite t.done old fitting
+  new-long : length new ≡ length old
+  new-long = ap length w.output ∙ length-overwrite w.done old fitting
 
-  all-written : due first second a b ≡ [] → new ≡ overwrite (pair_entries first second) old
-  all-written e =
-      t.output ∙
-      ap (λ (l : List ℕ). overwrite l old) (sym (append-nil t.done) ∙ ap (λ (l : List ℕ). t.done ++ l) (sym e) ∙ t.whole)
+  pub written : {t : Pairs} → Ends s t → new ≡ overwrite (pair_entries first second) old
+  written {t} e =
+      let none : due_in s ≡ [] = (λ i. due (sym e.first i) (sym e.second i) (sym e.a i) (sym e.b i)) ∙ due-none e in
+      w.output ∙
+      ap (λ (l : List ℕ). overwrite l old) (sym (append-nil w.done) ∙ ap (λ (l : List ℕ). w.done ++ l) (sym none) ∙ w.whole)
 
-  pub written-first : n ≤ a → new ≡ overwrite (pair_entries first second) old
-  written-first h = all-written (due-none-first t.one t.two h)
-
-  pub written-second : m ≤ b → new ≡ overwrite (pair_entries first second) old
-  written-second h = all-written (due-none-second t.one t.two h)
-
-  module _ (more-one : a < n) (more-two : b < m) {x y : ℕ} (is_x : x ≡ words_of (number_in (word_at first a))) (is_y : y ≡ words_of (number_in (word_at second b)))
-      {r : Difference} (is : DifferenceIs (words_from first a x) (words_from second b y) r) where
+  module _ {p : Pair} {t : Pairs} (u : Turns s p t) where
     abbrev entry : List ℕ
-    entry = entry_with r.differs a b r.mask
+    entry = pair_entry p.a p.b p.first.now p.second.now
 
-    whole-turn : (t.done ++ entry) ++ due first second (a + x) (b + y) ≡ pair_entries first second
-    whole-turn =
-        append_assoc t.done entry (due first second (a + x) (b + y)) ∙
-        ap (λ (l : List ℕ). t.done ++ l) (sym (due-turn t.one t.two more-one more-two is_x is_y is)) ∙
-        t.whole
+    whole-turn : (w.done ++ entry) ++ due_in t ≡ pair_entries first second
+    whole-turn = append_assoc w.done entry (due_in t) ∙ ap (λ (l : List ℕ). w.done ++ l) (sym (due-turn u)) ∙ w.whole
 
     pub turn-fits : to + length entry ≤ length new
     turn-fits =
-        omega (
-          arith,
-          new-long,
-          t.index,
-          t.room,
-          ap length whole-turn,
-          length-append (t.done ++ entry) (due first second (a + x) (b + y)),
-          length-append t.done entry,
-        )
+        omega (arith, new-long, w.index, w.room, ap length whole-turn, length-append (w.done ++ entry) (due_in t), length-append w.done entry)
 
-    pub writing-next : {next : ℕ} {new' : List ℕ} → WrittenIs entry to next new new' → Writing first n second m old new' (a + x) (b + y) next
-    writing-next w =
+    pub writing-next : {next : ℕ} {new' : List ℕ} → WrittenIs entry to next new new' → Writing first second old new' t next
+    writing-next x =
         record {
-          one = at_next t.one more-one is_x;
-          two = at_next t.two more-two is_y;
-          room = t.room;
-          done = t.done ++ entry;
-          output = w.output ∙ ap (pasted to entry) t.output ∙ pasted-after t.done entry old to (sym t.index);
-          index = omega (arith, w.after, t.index, length-append t.done entry);
+          room = w.room;
+          done = w.done ++ entry;
+          output = x.output ∙ ap (pasted to entry) w.output ∙ pasted-after w.done entry old to (sym w.index);
+          index = omega (arith, x.after, w.index, length-append w.done entry);
           whole = whole-turn;
         }
-
--- four numbers set one after the other
-four-set :
-    (xs : List ℕ) (k p q u v : ℕ) → k + 4 ≤ length xs →
-    set (set (set (set xs k p) (suc k) q) (suc (suc k)) u) (suc (suc (suc k))) v ≡ take k xs ++ (p ∷ q ∷ u ∷ v ∷ drop 4 (drop k xs))
-four-set [] k p q u v h = absurd (omega arith)
-four-set (x ∷ []) zero p q u v h = absurd (omega arith)
-four-set (x ∷ y ∷ []) zero p q u v h = absurd (omega arith)
-four-set (x ∷ y ∷ z ∷ []) zero p q u v h = absurd (omega arith)
-four-set (x ∷ y ∷ z ∷ w ∷ xs) zero p q u v h = refl
-four-set (x ∷ xs) (suc k) p q u v h = ap (λ (l : List ℕ). x ∷ l) (four-set xs k p q u v (omega arith))
-
-pub four-put :
-    (xs : List ℕ) (k p q u v : ℕ) → k + 4 ≤ length xs →
-    set (set (set (set xs k p) (k + 1) q) (k + 2) u) (k + 3) v ≡ pasted k (p ∷ q ∷ u ∷ v ∷ []) xs
-unfolding pasted overwrite
-four-put xs k p q u v h =
-    let e : k + 1 ≡ suc k = omega arith in
-    let f : k + 2 ≡ suc (suc k) = omega arith in
-    let g : k + 3 ≡ suc (suc (suc k)) = omega arith in
-    (λ i. set (set (set (set xs k p) (e i) q) (f i) u) (g i) v) ∙ four-set xs k p q u v h
 
 -- ---- the rest
 
@@ -355,9 +359,3 @@ start-inside first second room {r} e {b} is =
     let h = rest-inside first second room in
     subst (λ (x : Bool). r.start ≤ length (cond x second first)) is
     (subst (λ (x : RestStart). x.start ≤ length (cond x.second second first)) (sym e) h)
-
--- the part from a byte to the end
-pub to_end : (xs : List ℕ) (a : ℕ) → take (length xs - a) (drop a xs) ≡ drop a xs
-to_end xs a =
-    let h : length (drop a xs) ≤ length xs - a = omega (arith, length-drop a xs) in
-    take_all (length xs - a) (drop a xs) h

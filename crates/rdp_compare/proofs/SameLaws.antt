@@ -29,7 +29,7 @@ use Rattle.rdp_check.proofs.JoinLaws.{AllAlone, parsed}
 use Rattle.rdp_compare.specs.Differing.{numbers_in, field_numbers, unlike, line_index, bits_from, differing_fields}
 use Rattle.rdp_compare.specs.Entries.{differ, entry_with, pair_entry, pair_entries_from, pair_entries}
 use Rattle.rdp_compare.specs.Same.{SameCommand, AllSame}
-use Rattle.rdp_compare.specs.Steps.{OneCommand}
+use Rattle.rdp_compare.specs.Places.{OneCommand}
 use Rattle.rdp_compare.proofs.WordLaws.{bytes_same}
 use Rattle.rdp_compare.proofs.DifferingLaws.{there, no_difference, as_many}
 

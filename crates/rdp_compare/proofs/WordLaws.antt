@@ -1,10 +1,12 @@
 -- Bytes are compared by words: those of equal words are the same. Assumes nothing.
-use Prim.Native.Nat.{ℕ, ◌+◌, ◌*◌, ◌/◌, ◌%◌, ◌^◌, ◌≤◌, ◌<◌}
-use mathlib.Core.Bool.{Bool, true, false, true≢false}
+use Prim.Native.Nat.{ℕ, zero, suc, ◌+◌, ◌*◌, ◌/◌, ◌%◌, ◌^◌, ◌≤◌, ◌<◌}
+use mathlib.Core.Bool.{Bool, true, false, true≢false, ◌&&◌}
 use mathlib.Core.List.{List, [], ◌∷◌}
 use mathlib.Core.Path.{◌≡◌, refl, ap, sym, ◌∙◌}
 use native.Mathlib.Omega.{arith}
-use borrow.Author.Tests.{eq-eqb, eqb-true}
+use borrow.Author.Tests.{eq-eqb, eqb-true, eqb-false}
+use Rattle.std.specs.Cmp.Lexicographic.{pointwise}
+use Rattle.std.specs.List.{list_all, range_with_len}
 use lib.Dec.{eqb}
 use lib.ListN.{length, get_or, drop, length-drop, drop_of_length-le}
 use lib.Seq.{get_or-drop, drop-drop}
@@ -25,6 +27,14 @@ bytes_same (a ∷ xs) [] e = absurd (true≢false (sym e))
 bytes_same (a ∷ xs) (b ∷ ys) e =
     let p = and-true (eqb a b) (same_bytes xs ys) e in
     λ i. eqb-true a b p.0 i ∷ bytes_same xs ys p.1 i
+
+-- as slices are compared
+pub pointwise-same : (xs ys : List ℕ) → pointwise eqb xs ys ≡ same_bytes xs ys
+unfolding same_bytes
+pointwise-same [] [] = refl
+pointwise-same [] (b ∷ ys) = refl
+pointwise-same (a ∷ xs) [] = refl
+pointwise-same (a ∷ xs) (b ∷ ys) = ap (λ (r : Bool). eqb a b && r) (pointwise-same xs ys)
 
 -- ---- four bytes
 
@@ -105,9 +115,17 @@ module _ (c d : List ℕ) (long : length c ≡ length d) where
       (λ t. absurd (ne (word-whole c i h ∙ ap word_of (bytes_same (drop (8 * i) c) (drop (8 * i) d) t) ∙ sym (word-whole d i (omega (arith, long))))))
       (λ f. sym f)
 
-  pub words-end : length c % 8 ≡ 0 → (i : ℕ) → length c / 8 ≤ i → true ≡ same_at c d i
+  -- the words from one on, each tested
+  pub all-same :
+      Bytes c → Bytes d → length c % 8 ≡ 0 → (i m : ℕ) → i + m ≡ length c / 8 →
+      list_all (λ k. eqb (word_at c k) (word_at d k)) (range_with_len i m) ≡ same_at c d i
   unfolding same_bytes
-  words-end z i h =
-      let p : length c ≤ 8 * i = omega (arith, z, h) in
+  all-same hc hd z i zero e =
+      let p : length c ≤ 8 * i = omega (arith, z, e) in
       let q : length d ≤ 8 * i = omega (arith, p, long) in
       sym (λ j. same_bytes (drop_of_length-le c p j) (drop_of_length-le d q j))
+  all-same hc hd z i (suc m) e =
+      let h : i < length c / 8 = omega (arith, e) in
+      by-test (eqb (word_at c i) (word_at d i))
+      (λ t. rw t (all-same hc hd z (i + 1) m (omega (arith, e)) ∙ words_same hc hd i h (eqb-true _ _ t)))
+      (λ f. rw f (words-differ i h (eqb-false _ _ f)))

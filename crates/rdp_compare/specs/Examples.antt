@@ -4,8 +4,7 @@ use Rattle.rdp_words.specs.Words.{bytes_of_words, same_bytes}
 use Rattle.rdp_words.specs.Grounds.{Answer}
 use Rattle.rdp_command.specs.Decode.{answer}
 use Rattle.rdp_compare.specs.Entries.{compare_answer, entries_after}
-use Rattle.rdp_compare.specs.Part.{in_first, in_second, rest_start}
-use Rattle.rdp_compare.specs.declared.RestStart.{RestStart}
+use Rattle.rdp_compare.specs.Part.{RestStart, in_first, in_second, rest_start}
 
 abbrev same : Bool → Bool → Bool
 same true b = b

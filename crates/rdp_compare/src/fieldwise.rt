@@ -1,51 +1,27 @@
 // Which fields of two commands of one number differ.
-ghost use Rattle.std.specs.Prelude.{cond, not, ◌≡◌, ◌*◌, ◌%◌, ◌^◌, ◌<◌, ◌≤◌, eqb, length, drop};
+ghost use Rattle.std.specs.Prelude.{cond, not, eqb, ◌≡◌, ◌%◌, ◌^◌, ◌<◌, ◌≤◌, length};
 ghost use Rattle.rdp_words.specs.Words.{overwrite, same_bytes};
 ghost use Rattle.rdp_compare.specs.Differing.{field_numbers, unlike, unnamed_before, line_index, bits_from, differing_fields};
-ghost use Rattle.rdp_compare.specs.Steps.{Alike, OneCommand};
-ghost use Rattle.rdp_words.specs.Lengths.{first_number};
+ghost use Rattle.rdp_compare.specs.Places.{OneCommand};
+ghost use Rattle.rdp_compare.specs.Steps.{Alike};
 
-use rdp_command::{Base, Decoded};
-
-// Whether the words of two commands of one length are the same, from a word on.
-pub fn same_from(first: &[u8], second: &[u8], from: usize) -> bool
+// Whether two commands of one length have the same words.
+pub fn same(first: &[u8], second: &[u8]) -> bool
     requires { (length first.now ≡ length second.now) × (length first.now % 8 ≡ 0) }
-    ensures { result ≡ same_bytes (drop (8 * from) first.now) (drop (8 * from) second.now) }
+    ensures { result ≡ same_bytes first.now second.now }
 {
-    let words = first.len() / 8;
-    let mut i = from;
-    while i < words {
-        let w = rdp_words::word_at(first, i);
-        let v = rdp_words::word_at(second, i);
-        if w != v {
-            return false;
-        }
-        i += 1;
-    }
-    true
+    (0..first.len() / 8).all(|k| rdp_words::word_at(first, k) == rdp_words::word_at(second, k))
 }
 
-// Writes the numbers of a command's fields to the front, and answers their count. A command has no word beyond its own, so each reads as its base asks.
-fn numbers_of(number: u8, command: &[u8], numbers: &mut [u64]) -> usize
-    requires { (OneCommand command.now × (number ≡ first_number command.now)) × (37 ≤ length numbers.old) }
+// Writes the numbers of a command's fields to the front, and answers their count.
+fn numbers_of(command: &[u8], numbers: &mut [u64]) -> usize
+    requires { OneCommand command.now × (37 ≤ length numbers.old) }
     ensures count { (result ≡ length (field_numbers command.now)) × (result ≤ 37) }
     ensures numbers { numbers.new ≡ overwrite (field_numbers command.now) numbers.old }
 {
-    let base = Base {
-        ok: true,
-        number,
-        w0: rdp_words::word_at(command, 0),
-        w1: rdp_words::word_at(command, 1),
-        w2: rdp_words::word_at(command, 2),
-        w3: rdp_words::word_at(command, 3),
-    };
-    let decoded = rdp_command::command_or(base, 3);
-    match decoded {
-        Decoded::Whole(c) => {
-            let written = rdp_encode::fields(c, numbers);
-            return written.place as usize;
-        }
-        Decoded::Refused(_) => return 0,
+    match rdp_command::decode(command) {
+        Ok(fields) => rdp_encode::fields(fields, numbers).unwrap_or(0) as usize,
+        Err(_) => 0,
     }
 }
 
@@ -83,13 +59,12 @@ fn field_bits(number: u8, first: &[u64], second: &[u64]) -> u64
     requires { (length first.now ≡ length second.now) × (length first.now ≤ 37) }
     ensures { (result ≡ bits_from number 0 (unlike first.now second.now)) × (result < 2 ^ 40) }
 {
-    let mut sum = 0u64;
-    let mut k: usize = 0;
-    while k < first.len() {
-        sum += field_bit(number, k, first[k], second[k]);
-        k += 1;
-    }
-    sum
+    first
+        .iter()
+        .zip(second)
+        .enumerate()
+        .map(|(k, (x, y))| field_bit(number, k, *x, *y))
+        .sum()
 }
 
 // A bit for each field in which two commands differ, a triangle's suffix the last.
@@ -99,10 +74,10 @@ pub fn differing(number: u8, first: &[u8], second: &[u8]) -> u64
 {
     let mut one = [0u64; 37];
     let mut two = [0u64; 37];
-    let count = numbers_of(number, first, &mut one);
-    let other = numbers_of(number, second, &mut two);
+    let count = numbers_of(first, &mut one);
+    let other = numbers_of(second, &mut two);
     let bits = field_bits(number, &one[..count], &two[..other]);
-    if same_from(first, second, 4) {
+    if rdp_words::suffix(first) == rdp_words::suffix(second) {
         return bits;
     }
     bits + bit_of(number, count)

@@ -3,71 +3,66 @@ ghost use Rattle.std.specs.Prelude.{cond, ◌≡◌, ◌++◌, ◌*◌, ◌/◌,
 ghost use Rattle.rdp_command.specs.Decode.{answer};
 ghost use Rattle.rdp_words.specs.Words.{word_at, number_in};
 ghost use Rattle.rdp_words.specs.Kinds.{words_of};
+ghost use Rattle.rdp_words.specs.Grounds.{answered};
 ghost use Rattle.rdp_check.specs.Commands.{commands_of, rest_of, words_in};
 ghost use Rattle.rdp_check.specs.Order.{first_of};
 ghost use Rattle.rdp_check.specs.Refusals.{is_some};
 ghost use Rattle.rdp_compare.specs.Entries.{decode_grounds};
 ghost use Rattle.rdp_compare.specs.Steps.{decode_answer};
 
-use rdp_command::Answer;
+use rdp_words::{Answer, Ground, Refusal};
 
 // The words of the command at a place, by its number.
 pub fn words_at(list: &[u8], place: usize) -> usize
     ensures { result ≡ words_of (number_in (word_at list.now place)) }
 {
-    rdp_words::words_of(rdp_words::number_in(rdp_words::word_at(list, place)))
+    rdp_words::words_of(rdp_words::number_at(list, place))
 }
 
-// The commands of a list of whole words: 3 at one that runs past the end, or 0 at the number of words.
+// The commands of a list of whole words: 3 at one that runs past the end, or the number of words.
 fn cut_at(list: &[u8], words: usize) -> Answer
     requires { (length list.now ≡ 8 * words) × (words ≤ 4096) }
-    ensures { result ≡ cond (is_some (rest_of list.now)) (answer 3 (words_in (commands_of list.now))) (answer 0 words) }
+    ensures { answered result ≡ cond (is_some (rest_of list.now)) (answer 3 (words_in (commands_of list.now))) (answer 0 words) }
 {
     let mut at: usize = 0;
     while at < words {
         let count = words_at(list, at);
         if words - at < count {
-            return Answer {
-                number: 3,
+            return Err(Refusal {
+                ground: Ground::Cut,
                 place: at as u32,
-            };
+            });
         }
         at += count;
     }
-    Answer {
-        number: 0,
-        place: words as u32,
-    }
+    Ok(words as u32)
 }
 
-// The first of grounds 1, 2 and 3 that holds, or 0 at the number of words.
+// The first of grounds 1, 2 and 3 that holds, or the number of words.
 fn first_ground(list: &[u8]) -> Answer
-    ensures { result ≡ decode_answer list.now }
+    ensures { answered result ≡ decode_answer list.now }
 {
     let len = list.len();
     if rdp_check::MOST_BYTES < len {
-        return Answer {
-            number: 1,
+        return Err(Refusal {
+            ground: Ground::TooLong,
             place: rdp_check::MOST_WORDS,
-        };
+        });
     }
     let words = len / 8;
     if len % 8 != 0 {
-        return Answer {
-            number: 2,
+        return Err(Refusal {
+            ground: Ground::NotWords,
             place: words as u32,
-        };
+        });
     }
     cut_at(list, words)
 }
 
-// The first ground of the first list, then of the second, or 0 at the words of the second.
+// The first ground of the first list, then of the second, or the words of the second.
 pub fn of_both(first: &[u8], second: &[u8]) -> Answer
-    ensures { result ≡ first_of (decode_grounds first.now ++ decode_grounds second.now) (answer 0 (length second.now / 8)) }
+    ensures { answered result ≡ first_of (decode_grounds first.now ++ decode_grounds second.now) (answer 0 (length second.now / 8)) }
 {
-    let one = first_ground(first);
-    if one.number != 0 {
-        return one;
-    }
+    first_ground(first)?;
     first_ground(second)
 }

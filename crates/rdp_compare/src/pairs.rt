@@ -1,164 +1,81 @@
-// The commands of two lists that decode, paired by index.
-ghost use Rattle.std.specs.Prelude.{cond, [], ◌∷◌, ◌≡◌, ◌+◌, ◌*◌, ◌/◌, ◌%◌, ◌^◌, ◌≤◌, ltb, length};
-ghost use Rattle.rdp_words.specs.Words.{overwrite, pasted, WrittenIs};
-ghost use Rattle.rdp_compare.specs.Entries.{entry_with, pair_entries};
-ghost use Rattle.rdp_compare.specs.Part.{in_first, in_second};
-ghost use Rattle.rdp_compare.specs.Steps.{Decodable, words_from, OneCommand, DifferenceIs, PairedIs};
+// The commands of two lists that decode, paired by index from the first command.
+ghost use Rattle.std.specs.Prelude.{◌≡◌, ◌*◌, ◌/◌, ◌≤◌, length};
+ghost use Rattle.rdp_compare.specs.Places.{Decodable, At, OneCommand};
 
 use crate::grounds::words_at;
-use crate::{fieldwise, *};
 
-// Whether two commands differ, and in which fields.
+// Two commands and their places.
 #[derive(Clone, Copy)]
-pub struct Difference {
-    pub differs: bool,
-    pub mask: u64,
+pub struct Pair<'a> {
+    pub a: usize,
+    pub first: &'a [u8],
+    pub b: usize,
+    pub second: &'a [u8],
+    ghost one: { OneCommand first.now },
+    ghost two: { OneCommand second.now },
+    ghost few: { (a ≤ 4096) × (b ≤ 4096) },
 }
 
-// The numbers of the entries of paired commands, and the places after these commands.
+// The pairs from a place of each list on.
 #[derive(Clone, Copy)]
-pub struct Paired {
-    pub count: usize,
+pub struct Pairs<'a> {
+    pub first: &'a [u8],
+    pub second: &'a [u8],
     pub a: usize,
     pub b: usize,
+    ghost one: { At first.now (length first.now / 8) a },
+    ghost two: { At second.now (length second.now / 8) b },
 }
 
-// How two commands differ.
-fn compared(first: &[u8], second: &[u8]) -> Difference
-    requires { OneCommand first.now × OneCommand second.now }
-    ensures { DifferenceIs first.now second.now result }
-{
-    let n = rdp_words::number_in(rdp_words::word_at(first, 0));
-    let m = rdp_words::number_in(rdp_words::word_at(second, 0));
-    if n != m {
-        return Difference {
-            differs: true,
-            mask: 0,
-        };
-    }
-    if fieldwise::same_from(first, second, 0) {
-        return Difference {
-            differs: false,
-            mask: 0,
-        };
-    }
-    let mask = fieldwise::differing(n, first, second);
-    Difference {
-        differs: mask != 0,
-        mask,
-    }
-}
-
-// How the commands of so many words at places of two lists differ.
-fn difference_at(first: &[u8], a: usize, x: usize, second: &[u8], b: usize, y: usize) -> Difference
-    requires { ((8 * (a + x) ≤ length first.now) × (8 * (b + y) ≤ length second.now))
-        × (OneCommand (words_from first.now a x) × OneCommand (words_from second.now b y)) }
-    ensures { DifferenceIs (words_from first.now a x) (words_from second.now b y) result }
-{
-    let i = 8 * a;
-    let i_end = i + 8 * x;
-    let j = 8 * b;
-    let j_end = j + 8 * y;
-    compared(&first[i..i_end], &second[j..j_end])
-}
-
-// The numbers of an entry, or none.
-fn entry_len(d: Difference) -> usize
-    ensures { result ≡ length (entry_with d.differs 0 0 d.mask) }
-{
-    if d.differs {
-        return 4;
-    }
-    0
-}
-
-// How many numbers the entries of two lists have, and the places after the paired commands.
-pub fn count_pairs(first: &[u8], n: usize, second: &[u8], m: usize) -> Paired
-    requires { Decodable first.now n × Decodable second.now m }
-    ensures { PairedIs first.now n second.now m result }
-{
-    let mut a: usize = 0;
-    let mut b: usize = 0;
-    let mut count: usize = 0;
-    while a < n {
-        if m <= b {
-            return Paired { count, a, b };
+impl<'a> Pairs<'a> {
+    pub fn new(first: &'a [u8], second: &'a [u8]) -> Pairs<'a>
+        requires { Decodable first.now (length first.now / 8) × Decodable second.now (length second.now / 8) }
+        ensures { ((result.first.now ≡ first.now) × (result.second.now ≡ second.now)) × ((result.a ≡ 0) × (result.b ≡ 0)) }
+    {
+        Pairs {
+            first,
+            second,
+            a: 0,
+            b: 0,
         }
-        let x = words_at(first, a);
-        let y = words_at(second, b);
-        count += entry_len(difference_at(first, a, x, second, b, y));
-        a += x;
-        b += y;
     }
-    Paired { count, a, b }
 }
 
-// Writes four numbers at an index.
-fn put_four(entries: &mut [u32], to: usize, a: usize, b: usize, mask: u64)
-    requires { (to + 4 ≤ length entries.old) × ((a ≤ 4096) × (b ≤ 4096)) }
-    ensures { entries.new ≡ pasted to (a ∷ b ∷ mask / 2 ^ 32 ∷ mask % 2 ^ 32 ∷ []) entries.old }
-{
-    entries[to] = a as u32;
-    entries[to + 1] = b as u32;
-    entries[to + 2] = (mask >> 32) as u32;
-    entries[to + 3] = (mask % 0x1_0000_0000) as u32;
-}
+impl<'a> Iterator for Pairs<'a> {
+    ghost use Rattle.std.specs.Prelude.{◌-◌, ◌/◌, length};
+    ghost use Rattle.std.specs.Iterator.{at_most};
+    ghost use Rattle.rdp_compare.specs.Steps.{Turn};
 
-// Writes an entry, or nothing, at an index, and answers the index after it.
-fn put_entry(entries: &mut [u32], to: usize, a: usize, b: usize, d: Difference) -> usize
-    requires { (to + length (entry_with d.differs a b d.mask) ≤ length entries.old) × ((a ≤ 4096) × (b ≤ 4096)) }
-    ensures { WrittenIs (entry_with d.differs a b d.mask) to result entries.old entries.new }
-{
-    if d.differs {
-        put_four(entries, to, a, b, d.mask);
-        return to + 4;
-    }
-    to
-}
+    type Item = Pair<'a>;
 
-// Writes the entries of two lists.
-pub fn write_entries(first: &[u8], n: usize, second: &[u8], m: usize, entries: &mut [u32])
-    requires { Decodable first.now n × (Decodable second.now m × (length (pair_entries first.now second.now) ≤ length entries.old)) }
-    ensures { entries.new ≡ overwrite (pair_entries first.now second.now) entries.old }
-{
-    let mut a: usize = 0;
-    let mut b: usize = 0;
-    let mut to: usize = 0;
-    while a < n {
-        if m <= b {
-            return;
+    ghost next_gives = { Turn };
+
+    ghost remaining = { λ s. at_most (length s.first.now / 8 - s.a) };
+
+    #[inline]
+    fn next(&mut self) -> Option<Pair<'a>> {
+        let Pairs {
+            first,
+            second,
+            a,
+            b,
+        } = *self;
+        if first.len() / 8 <= a || second.len() / 8 <= b {
+            return None;
         }
-        let x = words_at(first, a);
-        let y = words_at(second, b);
-        let d = difference_at(first, a, x, second, b, y);
-        to = put_entry(entries, to, a, b, d);
-        a += x;
-        b += y;
-    }
-}
-
-// Where the rest begins after the paired commands of lists of n and m words, the first of which ends at this byte.
-pub fn longer(end: usize, n: usize, m: usize, p: Paired) -> RestStart
-    requires { ((p.a ≤ n) × (n ≤ 4096)) × ((p.b ≤ m) × (m ≤ 4096)) }
-    ensures { result ≡ cond (ltb p.a n) (in_first 0 (8 * p.a)) (cond (ltb p.b m) (in_second (8 * p.b)) (in_first 0 end)) }
-{
-    if p.a < n {
-        return RestStart {
-            number: 0,
-            second: false,
-            start: 8 * p.a,
+        let a_end = a + words_at(first, a);
+        let b_end = b + words_at(second, b);
+        *self = Pairs {
+            first,
+            second,
+            a: a_end,
+            b: b_end,
         };
-    }
-    if p.b < m {
-        return RestStart {
-            number: 0,
-            second: true,
-            start: 8 * p.b,
-        };
-    }
-    RestStart {
-        number: 0,
-        second: false,
-        start: end,
+        Some(Pair {
+            a,
+            first: &first[8 * a..8 * a_end],
+            b,
+            second: &second[8 * b..8 * b_end],
+        })
     }
 }

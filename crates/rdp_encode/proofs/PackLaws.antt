@@ -11,7 +11,7 @@ use Rattle.rdp_encode.specs.Numbers.{value_from, each_fits}
 use Rattle.rdp_encode.specs.declared.table.BitLine.{BitLine}
 
 -- a power of two as the code shifts it
-power : (k : ℕ) → k < 64 → 1 * 2 ^ k % 2 ^ 64 ≡ 2 ^ k
+pub power : (k : ℕ) → k < 64 → 1 * 2 ^ k % 2 ^ 64 ≡ 2 ^ k
 power k h = ap (λ (x : ℕ). x % 2 ^ 64) (one-mul (2 ^ k)) ∙ mod-eq_of_lt (pow-lt h)
 
 pub placed_at : (l : Line) → Readable l → (n : ℕ) {w : ℕ} → w ≡ width l → n % (1 * 2 ^ w % 2 ^ 64) * 2 ^ l.low % 2 ^ 64 ≡ at_line l n

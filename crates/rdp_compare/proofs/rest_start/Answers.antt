@@ -1,45 +1,17 @@
-use mathlib.Core.Path.{◌∙◌}
-use native.Mathlib.Nat.{suc-ne-zero}
-use Rattle.rdp_compare.proofs.GroundLaws.{first-sound, second-sound, not-decoded, no_room, enough, refused_end, handed}
+use Rattle.std.proofs.Common.{length, sym, ◌∙◌}
+use Rattle.std.proofs.lemmas.Result.{err_from_is_err_and}
+use Rattle.rdp_words.proofs.GroundLaws.{refused-number}
+use Rattle.rdp_compare.proofs.GroundLaws.{refused_end, handed, same_place}
 use Rattle.rdp_compare.proofs.rest_start.Goals as goal
 
-pub returns-then-found-ne0 : goal.returns-then-found-ne0
-returns-then-found-ne0 c =
-    let s = c.args in
-    let one = s.first.now in
-    let two = s.second.now in
-    refused_end one two s.room (not-decoded one two s.room c.of_both-found.ensures c.if-found-ne0.true) c.if-found-ne0.true
-
-pub count_pairs-p-requires : goal.count_pairs-p-requires
-count_pairs-p-requires c =
-    let s = c.args in
-    let is = c.of_both-found.ensures in
-    (first-sound s.first.now s.second.now is c.if-found-ne0.false, second-sound s.first.now s.second.now is c.if-found-ne0.false)
-
-pub returns-then-room-p : goal.returns-then-room-p
-returns-then-room-p c =
-    let s = c.args in
-    let one = s.first.now in
-    let two = s.second.now in
-    refused_end one two s.room
-    (no_room one two s.room c.of_both-found.ensures c.if-found-ne0.false
-    c.count_pairs-p.ensures.count c.if-room-p.true) (suc-ne-zero 13)
-
-pub longer-requires : goal.longer-requires
-longer-requires c =
-    let s = c.args in
-    let is = c.of_both-found.ensures in
-    let zero = c.if-found-ne0.false in
-    let p = c.count_pairs-p.ensures in
-    ((p.one, (first-sound s.first.now s.second.now is zero).few), (p.two, (second-sound s.first.now s.second.now is zero).few))
+pub returns-in_err-pairs : goal.returns-in_err-pairs
+returns-in_err-pairs c =
+    let p = err_from_is_err_and c.from_residual.result c.from_residual.ensures.1 in
+    let e = c.in_err-pairs.field-0.0 in
+    rw (p.1, p.2) (refused_end c.args.first.now c.args.second.now c.args.room (sym c.in_err-pairs.ensures) (refused-number e.ground))
 
 pub returns : goal.returns
 returns c =
-    let s = c.args in
-    let one = s.first.now in
-    let two = s.second.now in
-    let p = c.count_pairs-p.ensures in
-    handed one two s.room
-    (enough one two s.room c.of_both-found.ensures c.if-found-ne0.false p.count
-    c.if-room-p.false)
-    (c.longer.ensures ∙ p.rest)
+    let first = c.args.first.now in
+    let all = c.in_ok-pairs.ensures in
+    handed first c.args.second.now c.args.room (sym all.answers) (same_place (length first) 0 c.rest_after.result ∙ c.rest_after.ensures ∙ all.rest)

@@ -1,8 +1,10 @@
-use mathlib.Core.Path.{◌≡◌, ap, sym, ◌∙◌}
+use mathlib.Core.Path.{◌≡◌, refl, ap, sym, ◌∙◌}
 use native.Mathlib.Omega.{arith}
 use lib.ListN.{length, take}
+use Rattle.rdp_words.specs.Words.{same_bytes}
+use Rattle.rdp_compare.proofs.WordLaws.{pointwise-same}
 use Rattle.rdp_compare.specs.Differing.{field_numbers}
-use Rattle.rdp_compare.proofs.DifferingLaws.{as_long, as_many, in-words, front, same-suffix, other-suffix}
+use Rattle.rdp_compare.proofs.DifferingLaws.{as_many, front, same-suffix, other-suffix}
 use borrow.Author.Rules.{rules}
 use Rattle.rdp_compare.proofs.fieldwise.differing.Goals.{After-numbers_of-count, After-numbers_of-other}
 use Rattle.rdp_compare.proofs.fieldwise.differing.Goals as goal
@@ -19,10 +21,10 @@ seconds :
 seconds c = front c.args.second.now c.numbers_of-other.ensures.count.0 _ c.numbers_of-other.ensures.numbers
 
 pub numbers_of-count-requires : goal.numbers_of-count-requires
-numbers_of-count-requires c = let a = c.requires in ((a.one, a.first), search rules)
+numbers_of-count-requires c = let a = c.requires in (a.one, search rules)
 
 pub numbers_of-other-requires : goal.numbers_of-other-requires
-numbers_of-other-requires c = let a = c.requires in ((a.two, a.second), search rules)
+numbers_of-other-requires c = let a = c.requires in (a.two, search rules)
 
 pub slice_bounds-field_bits-end : goal.slice_bounds-field_bits-end
 slice_bounds-field_bits-end c =
@@ -41,14 +43,12 @@ field_bits-bits-requires c =
           (rw (sym c.numbers_of-count.ensures.count.0) c.numbers_of-count.ensures.count.1),
     )
 
-pub same_from-requires : goal.same_from-requires
-same_from-requires c = let a = c.requires in (as_long a, in-words a)
-
-pub returns-then-same_from : goal.returns-then-same_from
-returns-then-same_from c =
-    let a = c.requires in
-    same-suffix a c.numbers_of-count.ensures.count.0 c.numbers_of-other.ensures.count.0 (firsts (goal.at.returns-then-same_from c).After-numbers_of-count) (seconds (goal.at.returns-then-same_from c).After-numbers_of-other) c.field_bits-bits.ensures.0
-    c.same_from.ensures c.if-same_from.true
+pub returns-then-eq : goal.returns-then-eq
+returns-then-eq c =
+    let there = (goal.at.returns-then-eq c).After-numbers_of-other in
+    same-suffix c.requires c.numbers_of-count.ensures.count.0 c.numbers_of-other.ensures.count.0
+    (firsts (goal.at.returns-then-eq c).After-numbers_of-count) (seconds there) c.field_bits-bits.ensures.0 refl
+    ((λ i. same_bytes (sym c.suffix.ensures.bytes i) (sym c.suffix-2.ensures.bytes i)) ∙ sym (pointwise-same c.suffix.result.now c.suffix-2.result.now) ∙ sym c.eq.ensures ∙ c.if-eq.true)
 
 pub bit_of-requires : goal.bit_of-requires
 bit_of-requires c = c.numbers_of-count.ensures.count.1
@@ -58,6 +58,7 @@ overflow_add-result c = omega (arith, c.bit_of.ensures.1, c.field_bits-bits.ensu
 
 pub returns : goal.returns
 returns c =
-    let a = c.requires in
-    other-suffix a c.numbers_of-count.ensures.count.0 c.numbers_of-other.ensures.count.0 (firsts (goal.at.returns c).After-numbers_of-count) (seconds (goal.at.returns c).After-numbers_of-other)
-    c.field_bits-bits.ensures.0 c.same_from.ensures c.if-same_from.false c.bit_of.ensures.0
+    let there = (goal.at.returns c).After-numbers_of-other in
+    other-suffix c.requires c.numbers_of-count.ensures.count.0 c.numbers_of-other.ensures.count.0
+    (firsts (goal.at.returns c).After-numbers_of-count) (seconds there) c.field_bits-bits.ensures.0 refl
+    ((λ i. same_bytes (sym c.suffix.ensures.bytes i) (sym c.suffix-2.ensures.bytes i)) ∙ sym (pointwise-same c.suffix.result.now c.suffix-2.result.now) ∙ sym c.eq.ensures ∙ c.if-eq.false) c.bit_of.ensures.0
