@@ -1,29 +1,28 @@
 -- The registers as one number.
 use Rattle.std.specs.Prelude.{ℕ, ◌+◌, ◌*◌, ◌/◌, ◌%◌, ◌^◌, Bool, false, List, [], ◌∷◌}
+use Rattle.std.specs.List.{fold}
 use Rattle.std.specs.Int.Bits.{bit_or, bit_xor}
 use mir.Val.{bool_byte}
+use Rattle.rdp_command.specs.declared.Color.{Color}
+use Rattle.rdp_command.specs.declared.PrimitiveColor.{PrimitiveColor}
+use Rattle.rdp_command.specs.declared.KeyGb.{KeyGb}
+use Rattle.rdp_command.specs.declared.KeyR.{KeyR}
+use Rattle.rdp_command.specs.declared.Convert.{Convert}
+use Rattle.rdp_command.specs.declared.OtherModes.{OtherModes}
+use Rattle.rdp_command.specs.declared.PrimitiveDepth.{PrimitiveDepth}
+use Rattle.rdp_command.specs.declared.Scissor.{Scissor}
+use Rattle.rdp_command.specs.declared.Image.{Image}
 use Rattle.rdp_command.specs.declared.TileDescriptor.{TileDescriptor}
 use Rattle.rdp_command.specs.declared.TextureModes.{TextureModes}
 use Rattle.rdp_command.specs.declared.BlenderInputs.{BlenderInputs}
 use Rattle.rdp_command.specs.declared.PixelModes.{PixelModes}
-use Rattle.rdp_check.specs.declared.FillColorRegister.{FillColorRegister}
-use Rattle.rdp_check.specs.declared.ColorRegister.{ColorRegister}
-use Rattle.rdp_check.specs.declared.PrimitiveColorRegister.{PrimitiveColorRegister}
-use Rattle.rdp_check.specs.declared.CombineRegister.{CombineRegister}
-use Rattle.rdp_check.specs.declared.KeyGbRegister.{KeyGbRegister}
-use Rattle.rdp_check.specs.declared.KeyRRegister.{KeyRRegister}
-use Rattle.rdp_check.specs.declared.ConvertRegister.{ConvertRegister}
-use Rattle.rdp_check.specs.declared.OtherModesRegister.{OtherModesRegister}
-use Rattle.rdp_check.specs.declared.PrimitiveDepthRegister.{PrimitiveDepthRegister}
-use Rattle.rdp_check.specs.declared.ScissorRegister.{ScissorRegister}
-use Rattle.rdp_check.specs.declared.ImageRegister.{ImageRegister}
-use Rattle.rdp_check.specs.declared.DepthImageRegister.{DepthImageRegister}
+use Rattle.rdp_check.specs.declared.Register.{Register}
 use Rattle.rdp_check.specs.declared.Tile.{Tile}
 use Rattle.rdp_check.specs.declared.Colors.{Colors}
 use Rattle.rdp_check.specs.declared.Combiner.{Combiner}
 use Rattle.rdp_check.specs.declared.Modes.{Modes}
 use Rattle.rdp_check.specs.declared.Images.{Images}
-use Rattle.rdp_state.specs.declared.ListState.{ListState}
+use Rattle.rdp_state.specs.After.{ListState}
 
 -- ---- numbers into one
 
@@ -53,56 +52,51 @@ mixed_halves a b c d = laid 16 16 a (b ∷ c ∷ d ∷ [])
 
 -- ---- the registers, their groups and the tiles
 
-abbrev pub mixed_fill_color : FillColorRegister → ℕ
-mixed_fill_color g = laid 8 8 (bool_byte g.set) (g.color ∷ [])
+-- a register of one number
+abbrev pub mixed_number : Bool → ℕ → ℕ
+mixed_number set value = laid 8 8 (bool_byte set) (value ∷ [])
 
-abbrev pub mixed_combine : CombineRegister → ℕ
-mixed_combine g = laid 8 8 (bool_byte g.set) (g.mode ∷ [])
+abbrev pub mixed_image : Register Image → ℕ
+mixed_image g = laid 9 9 (bool_byte g.set) (g.value.format ∷ g.value.size ∷ g.value.width ∷ g.value.address ∷ [])
 
-abbrev pub mixed_image : ImageRegister → ℕ
-mixed_image g = laid 9 9 (bool_byte g.set) (g.image.format ∷ g.image.size ∷ g.image.width ∷ g.image.address ∷ [])
+abbrev pub mixed_color : Register Color → ℕ
+mixed_color g = mixed_five (mixed_flag g.set) (mixed_bytes g.value.red g.value.green g.value.blue g.value.alpha) 0 0 0
 
-abbrev pub mixed_depth_image : DepthImageRegister → ℕ
-mixed_depth_image g = laid 8 8 (bool_byte g.set) (g.address ∷ [])
-
-abbrev pub mixed_color : ColorRegister → ℕ
-mixed_color g = mixed_five (mixed_flag g.set) (mixed_bytes g.color.red g.color.green g.color.blue g.color.alpha) 0 0 0
-
-abbrev pub mixed_primitive_color : PrimitiveColorRegister → ℕ
+abbrev pub mixed_primitive_color : Register PrimitiveColor → ℕ
 mixed_primitive_color g =
     mixed_five
     (mixed_flag g.set)
-    (mixed_bytes g.color.min_level g.color.prim_lod_frac 0 0)
-    (mixed_bytes g.color.color.red g.color.color.green g.color.color.blue g.color.color.alpha)
+    (mixed_bytes g.value.min_level g.value.prim_lod_frac 0 0)
+    (mixed_bytes g.value.color.red g.value.color.green g.value.color.blue g.value.color.alpha)
     0
     0
 
 abbrev pub mixed_colors : Colors → ℕ
-mixed_colors g = mixed_five (mixed_fill_color g.fill) (mixed_color g.fog) (mixed_color g.blend) (mixed_primitive_color g.primitive) (mixed_color g.environment)
+mixed_colors g = mixed_five (mixed_number g.fill.set g.fill.value) (mixed_color g.fog) (mixed_color g.blend) (mixed_primitive_color g.primitive) (mixed_color g.environment)
 
-abbrev pub mixed_key_gb : KeyGbRegister → ℕ
+abbrev pub mixed_key_gb : Register KeyGb → ℕ
 mixed_key_gb g =
     mixed_five
     (mixed_flag g.set)
-    (mixed_halves g.key.width_g g.key.width_b 0 0)
-    (mixed_bytes g.key.center_g g.key.scale_g g.key.center_b g.key.scale_b)
+    (mixed_halves g.value.width_g g.value.width_b 0 0)
+    (mixed_bytes g.value.center_g g.value.scale_g g.value.center_b g.value.scale_b)
     0
     0
 
-abbrev pub mixed_key_r : KeyRRegister → ℕ
-mixed_key_r g = mixed_five (mixed_flag g.set) (mixed_halves g.key.width_r 0 0 0) (mixed_bytes g.key.center_r g.key.scale_r 0 0) 0 0
+abbrev pub mixed_key_r : Register KeyR → ℕ
+mixed_key_r g = mixed_five (mixed_flag g.set) (mixed_halves g.value.width_r 0 0 0) (mixed_bytes g.value.center_r g.value.scale_r 0 0) 0 0
 
-abbrev pub mixed_convert : ConvertRegister → ℕ
+abbrev pub mixed_convert : Register Convert → ℕ
 mixed_convert g =
     mixed_five
     (mixed_flag g.set)
-    (mixed_halves g.convert.k0 g.convert.k1 g.convert.k2 g.convert.k3)
-    (mixed_halves g.convert.k4 g.convert.k5 0 0)
+    (mixed_halves g.value.k0 g.value.k1 g.value.k2 g.value.k3)
+    (mixed_halves g.value.k4 g.value.k5 0 0)
     0
     0
 
 abbrev pub mixed_combiner : Combiner → ℕ
-mixed_combiner g = mixed_five (mixed_combine g.combine) (mixed_key_gb g.key_gb) (mixed_key_r g.key_r) (mixed_convert g.convert) 0
+mixed_combiner g = mixed_five (mixed_number g.combine.set g.combine.value) (mixed_key_gb g.key_gb) (mixed_key_r g.key_r) (mixed_convert g.convert) 0
 
 abbrev pub mixed_texture_modes : TextureModes → ℕ
 mixed_texture_modes m =
@@ -131,23 +125,23 @@ mixed_pixel_modes m =
     (mixed_bytes m.z_mode m.cvg_dest 0 0)
     0
 
-abbrev pub mixed_other_modes : OtherModesRegister → ℕ
+abbrev pub mixed_other_modes : Register OtherModes → ℕ
 mixed_other_modes g =
     mixed_five
-    (mixed_bits g.set g.modes.atomic_prim g.modes.key_en false)
-    (mixed_bytes g.modes.cycle_type g.modes.rgb_dither_sel g.modes.alpha_dither_sel 0)
-    (mixed_texture_modes g.modes.texture)
-    (mixed_blender_inputs g.modes.blender)
-    (mixed_pixel_modes g.modes.pixel)
+    (mixed_bits g.set g.value.atomic_prim g.value.key_en false)
+    (mixed_bytes g.value.cycle_type g.value.rgb_dither_sel g.value.alpha_dither_sel 0)
+    (mixed_texture_modes g.value.texture)
+    (mixed_blender_inputs g.value.blender)
+    (mixed_pixel_modes g.value.pixel)
 
-abbrev pub mixed_depth : PrimitiveDepthRegister → ℕ
-mixed_depth g = mixed_five (mixed_flag g.set) (mixed_halves g.depth.z g.depth.dz 0 0) 0 0 0
+abbrev pub mixed_depth : Register PrimitiveDepth → ℕ
+mixed_depth g = mixed_five (mixed_flag g.set) (mixed_halves g.value.z g.value.dz 0 0) 0 0 0
 
-abbrev pub mixed_scissor : ScissorRegister → ℕ
+abbrev pub mixed_scissor : Register Scissor → ℕ
 mixed_scissor g =
     mixed_five
-    (mixed_bits g.set g.scissor.field g.scissor.odd false)
-    (mixed_halves g.scissor.upper_left.x g.scissor.upper_left.y g.scissor.lower_right.x g.scissor.lower_right.y)
+    (mixed_bits g.set g.value.field g.value.odd false)
+    (mixed_halves g.value.upper_left.x g.value.upper_left.y g.value.lower_right.x g.value.lower_right.y)
     0
     0
     0
@@ -156,7 +150,7 @@ abbrev pub mixed_modes : Modes → ℕ
 mixed_modes g = mixed_five (mixed_other_modes g.other) (mixed_depth g.depth) (mixed_scissor g.scissor) 0 0
 
 abbrev pub mixed_images : Images → ℕ
-mixed_images g = mixed_five (mixed_image g.color) (mixed_image g.texture) (mixed_depth_image g.depth) 0 0
+mixed_images g = mixed_five (mixed_image g.color) (mixed_image g.texture) (mixed_number g.depth.set g.depth.value) 0 0
 
 abbrev pub mixed_descriptor : TileDescriptor → ℕ
 mixed_descriptor d =
@@ -170,15 +164,14 @@ mixed_descriptor d =
 abbrev pub mixed_tile : ℕ → Tile → ℕ
 mixed_tile h t =
     mixed_five
-    (mixed_bits t.set t.sized false false)
-    (mixed_descriptor t.descriptor)
-    (mixed_halves t.upper_left.s t.upper_left.t t.lower_right.s t.lower_right.t)
+    (mixed_bits t.descriptor.set t.size.set false false)
+    (mixed_descriptor t.descriptor.value)
+    (mixed_halves t.size.value.upper_left.s t.size.value.upper_left.t t.size.value.lower_right.s t.size.value.lower_right.t)
     h
     0
 
 abbrev pub mixed_tiles : ℕ → List Tile → ℕ
-mixed_tiles h [] = h
-mixed_tiles h (t ∷ ts) = mixed_tiles (mixed_tile h t) ts
+mixed_tiles h ts = fold mixed_tile h ts
 
 -- ---- the state after a list
 

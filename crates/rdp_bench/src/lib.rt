@@ -3,20 +3,20 @@
 #![tactic(auto)]
 
 ghost use Rattle.std.specs.Prelude.{◌≡◌};
+ghost use Rattle.rdp_words.specs.Grounds.{answered};
 ghost use Rattle.rdp_state.specs.After.{list_state_of};
-ghost use Rattle.rdp_bench.specs.Mixed.{mixed_five, mixed_flag, mixed_bits, mixed_bytes, mixed_halves, mixed_fill_color, mixed_color, mixed_primitive_color, mixed_combine, mixed_key_gb, mixed_key_r, mixed_convert, mixed_texture_modes, mixed_blender_inputs, mixed_pixel_modes, mixed_other_modes, mixed_depth, mixed_scissor, mixed_image, mixed_depth_image, mixed_descriptor, mixed_colors, mixed_combiner, mixed_modes, mixed_images, mixed_tile, mixed_tiles, mixed_answer, mixed_of};
+ghost use Rattle.rdp_bench.specs.Mixed.{mixed_five, mixed_flag, mixed_bits, mixed_bytes, mixed_halves, mixed_number, mixed_color, mixed_primitive_color, mixed_key_gb, mixed_key_r, mixed_convert, mixed_texture_modes, mixed_blender_inputs, mixed_pixel_modes, mixed_other_modes, mixed_depth, mixed_scissor, mixed_image, mixed_descriptor, mixed_colors, mixed_combiner, mixed_modes, mixed_images, mixed_tile, mixed_tiles, mixed_answer, mixed_of};
 
 use rdp_check::*;
 use rdp_command::*;
+use rdp_words::Answer;
 
 // Five numbers, each turned by thirteen bits more than the one before.
+#[tactic(auto, unfolding(crate::specs::Mixed::mixed_five))]
 fn join(a: u64, b: u64, c: u64, d: u64, e: u64) -> u64
     ensures { result ≡ mixed_five a b c d e }
 {
-    a ^ ((b << 13) | (b >> 51))
-        ^ ((c << 26) | (c >> 38))
-        ^ ((d << 39) | (d >> 25))
-        ^ ((e << 52) | (e >> 12))
+    a ^ b.rotate_left(13) ^ c.rotate_left(26) ^ d.rotate_left(39) ^ e.rotate_left(52)
 }
 
 fn flag(a: bool) -> u64
@@ -25,6 +25,7 @@ fn flag(a: bool) -> u64
     a as u64
 }
 
+// bits, bytes and halves stay three: in one function over u64 each call would widen its four values.
 fn bits(a: bool, b: bool, c: bool, d: bool) -> u64
     ensures { result ≡ mixed_bits a b c d }
 {
@@ -43,50 +44,39 @@ fn halves(a: u16, b: u16, c: u16, d: u16) -> u64
     (a as u64) ^ ((b as u64) << 16) ^ ((c as u64) << 32) ^ ((d as u64) << 48)
 }
 
-fn fill_color(g: FillColorRegister) -> u64
-    ensures { result ≡ mixed_fill_color g }
+// A register of one number: the fill colour, the combine mode, the address of the depth image.
+fn number(set: bool, value: u64) -> u64
+    ensures { result ≡ mixed_number set value }
 {
-    (g.set as u64) ^ ((g.color as u64) << 8)
+    (set as u64) ^ (value << 8)
 }
 
-fn combine(g: CombineRegister) -> u64
-    ensures { result ≡ mixed_combine g }
-{
-    (g.set as u64) ^ (g.mode << 8)
-}
-
-fn image(g: ImageRegister) -> u64
+fn image(g: Register<Image>) -> u64
     ensures { result ≡ mixed_image g }
 {
     (g.set as u64)
-        ^ ((g.image.format as u64) << 9)
-        ^ ((g.image.size as u64) << 18)
-        ^ ((g.image.width as u64) << 27)
-        ^ ((g.image.address as u64) << 36)
+        ^ ((g.value.format as u64) << 9)
+        ^ ((g.value.size as u64) << 18)
+        ^ ((g.value.width as u64) << 27)
+        ^ ((g.value.address as u64) << 36)
 }
 
-fn depth_image(g: DepthImageRegister) -> u64
-    ensures { result ≡ mixed_depth_image g }
-{
-    (g.set as u64) ^ ((g.address as u64) << 8)
-}
-
-fn color(g: ColorRegister) -> u64
+fn color(g: Register<Color>) -> u64
     ensures { result ≡ mixed_color g }
 {
     join(
         flag(g.set),
-        bytes(g.color.red, g.color.green, g.color.blue, g.color.alpha),
+        bytes(g.value.red, g.value.green, g.value.blue, g.value.alpha),
         0,
         0,
         0,
     )
 }
 
-fn primitive_color(g: PrimitiveColorRegister) -> u64
+fn primitive_color(g: Register<PrimitiveColor>) -> u64
     ensures { result ≡ mixed_primitive_color g }
 {
-    let c = g.color;
+    let c = g.value;
     join(
         flag(g.set),
         bytes(c.min_level, c.prim_lod_frac, 0, 0),
@@ -100,7 +90,7 @@ fn colors(g: Colors) -> u64
     ensures { result ≡ mixed_colors g }
 {
     join(
-        fill_color(g.fill),
+        number(g.fill.set, u64::from(g.fill.value)),
         color(g.fog),
         color(g.blend),
         primitive_color(g.primitive),
@@ -108,37 +98,42 @@ fn colors(g: Colors) -> u64
     )
 }
 
-fn key_gb(g: KeyGbRegister) -> u64
+fn key_gb(g: Register<KeyGb>) -> u64
     ensures { result ≡ mixed_key_gb g }
 {
     join(
         flag(g.set),
-        halves(g.key.width_g, g.key.width_b, 0, 0),
-        bytes(g.key.center_g, g.key.scale_g, g.key.center_b, g.key.scale_b),
+        halves(g.value.width_g, g.value.width_b, 0, 0),
+        bytes(
+            g.value.center_g,
+            g.value.scale_g,
+            g.value.center_b,
+            g.value.scale_b,
+        ),
         0,
         0,
     )
 }
 
-fn key_r(g: KeyRRegister) -> u64
+fn key_r(g: Register<KeyR>) -> u64
     ensures { result ≡ mixed_key_r g }
 {
     join(
         flag(g.set),
-        halves(g.key.width_r, 0, 0, 0),
-        bytes(g.key.center_r, g.key.scale_r, 0, 0),
+        halves(g.value.width_r, 0, 0, 0),
+        bytes(g.value.center_r, g.value.scale_r, 0, 0),
         0,
         0,
     )
 }
 
-fn convert(g: ConvertRegister) -> u64
+fn convert(g: Register<Convert>) -> u64
     ensures { result ≡ mixed_convert g }
 {
     join(
         flag(g.set),
-        halves(g.convert.k0, g.convert.k1, g.convert.k2, g.convert.k3),
-        halves(g.convert.k4, g.convert.k5, 0, 0),
+        halves(g.value.k0, g.value.k1, g.value.k2, g.value.k3),
+        halves(g.value.k4, g.value.k5, 0, 0),
         0,
         0,
     )
@@ -148,7 +143,7 @@ fn combiner(g: Combiner) -> u64
     ensures { result ≡ mixed_combiner g }
 {
     join(
-        combine(g.combine),
+        number(g.combine.set, g.combine.value),
         key_gb(g.key_gb),
         key_r(g.key_r),
         convert(g.convert),
@@ -207,10 +202,10 @@ fn pixel_modes(m: PixelModes) -> u64
     )
 }
 
-fn other_modes(g: OtherModesRegister) -> u64
+fn other_modes(g: Register<OtherModes>) -> u64
     ensures { result ≡ mixed_other_modes g }
 {
-    let m = g.modes;
+    let m = g.value;
     join(
         bits(g.set, m.atomic_prim, m.key_en, false),
         bytes(m.cycle_type, m.rgb_dither_sel, m.alpha_dither_sel, 0),
@@ -220,16 +215,16 @@ fn other_modes(g: OtherModesRegister) -> u64
     )
 }
 
-fn depth(g: PrimitiveDepthRegister) -> u64
+fn depth(g: Register<PrimitiveDepth>) -> u64
     ensures { result ≡ mixed_depth g }
 {
-    join(flag(g.set), halves(g.depth.z, g.depth.dz, 0, 0), 0, 0, 0)
+    join(flag(g.set), halves(g.value.z, g.value.dz, 0, 0), 0, 0, 0)
 }
 
-fn scissor(g: ScissorRegister) -> u64
+fn scissor(g: Register<Scissor>) -> u64
     ensures { result ≡ mixed_scissor g }
 {
-    let s = g.scissor;
+    let s = g.value;
     join(
         bits(g.set, s.field, s.odd, false),
         halves(
@@ -259,7 +254,13 @@ fn modes(g: Modes) -> u64
 fn images(g: Images) -> u64
     ensures { result ≡ mixed_images g }
 {
-    join(image(g.color), image(g.texture), depth_image(g.depth), 0, 0)
+    join(
+        image(g.color),
+        image(g.texture),
+        number(g.depth.set, u64::from(g.depth.value)),
+        0,
+        0,
+    )
 }
 
 fn descriptor(d: TileDescriptor) -> u64
@@ -277,14 +278,15 @@ fn descriptor(d: TileDescriptor) -> u64
 fn tile(h: u64, t: Tile) -> u64
     ensures { result ≡ mixed_tile h t }
 {
+    let s = t.size.value;
     join(
-        bits(t.set, t.sized, false, false),
-        descriptor(t.descriptor),
+        bits(t.descriptor.set, t.size.set, false, false),
+        descriptor(t.descriptor.value),
         halves(
-            t.upper_left.s,
-            t.upper_left.t,
-            t.lower_right.s,
-            t.lower_right.t,
+            s.upper_left.s,
+            s.upper_left.t,
+            s.lower_right.s,
+            s.lower_right.t,
         ),
         h,
         0,
@@ -294,20 +296,23 @@ fn tile(h: u64, t: Tile) -> u64
 fn tiles(all: [Tile; 8]) -> u64
     ensures { result ≡ mixed_tiles 0 all }
 {
-    let mut q = 0u64;
-    let mut i: usize = 0;
-    while i < 8 {
-        let t = all[i];
-        q = tile(q, t);
-        i += 1;
-    }
-    q
+    all.iter().fold(0, |q, t| tile(q, *t))
 }
 
 fn answer(number: u32, place: u32) -> u64
     ensures { result ≡ mixed_answer number place }
 {
     (number as u64) ^ ((place as u64) << 32)
+}
+
+// An answer's number and place: 0 and the words, or those of the refusal.
+fn outcome(told: Answer) -> u64
+    ensures { result ≡ mixed_answer (answered told).number (answered told).place }
+{
+    match told {
+        Ok(words) => answer(0, words),
+        Err(refusal) => answer(u32::from(refusal.ground), refusal.place),
+    }
 }
 
 // The check's answer and the registers after a list, as one number.
@@ -317,7 +322,7 @@ pub extern "C" fn lanyardrove_bench_registers(list: &[u8]) -> u64
 {
     let state = rdp_state::registers_after(list);
     let eight = state.registers.tiles;
-    let h = answer(state.number, state.place) ^ tiles(eight);
+    let h = outcome(state.outcome) ^ tiles(eight);
     join(
         h,
         colors(state.registers.colors),

@@ -7,8 +7,6 @@
 //               18 and 19 26, 1A, 1B and 20 to 23 28, 1C to 1F 34, 31 00;
 //   6           none is changed.
 // All other bits are as they came. With w = n mod 49 list n has w words; for 7, w words and 1 + w mod 7 bytes, which are zero.
-ghost use Rattle.std.specs.Prelude.{◌≡◌, ◌+◌, ◌/◌, ◌<◌, ◌≤◌, length};
-
 const SEED: u64 = 0x9E37_79B9_7F4A_7C15;
 
 // A step of the generator, which is a 64-bit xorshift.
@@ -69,41 +67,17 @@ fn word_of(n: u64, place: usize, x: u64) -> u64 {
     (x & 0xC0FF_FFFF_FFFF_FFFF) | (number << 56)
 }
 
-// Writes a word, most significant byte first.
-fn put(out: &mut [u8], at: usize, w: u64)
-    requires { at + 8 ≤ length out.old }
-    ensures { length out.new ≡ length out.old }
-{
-    let mut k = 0;
-    while k < 8 {
-        out[at + k] = ((w >> (56 - 8 * k)) % 256) as u8;
-        k += 1;
-    }
-}
-
-// The whole words of that many bytes, at most 49.
-fn words_within(bytes: usize) -> usize
-    ensures { result ≤ bytes / 8 }
-{
-    if bytes < 392 { bytes / 8 } else { 49 }
-}
-
-// Writes the words of list n, as many as the output has, at most 49.
+// Writes the words of list n, most significant byte first, as many as the output has, at most 49.
 pub fn lay(n: u64, out: &mut [u8]) {
-    let words = words_within(out.len());
     let mut x = start(n);
-    let mut place = 0;
-    while place < words {
+    for (place, word) in out.chunks_exact_mut(8).take(49).enumerate() {
         x = next(x);
-        put(out, 8 * place, word_of(n, place, x));
-        place += 1;
+        word.copy_from_slice(&word_of(n, place, x).to_be_bytes());
     }
 }
 
-// The bytes of list n.
-pub fn bytes_of(n: u64) -> usize
-    ensures { result < 392 }
-{
+// How many bytes list n has.
+pub fn length_of(n: u64) -> usize {
     let words = (n % 49) as usize;
     if n % 8 == 7 {
         return 8 * words + 1 + words % 7;

@@ -11,37 +11,26 @@ mod digest;
 mod lists;
 mod show;
 
+use std::alloc::Global;
 use std::io;
 use std::io::{BufWriter, Write};
 
-// Lays list n into the zeros that are lent.
-fn show_made(out: &mut impl Write, n: u64, list: &mut [u8]) -> io::Result<()> {
-    lists::lay(n, list);
-    show::show(out, list)
+// List n, with zeros after its words up to `length` bytes.
+fn show_list(out: &mut impl Write, alloc: Global, n: u64, length: usize) -> io::Result<()> {
+    let mut list = vec![in alloc; 0u8; length]?;
+    lists::lay(n, &mut list);
+    show::show(out, &list)
 }
 
-fn show_list(out: &mut impl Write, n: u64) -> io::Result<()> {
-    let mut bytes = [0u8; 392];
-    let length = lists::bytes_of(n);
-    show_made(out, n, &mut bytes[0..length])
-}
-
-// `rt try` interprets twenty million steps of a program, of which this one takes some seventeen.
-fn show_lists(out: &mut impl Write) -> io::Result<()> {
+fn show_all(out: &mut impl Write, alloc: Global) -> io::Result<()> {
     for n in 0..245u64 {
-        show_list(out, n)?;
+        show_list(out, alloc, n, lists::length_of(n))?;
     }
-    Ok(())
-}
-
-fn show_long(out: &mut impl Write) -> io::Result<()> {
-    let mut bytes = [0u8; 32776];
-    show_made(out, 0, &mut bytes)
+    show_list(out, alloc, 0, 32776)
 }
 
 fn main(rt: HostRuntime) -> io::Result<()> {
     let mut out = BufWriter::new(rt.alloc(), io::writer(&rt))?;
-    show_lists(&mut out)?;
-    show_long(&mut out)?;
+    show_all(&mut out, rt.alloc())?;
     out.flush()
 }

@@ -8,8 +8,8 @@ fn main(rt: HostRuntime) -> io::Result<()> {
     let mut list = Vec::new(rt.alloc());
     // One byte more than the longest list, so that a longer one is told from it.
     rt.reader().take(32769).read_to_end(&mut list)?;
-    let r = rdp_check::check(&list);
-    let number = r.number;
-    let place = r.place;
-    println!(rt; "{number} {place}")
+    match rdp_check::check(&list) {
+        Ok(accepted) => println!(rt; "0 {}", accepted.words),
+        Err(refused) => println!(rt; "{} {}", u32::from(refused.ground), refused.place),
+    }
 }
