@@ -2,7 +2,7 @@
 use mathlib.Core.Bool.{Bool, true, false, cond, not, ◌||◌, true≢false, false≢true}
 use mathlib.Core.List.{List, [], ◌∷◌}
 use mathlib.Core.Path.{◌≡◌, refl, sym, ◌∙◌, ap, subst}
-use Prim.Native.Nat.{ℕ, ◌+◌, ◌*◌, ◌/◌, ◌%◌, ◌≤◌, ◌<◌}
+use Prim.Native.Nat.{ℕ, ◌+◌, ◌*◌, ◌/◌, ◌%◌, ◌≤◌, ◌<◌, max}
 use native.Mathlib.Nat.{le_refl, mod-eq_of_lt}
 use native.Mathlib.Omega.{arith}
 use borrow.Author.Tests.{ne_eqb, eqb-true, ltb-true, ltb-false}
@@ -428,8 +428,9 @@ pub walk_first : (list : List ℕ) (from : ℕ) (file : List ℕ) (words : ℕ) 
 walk_first list from file words e = record { count = e; onward = le_refl from; due = λ acts d. d }
 
 module _ {list : List ℕ} {from : ℕ} {before : List ℕ} {words : ℕ} {file : List ℕ} {at : ℕ} (w : Walks list from before words file at) where
-  pub walk_none : words ≤ at → (n : ℕ) → Reaches list from before (record { place = at; number = n }) file
-  walk_none h n = (w.onward, λ acts d. record { some = λ l. absurd (omega (arith, w.count)); none = λ l. due-none (w.due acts d) l })
+  pub walk_none : words ≤ at → (end : ℕ) → end ≡ max words from → (n : ℕ) → Reaches list from before (record { place = end; number = n }) file
+  walk_none h end is n =
+      (omega (arith, is), λ acts d. record { some = λ l. absurd (omega (arith, w.count, is)); none = λ l. due-none (w.due acts d) (omega (arith, w.count)) })
 
   module _ (more : at < words) (n : ℕ) (is : n ≡ number_in (word_at list at)) (b : Bool) (in_draws : b ≡ is_among 0x0040_0030_0000_FF00 n) where
     low : n < 64

@@ -20,8 +20,7 @@ pub fn next_act(list: &[u8], from: usize, file: &mut [u64; 32]) -> Reached
     ensures { Reaches list.now from file.old result file.new }
 {
     let words = list.len() / 8;
-    let mut at = from;
-    while at < words {
+    for at in from..words {
         let head = rdp_command::head_at(list, at);
         let number = head.number;
         if rdp_words::is_among(rdp_words::DRAWS, number) {
@@ -32,13 +31,10 @@ pub fn next_act(list: &[u8], from: usize, file: &mut [u64; 32]) -> Reached
             if rdp_words::is_among(rdp_words::LOADS, number) {
                 return Reached { place: at, number };
             }
-            at += 1;
-            continue;
         }
-        at += 1;
     }
     Reached {
-        place: at,
+        place: words.max(from),
         number: 0,
     }
 }
