@@ -74,10 +74,12 @@ fn third_of_record(answer: Answer, waited: u32) -> u32
     ensures { result ≡ cond (eqb (answered answer).number 28) 0 waited }
 {
     match answer {
-        Err(Refusal {
-            ground: Ground::Damaged,
-            ..
-        }) => 0,
+        Err(
+            Refusal {
+                ground: Ground::Damaged,
+                ..
+            },
+        ) => 0,
         _ => waited,
     }
 }
@@ -256,7 +258,11 @@ pub extern "C" fn lanyardrove_rest(first: &[u8], second: &[u8], count: usize) ->
     match rdp_compare::rest_start(first, second, count) {
         Ok(RestPlace::InFirst(byte)) => pack(0, 0, capped(MOST_PLACE, byte)),
         Ok(RestPlace::InSecond(byte)) => pack(0, 1, capped(MOST_PLACE, byte)),
-        Err(refusal) => pack(u32::from(refusal.ground), 0, capped(MOST_PLACE, first.len())),
+        Err(refusal) => pack(
+            u32::from(refusal.ground),
+            0,
+            capped(MOST_PLACE, first.len()),
+        ),
     }
 }
 
