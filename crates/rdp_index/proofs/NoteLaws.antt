@@ -6,23 +6,21 @@ use native.Mathlib.Nat.{suc-ne-zero}
 use native.Mathlib.Omega.{arith}
 use borrow.Author.Tests.{le-ltb, lt-ltb, eq-eqb, ne_eqb, ltb-true, ltb-false, eqb-true, eqb-false}
 use lib.Dec.{eqb, ltb}
-use lib.ListN.{length, get_or, take, drop, set, length-set}
+use lib.ListN.{length, take, set, length-set}
 use lib.Seq.{drop-cons, take-suc-set, append_snoc, length-take-le}
-use Rattle.rdp_words.specs.Words.{word_at, number_in, overwrite}
+use Rattle.rdp_words.specs.Words.{overwrite}
 use Rattle.rdp_words.specs.Kinds.{words_of}
 use Rattle.rdp_words.specs.Lengths.{first_number}
 use Rattle.rdp_words.specs.Grounds.{Answer}
 use Rattle.rdp_command.specs.Decode.{answer}
 use Rattle.rdp_words.proofs.Tests.{by-test}
-use Rattle.rdp_words.proofs.PlaceLaws.{some_words}
 use Rattle.rdp_hazards.specs.Hazards.{next_of}
 use Rattle.rdp_check.specs.Commands.{commands_of, rest_of, words_in}
 use Rattle.rdp_check.specs.Check.{State, start, after_command, no_refusals, judge, outcome_within}
 use Rattle.rdp_hazards.proofs.HazardLaws.{next_small}
-use Rattle.rdp_check.proofs.ListLaws.{command_at, commands-at, rest_at, command-number, commands-past, rest-past}
+use Rattle.rdp_check.proofs.JoinLaws.{command-some, words_inside, length-split}
 use Rattle.rdp_index.specs.Index.{entries_from, entries_of, entry_count, index_answer, room_answer, build_answer, build_out, BuildIs}
 use Rattle.rdp_index.specs.Steps.{IndexIs}
-use Rattle.rdp_index.proofs.ReadLaws.{none_left}
 
 -- ---- 1, 2 and 3
 
@@ -97,6 +95,10 @@ unfolding entries_from
 entries-end zero at m = refl
 entries-end (suc left) at m = refl
 
+none-long : (l : List ℕ) → length l ≡ 0 → l ≡ []
+none-long [] e = refl
+none-long (x ∷ xs) e = absurd (suc-ne-zero (length xs) e)
+
 -- two stores after 2 e numbers
 noted_more :
     (made : List ℕ) (e at m : ℕ) → 2 * e + 1 < length made →
@@ -111,152 +113,122 @@ noted_more made e at m h =
     take-suc-set (set made i at) (suc i) m room ∙
     ap (λ (l : List ℕ). l ++ (m ∷ [])) (take-suc-set made i at (omega arith))
 
--- what holds at the head of the loop: what is noted and what is to come are the entries
-pub record Noting (list : List ℕ) (words : ℕ) (made : List ℕ) (at m left entries : ℕ) : Type 0 where
-  pub whole : length list ≡ 8 * words
-  pub few : words ≤ 4096
-  pub within : at ≤ words
+-- what holds at the head of the loop: what is noted, and what is to come for the bytes that are left, are the entries
+pub record Noting (list left made : List ℕ) (at m k entries : ℕ) : Type 0 where
+  pub whole : length list % 8 ≡ 0
+  pub short : length list ≤ 32768
   pub low : m < 16
   pub long : length made ≡ 128
-  pub short : left ≤ 63
-  pub room : 64 * entries ≤ at + left
-  pub place : at + words_in (commands_of (drop (8 * at) list)) ≡ words_in (commands_of list)
-  pub rest : rest_of (drop (8 * at) list) ≡ rest_of list
-  pub noted : take (2 * entries) made ++ entries_from left at m (commands_of (drop (8 * at) list)) ≡ entries_of list
+  pub soon : k ≤ 63
+  pub room : 64 * entries ≤ at + k
+  pub place : at + words_in (commands_of left) ≡ words_in (commands_of list)
+  pub noted : take (2 * entries) made ++ entries_from k at m (commands_of left) ≡ entries_of list
 
-pub first : (list made : List ℕ) → length list % 8 ≡ 0 → length list ≤ 32768 → length made ≡ 128 → Noting list (length list / 8) made 0 0 0 0
-first list made w f l =
+pub first : (list made : List ℕ) → length list % 8 ≡ 0 → length list ≤ 32768 → length made ≡ 128 → Noting list list made 0 0 0 0
+first list made w s l =
     record {
-      whole = omega arith;
-      few = omega arith;
-      within = omega arith;
+      whole = w;
+      short = s;
       low = omega arith;
       long = l;
-      short = omega arith;
+      soon = omega arith;
       room = omega arith;
       place = omega arith;
-      rest = refl;
       noted = refl;
     }
 
-module _ {list : List ℕ} {words : ℕ} {made : List ℕ} {at m left entries : ℕ} (t : Noting list words made at m left entries) where
+module _ {list left made : List ℕ} {at m k entries : ℕ} (t : Noting list left made at m k entries) where
+  pub few-words : at ≤ 4096
+  few-words = omega (arith, t.place, t.short, words_inside list)
+
   pub few-entries : entries ≤ 64
-  few-entries = omega (arith, t.room, t.within, t.few, t.short)
+  few-entries = omega (arith, t.room, few-words, t.soon)
 
-  all_words : length list % 8 ≡ 0
-  all_words = omega (arith, t.whole)
+  module _ (none : commands_of left ≡ []) where
+    all : at ≡ words_in (commands_of list)
+    all = omega (arith, t.place, ap words_in none)
 
-  in_bytes : length list ≤ 32768
-  in_bytes = omega (arith, t.whole, t.few)
+    pub ended : length list / 8 ≤ at → IndexIs list (answer 0 entries) made
+    ended h =
+        let done : List ℕ = take (2 * entries) made in
+        let nothing : entries_from k at m (commands_of left) ≡ [] = ap (entries_from k at m) none ∙ entries-end k at m in
+        let e : done ≡ entries_of list = sym (append-nil done) ∙ ap (λ (l : List ℕ). done ++ l) (sym nothing) ∙ t.noted in
+        let r : rest_of list ≡ [] = none-long (rest_of list) (omega (arith, length-split list, all, t.whole)) in
+        let long : length done ≡ 2 * entries = length-take-le (2 * entries) made (omega (arith, few-entries, t.long)) in
+        let count : entries ≡ entry_count list = omega (arith, ap length e, long) in
+        record {
+          answers = ap (answer 0) count ∙ index-whole list t.short t.whole r;
+          entries = λ z. e;
+          few = λ z. few-entries;
+        }
 
-  pub ended : words ≤ at → IndexIs list (answer 0 entries) made
-  ended h =
-      let short : length list ≤ 8 * at = omega (arith, t.whole) in
-      let past = none_left list at short in
-      let done : List ℕ = take (2 * entries) made in
-      let none : entries_from left at m (commands_of (drop (8 * at) list)) ≡ [] = ap (entries_from left at m) past.commands ∙ entries-end left at m in
-      let e : done ≡ entries_of list = sym (append-nil done) ∙ ap (λ (l : List ℕ). done ++ l) (sym none) ∙ t.noted in
-      let r : rest_of list ≡ [] = sym t.rest ∙ past.rest in
-      let long : length done ≡ 2 * entries = length-take-le (2 * entries) made (omega (arith, few-entries, t.long)) in
-      let count : entries ≡ entry_count list = omega (arith, ap length e, long) in
-      record {
-        answers = ap (answer 0) count ∙ index-whole list in_bytes all_words r;
-        entries = λ z. e;
-        few = λ z. few-entries;
-      }
-
-  module _ (more : at < words) (n : ℕ) (is : n ≡ number_in (word_at list at)) (count : ℕ) (long : count ≡ words_of n) where
-    pub cut : words - at < count → IndexIs list (answer 3 at) made
+    pub cut : at < length list / 8 → IndexIs list (answer 3 at) made
     cut h =
-        let past : length list / 8 < at + words_of n = omega (arith, t.whole) in
-        let bytes : 8 * at < length list = omega (arith, t.whole) in
-        let e : rest_of list ≡ get_or list (8 * at) 0 ∷ drop (suc (8 * at)) list = sym t.rest ∙ rest-past list at n is past ∙ drop-cons list (8 * at) 0 bytes in
-        let p : at ≡ words_in (commands_of list) = omega (arith, t.place, ap words_in (commands-past list at n is past)) in
-        refused list 2 at made (ap (answer 3) p ∙ index-cut list in_bytes all_words _ _ e)
+        let some : 0 < length (rest_of list) = omega (arith, length-split list, all) in
+        let e = drop-cons (rest_of list) 0 0 some in
+        refused list 2 at made (ap (answer 3) all ∙ index-cut list t.short t.whole _ _ e)
 
-    pub falls : count ≤ words - at → words - (at + count) < words - at
-    falls h = omega (arith, some_words list at n is)
+  module _ (c left' : List ℕ) (next : commands_of left ≡ c ∷ commands_of left') (n : ℕ) (is : n ≡ first_number c) (count : ℕ) (long : count ≡ words_of n) where
+    count-is : count ≡ words_of (first_number c)
+    count-is = long ∙ ap words_of is
 
-    pub has_room : count ≤ words - at → left ≡ 0 → entries < 64
-    has_room h z = omega (arith, t.room, t.few)
+    some : 1 ≤ count
+    some = omega (arith, count-is, command-some c)
 
-    module _ (fits : count ≤ words - at) (next : ℕ) (is-next : next ≡ next_of m n) where
-      there : at + words_of n ≤ length list / 8
-      there = omega (arith, t.whole)
+    place-next : at + count + words_in (commands_of left') ≡ words_in (commands_of list)
+    place-next = omega (arith, t.place, ap words_in next, count-is)
 
-      onward : 8 * (at + words_of n) ≡ 8 * (at + count)
-      onward = omega arith
+    pub fits : at + count ≤ 4096
+    fits = omega (arith, place-next, t.short, words_inside list)
 
-      some : 1 ≤ count
-      some = omega (arith, some_words list at n is)
+    pub has_room : k ≡ 0 → entries < 64
+    has_room z = omega (arith, t.room, some, fits)
 
-      abbrev c : List ℕ
-      c = command_at list at n
+    module _ (m' : ℕ) (is-next : m' ≡ next_of m n) where
+      next-is : m' ≡ next_of m (first_number c)
+      next-is = is-next ∙ ap (next_of m) is
 
-      abbrev cs : List (List ℕ)
-      cs = commands_of (drop (8 * (at + count)) list)
-
-      commands-next : commands_of (drop (8 * at) list) ≡ c ∷ cs
-      commands-next = commands-at list at n is there ∙ ap (λ (k : ℕ). c ∷ commands_of (drop k list)) onward
-
-      place-next : at + count + words_in cs ≡ words_in (commands_of list)
-      place-next =
-          omega (arith, t.place, ap words_in commands-next, ap words_of (command-number list at n is there))
-
-      rest-next : rest_of (drop (8 * (at + count)) list) ≡ rest_of list
-      rest-next = ap (λ (k : ℕ). rest_of (drop k list)) (sym onward) ∙ sym (rest_at list at n is there) ∙ t.rest
-
-      -- the entries to come, after this command
-      skipped : (k : ℕ) → entries_from (suc k) at m (commands_of (drop (8 * at) list)) ≡ entries_from k (at + count) next cs
+      pub again : (k ≡ 0 → ⊥) → Noting list left' made (at + count) m' (k - 1) entries
       unfolding entries_from
-      skipped k =
-          let number = command-number list at n is there in
-          ap (entries_from (suc k) at m) commands-next ∙
-          (λ i. entries_from k (at + (ap words_of number ∙ sym long) i) ((ap (next_of m) number ∙ sym is-next) i) cs)
-
-      noted-now : entries_from 0 at m (commands_of (drop (8 * at) list)) ≡ at ∷ m ∷ entries_from 63 (at + count) next cs
-      unfolding entries_from
-      noted-now = rw (commands-next, command-number list at n is there, long, is-next)
-
-      pub again : (left ≡ 0 → ⊥) → Noting list words made (at + count) next (left - 1) entries
       again h =
-          let one : left ≡ suc (left - 1) = omega arith in
+          let one : k ≡ suc (k - 1) = omega arith in
           record {
             whole = t.whole;
-            few = t.few;
-            within = omega arith;
+            short = t.short;
             low = rw is-next (next_small m n);
             long = t.long;
-            short = omega (arith, t.short);
+            soon = omega (arith, t.soon);
             room = omega (arith, t.room, some);
             place = place-next;
-            rest = rest-next;
             noted =
                 ap (λ (l : List ℕ). take (2 * entries) made ++ l)
-                (sym (skipped (left - 1)) ∙ ap (λ (k : ℕ). entries_from k at m (commands_of (drop (8 * at) list))) (sym one)) ∙
+                ((λ i. entries_from (k - 1) (at + count-is i) (next-is i) (commands_of left')) ∙
+                sym (ap (entries_from (suc (k - 1)) at m) next) ∙
+                ap (λ (j : ℕ). entries_from j at m (commands_of left)) (sym one)) ∙
                 t.noted;
           }
 
-      module _ (z : left ≡ 0) where
-        pub again-noted : Noting list words (set (set made (2 * entries) at) (2 * entries + 1) m) (at + count) next 63 (entries + 1)
+      module _ (z : k ≡ 0) where
+        noted-now : entries_from k at m (commands_of left) ≡ at ∷ m ∷ entries_from 63 (at + count) m' (commands_of left')
+        unfolding entries_from
+        noted-now = rw (z, next, ← count-is, ← next-is)
+
+        pub again-noted : Noting list left' (set (set made (2 * entries) at) (2 * entries + 1) m) (at + count) m' 63 (entries + 1)
         again-noted =
             record {
               whole = t.whole;
-              few = t.few;
-              within = omega arith;
+              short = t.short;
               low = rw is-next (next_small m n);
               long = length-set (set made (2 * entries) at) (2 * entries + 1) m ∙ length-set made (2 * entries) at ∙ t.long;
-              short = omega arith;
+              soon = omega arith;
               room = omega (arith, t.room, some);
               place = place-next;
-              rest = rest-next;
               noted =
-                  ap (λ (l : List ℕ). l ++ entries_from 63 (at + count) next cs)
-                  (noted_more made entries at m (omega (arith, has_room fits z, t.long))) ∙
-                  append_snoc (take (2 * entries) made ++ (at ∷ [])) m (entries_from 63 (at + count) next cs) ∙
-                  append_snoc (take (2 * entries) made) at (m ∷ entries_from 63 (at + count) next cs) ∙
-                  ap (λ (l : List ℕ). take (2 * entries) made ++ l)
-                  (sym noted-now ∙ ap (λ (k : ℕ). entries_from k at m (commands_of (drop (8 * at) list))) (sym z)) ∙
+                  ap (λ (l : List ℕ). l ++ entries_from 63 (at + count) m' (commands_of left'))
+                  (noted_more made entries at m (omega (arith, has_room z, t.long))) ∙
+                  append_snoc (take (2 * entries) made ++ (at ∷ [])) m (entries_from 63 (at + count) m' (commands_of left')) ∙
+                  append_snoc (take (2 * entries) made) at (m ∷ entries_from 63 (at + count) m' (commands_of left')) ∙
+                  ap (λ (l : List ℕ). take (2 * entries) made ++ l) (sym noted-now) ∙
                   t.noted;
             }
 

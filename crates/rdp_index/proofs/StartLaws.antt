@@ -2,20 +2,16 @@
 use mathlib.Core.Path.{◌≡◌, refl, sym, ap, ◌∙◌, subst}
 use mathlib.Core.Bool.{Bool, true, false, ◌||◌, true≢false}
 use mathlib.Core.List.{List, [], ◌∷◌, ◌++◌}
-use Prim.Native.Nat.{ℕ, ◌+◌, ◌*◌, ◌-◌, ◌/◌, ◌≤◌, ◌<◌}
+use Prim.Native.Nat.{ℕ, ◌+◌, ◌*◌, ◌≤◌, ◌<◌}
 use native.Mathlib.Omega.{arith}
-use borrow.Author.Tests.{eq-eqb, ne_eqb, eqb-true}
+use borrow.Author.Tests.{eq-eqb, ne_eqb, eqb-true, eqb-false}
 use lib.Dec.{eqb}
-use lib.ListN.{length, drop}
-use Rattle.rdp_words.specs.Words.{word_at, number_in}
+use lib.ListN.{length}
 use Rattle.rdp_words.specs.Kinds.{words_of}
 use Rattle.rdp_words.specs.Lengths.{first_number}
 use Rattle.rdp_words.proofs.Tests.{by-test}
-use Rattle.rdp_words.proofs.KindLaws.{words-most}
-use Rattle.rdp_words.proofs.PlaceLaws.{number_small, some_words}
 use Rattle.rdp_check.specs.Commands.{commands_of, words_in}
-use Rattle.rdp_check.proofs.ListLaws.{commands-at, command-number, commands-past}
-use Rattle.rdp_check.proofs.JoinLaws.{command-some}
+use Rattle.rdp_check.proofs.JoinLaws.{command-some, words_inside}
 use Rattle.rdp_index.specs.Index.{starts_at}
 
 -- ---- the loop
@@ -27,46 +23,40 @@ starts-past place at (c ∷ cs) h =
     let apart : at ≡ place → ⊥ = λ e. omega arith in
     rw (ne_eqb _ _ apart) (starts-past place (at + words_of (first_number c)) cs (omega arith))
 
-pub record Starting (list : List ℕ) (place words at : ℕ) : Type 0 where
-  pub count : words ≡ length list / 8
-  pub within : at ≤ words
-  pub same : starts_at place at (commands_of (drop (8 * at) list)) ≡ starts_at place 0 (commands_of list)
+-- a command that is left starts at the place where one of all does
+pub record Starting (list : List ℕ) (place : ℕ) (left : List ℕ) (at : ℕ) : Type 0 where
+  pub words : at + words_in (commands_of left) ≡ words_in (commands_of list)
+  pub same : starts_at place at (commands_of left) ≡ starts_at place 0 (commands_of list)
 
-pub first : (list : List ℕ) (place words : ℕ) → words ≡ length list / 8 → Starting list place words 0
-first list place words e = record { count = e; within = omega arith; same = refl }
+pub first : (list : List ℕ) (place : ℕ) → Starting list place list 0
+first list place = record { words = omega arith; same = refl }
 
-module _ {list : List ℕ} {place words at : ℕ} (s : Starting list place words at) where
-  pub ended : place < at → false ≡ starts_at place 0 (commands_of list)
-  ended h = sym (starts-past place at _ h) ∙ s.same
+module _ {list : List ℕ} {place : ℕ} {left : List ℕ} {at : ℕ} (s : Starting list place left at) where
+  pub ended : commands_of left ≡ [] → false ≡ starts_at place 0 (commands_of list)
+  unfolding starts_at
+  ended none = ap (starts_at place at) (sym none) ∙ s.same
 
-  module _ (n : ℕ) (is : n ≡ number_in (word_at list at)) (count : ℕ) (long : count ≡ words_of n) where
-    pub few : count ≤ 22
-    few = rw (long, is) (words-most _ (number_small (word_at list at)))
-
-    pub past : words < at + count → false ≡ starts_at place 0 (commands_of list)
+  module _ (c left' : List ℕ) (next : commands_of left ≡ c ∷ commands_of left') where
+    pub found : place ≤ at → eqb at place ≡ starts_at place 0 (commands_of list)
     unfolding starts_at
-    past h =
-        let short : length list / 8 < at + words_of n = omega (arith, s.count) in
-        rw (← s.same, commands-past list at n is short)
+    found h =
+        by-test (eqb at place)
+        (λ t. t ∙ sym (rw (← s.same, next, t)))
+        (λ f.
+        let past : place < at = omega (arith, eqb-false at place f) in
+        f ∙ sym (starts-past place at (commands_of left) past) ∙ s.same)
 
-    pub falls : at + count ≤ words → words - (at + count) < words - at
-    falls h = omega (arith, some_words list at n is)
+    module _ (count : ℕ) (long : count ≡ words_of (first_number c)) where
+      pub few : 8 * (at + count) ≤ length list
+      few = omega (arith, s.words, ap words_in next, words_inside list)
 
-    module _ (fits : at + count ≤ words) where
-      there : at + words_of n ≤ length list / 8
-      there = omega (arith, s.count)
-
-      pub found : at ≡ place → true ≡ starts_at place 0 (commands_of list)
+      pub again : at < place → Starting list place left' (at + count)
       unfolding starts_at
-      found e = rw (← s.same, commands-at list at n is there, eq-eqb _ _ e)
-
-      pub again : (at ≡ place → ⊥) → Starting list place words (at + count)
-      unfolding starts_at
-      again apart =
+      again before =
+          let apart : at ≡ place → ⊥ = λ e. omega arith in
           record {
-            count = s.count;
-            within = fits;
-            same = rw (← s.same, commands-at list at n is there, ne_eqb _ _ apart, command-number list at n is there, long);
+            words = omega (arith, s.words, ap words_in next);
+            same = rw (← s.same, next, ne_eqb _ _ apart, long);
           }
 
 -- ---- its place among the commands

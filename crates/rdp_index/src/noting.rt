@@ -5,29 +5,22 @@ ghost use Rattle.rdp_command.specs.Decode.{answer};
 ghost use Rattle.rdp_index.specs.Index.{index_answer, room_answer};
 ghost use Rattle.rdp_index.specs.Steps.{size_answer, IndexIs};
 
+use rdp_check::Commands;
 use rdp_hazards::{StepTable, hazards, table};
 use rdp_words::{Answer, Ground, Refusal};
 
-// The commands of a list of whole words, in order: where `left` is 0 an entry is noted.
+// The commands of a list of whole words, in order: where `left` is 0 an entry is noted. Refuses by 3 where bytes are left.
 fn note(table: &StepTable, list: &[u8], made: &mut [u32]) -> Answer
     requires { (length list.now % 8 ≡ 0) × (length list.now ≤ 32768) × (length made.old ≡ 128) }
     ensures { IndexIs list.now (answered result) made.new }
 {
-    let words = list.len() / 8;
     let mut at: usize = 0;
     let mut hazards: u8 = 0;
     let mut left: usize = 0;
     let mut entries: usize = 0;
-    // The step is the command's own length.
-    while at < words {
-        let number = rdp_words::number_at(list, at);
+    for command in Commands(list) {
+        let number = rdp_words::number_at(command, 0);
         let count = rdp_words::words_of(number);
-        if words - at < count {
-            return Err(Refusal {
-                ground: Ground::Cut,
-                place: at as u32,
-            });
-        }
         if left == 0 {
             made[2 * entries] = at as u32;
             made[2 * entries + 1] = hazards as u32;
@@ -40,6 +33,12 @@ fn note(table: &StepTable, list: &[u8], made: &mut [u32]) -> Answer
         hazards = hazards::next(&table.entries, hazards, number);
         at += count;
         left -= 1;
+    }
+    if at < list.len() / 8 {
+        return Err(Refusal {
+            ground: Ground::Cut,
+            place: at as u32,
+        });
     }
     Ok(entries as u32)
 }

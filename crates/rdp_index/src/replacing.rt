@@ -7,24 +7,19 @@ ghost use Rattle.rdp_index.specs.Index.{entries_of, index_answer, last_before, s
 ghost use Rattle.rdp_index.specs.Steps.{ReplacementIs};
 
 use crate::{asking, noting};
+use rdp_check::Commands;
 use rdp_words::{Answer, Ground, Refusal};
 
 // Whether a command of the list starts at a place.
 fn starts_at(list: &[u8], place: usize) -> bool
     ensures { result ≡ starts_at place 0 (commands_of list.now) }
 {
-    let words = list.len() / 8;
     let mut at: usize = 0;
-    // The step is the command's own length.
-    while at <= place {
-        let next = at + rdp_words::words_of(rdp_words::number_at(list, at));
-        if words < next {
-            return false;
+    for command in Commands(list) {
+        if place <= at {
+            return at == place;
         }
-        if at == place {
-            return true;
-        }
-        at = next;
+        at += rdp_words::words_of(rdp_words::number_at(command, 0));
     }
     false
 }

@@ -1,32 +1,22 @@
--- `rdp_index::replacing::starts_at` meets its contract. The loop's invariant: whether a command left starts at the place is whether one does. The measure
--- is what is left of the words. Assumes nothing.
-use mathlib.Core.Path.{refl}
-use native.Mathlib.Omega.{arith}
-use Rattle.rdp_index.proofs.StartLaws.{first, ended, few, past, falls, found, again}
+-- `rdp_index::replacing::starts_at` meets its contract. The loop's invariant: whether a command left starts at the place is whether one does. Assumes nothing.
+use Rattle.std.proofs.Common.{ap, ◌∙◌, arith}
+use Rattle.rdp_words.specs.Kinds.{words_of}
+use Rattle.rdp_index.proofs.StartLaws.{first, ended, few, found, again}
 use Rattle.rdp_index.proofs.replacing.starts_at.Goals as goal
 
-pub loop-at-init : goal.loop-at-init
-loop-at-init c = first _ _ _ refl
+pub loop-command-init : goal.loop-command-init
+loop-command-init c = rw c.into_iter-command-iterator.ensures.into_iter_gives (first c.args.list.now c.args.place)
 
-pub overflow_add-next : goal.overflow_add-next
-overflow_add-next c =
-    let v = c.loop-at.invariant in
-    omega (arith, few v _ c.number_at.ensures _ c.words_of.ensures, v.within, v.count)
+pub returns-then-place-at : goal.returns-then-place-at
+returns-then-place-at c = found c.loop-command.invariant _ _ c.in-Some.ensures.steps c.if-place-at.true
 
-pub returns-then-words-next : goal.returns-then-words-next
-returns-then-words-next c = past c.loop-at.invariant _ c.number_at.ensures _ c.words_of.ensures c.if-words-next.true
+pub overflow_add-at : goal.overflow_add-at
+overflow_add-at c =
+    omega (arith, few c.loop-command.invariant _ _ c.in-Some.ensures.steps _ (c.words_of-at.ensures ∙ ap words_of c.number_at.ensures))
 
-pub returns-then-at-place : goal.returns-then-at-place
-returns-then-at-place c =
-    found c.loop-at.invariant _ c.number_at.ensures _ c.words_of.ensures c.if-words-next.false c.if-at-place.true
-
-pub loop-at-smaller : goal.loop-at-smaller
-loop-at-smaller c =
-    falls c.loop-at.invariant _ c.number_at.ensures _ c.words_of.ensures c.if-words-next.false
-
-pub loop-at-preserved : goal.loop-at-preserved
-loop-at-preserved c =
-    again c.loop-at.invariant _ c.number_at.ensures _ c.words_of.ensures c.if-words-next.false c.if-at-place.false
+pub loop-command-preserved : goal.loop-command-preserved
+loop-command-preserved c =
+    again c.loop-command.invariant _ _ c.in-Some.ensures.steps _ (c.words_of-at.ensures ∙ ap words_of c.number_at.ensures) c.if-place-at.false
 
 pub returns : goal.returns
-returns c = ended c.loop-at.invariant c.loop-at-test.false
+returns c = ended c.loop-command.invariant c.in-None.ensures.steps.0
