@@ -1,14 +1,8 @@
 -- What a command does as one value is what the walk's definition says of it. Assumes nothing.
-use Prim.Native.Nat.{ℕ, suc, ◌/◌}
-use mathlib.Core.Bool.{true, cond, not, ◌&&◌}
-use mathlib.Core.List.{List}
-use mathlib.Core.Path.{◌≡◌, refl}
-use lib.Dec.{eqb, leb}
-use lib.ListN.{length}
+use Rattle.std.proofs.Common.{arith, ℕ, suc, ◌/◌, true, cond, not, List, ◌≡◌, refl, length}
+use Rattle.std.proofs.lemmas.Bool.Decides.{nat_tests}
 use Rattle.rdp_words.specs.Words.{word_at}
-use Rattle.rdp_words.specs.Kinds.{between}
-use Rattle.rdp_words.proofs.Tests.{by-test}
-use Rattle.f3dex2.specs.Commands.{first_byte, Role, straight, rectangle, modes, list, end, unnamed, role_of, inside, setting_after, parameter, far, calls, invalid}
+use Rattle.f3dex2.specs.Commands.{first_byte, Role, straight, rectangle, modes, list, end, unnamed, role_of, setting_after, invalid}
 use Rattle.f3dex2.specs.Walk.{Walked, readable, named, word_refusal, runs_role, runs, judged, walk}
 use Rattle.f3dex2.specs.Steps.{role_action, action_by, action_of, perform}
 use Rattle.f3dex2.specs.declared.Due.{Due}
@@ -22,14 +16,10 @@ module _ (go : List ℕ → ℕ → Setting → Walked) (returns : List ℕ) (at
   role_step k n w = judged (cond (not (named k)) 22 (cond (invalid k (length returns) n w) 23 0)) at w (runs_role go returns at s w k)
 
   role-is : (k : Role) (n w : ℕ) → role_step k n w ≡ perform go returns at w s (role_action k s (length returns) n w)
-  role-is straight n w = by-test (between 0xFD 0xFF n && far w) (λ t. rw t) (λ f. rw f)
+  role-is straight n w = grind (arith, nat_tests)
   role-is rectangle n w = refl
-  role-is modes n w = by-test (inside w) (λ t. rw t) (λ f. rw f)
-  role-is list n w =
-      by-test (far w) (λ t. rw t)
-      (λ f.
-      by-test (calls w) (λ t. rw (f, t) (by-test (leb 8 (length returns)) (λ d. rw d) (λ d. rw d)))
-      (λ g. by-test (eqb (parameter w) 1) (λ t. rw (f, g, t)) (λ h. rw (f, g, h))))
+  role-is modes n w = grind (arith, nat_tests)
+  role-is list n w = grind (arith, nat_tests)
   role-is end n w = refl
   role-is unnamed n w = refl
 
@@ -37,8 +27,8 @@ module _ (go : List ℕ → ℕ → Setting → Walked) (returns : List ℕ) (at
       judged (word_refusal due (length returns) (first_byte w) w) at w (runs go returns at s w due) ≡
       perform go returns at w s (action_by due s (length returns) (first_byte w) w)
   step_is Command w = role-is (role_of (first_byte w)) (first_byte w) w
-  step_is FirstHalf w = by-test (eqb (first_byte w) 0xE1) (λ t. rw t) (λ f. rw f)
-  step_is (SecondHalf first) w = by-test (eqb (first_byte w) 0xF1) (λ t. rw t) (λ f. rw f)
+  step_is FirstHalf w = grind (arith, nat_tests)
+  step_is (SecondHalf first) w = grind (arith, nat_tests)
 
 -- the walk from an offset where a command can be read
 pub stepped :

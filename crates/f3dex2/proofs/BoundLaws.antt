@@ -1,14 +1,8 @@
 -- How far a walk goes and how large the parts of its answer are. Promises: `read-most`, at most 4,096 commands are read; `words-few`, at most one word is
 -- written for each; `answer-bounds`, which numbers, places and counts are answered. Assumes nothing.
-use Prim.Native.Nat.{ℕ, zero, suc, ◌+◌, ◌*◌, ◌/◌, ◌^◌, ◌≤◌, ◌<◌}
-use mathlib.Core.Bool.{Bool, true, false, cond, not}
-use mathlib.Core.List.{List, [], ◌∷◌}
-use mathlib.Core.Path.{◌≡◌, refl}
-use native.Mathlib.Nat.{le_trans}
-use native.Mathlib.Omega.{arith}
-use borrow.Author.Tests.{eqb-true}
-use lib.Dec.{eqb, leb}
-use lib.ListN.{length}
+use Rattle.std.proofs.Common.{ℕ, zero, suc, ◌+◌, ◌/◌, ◌^◌, ◌≤◌, ◌<◌, Bool, true, false, cond, not, List, [], ◌∷◌, ◌≡◌, refl, le_trans, arith, eqb-true, eqb, leb, length}
+use Rattle.std.proofs.lemmas.Bool.{not-false}
+use Rattle.std.proofs.lemmas.Bool.Decides.{nat_tests}
 use Rattle.rdp_words.specs.Words.{word_at}
 use Rattle.rdp_words.proofs.Tests.{neither}
 use Rattle.f3dex2.specs.Commands.{first_byte, low_half, Role, straight, rectangle, modes, list, end, unnamed, role_of, setting_after, setting_first, parameter, top_byte, far, calls, invalid}
@@ -18,7 +12,7 @@ use Rattle.f3dex2.specs.declared.Due.{Due}
 use Rattle.f3dex2.specs.declared.Due.TheVariants.{Command, FirstHalf, SecondHalf}
 use Rattle.f3dex2.specs.declared.Setting.{Setting}
 use Rattle.f3dex2.specs.Translate.{Translated}
-use Rattle.f3dex2.proofs.RefusalLaws.{not-false, Sane, read-there, sane-there, refusal-most}
+use Rattle.f3dex2.proofs.RefusalLaws.{Sane, read-there, sane-there, refusal-most}
 
 -- no number of a list is above m
 abbrev pub AllMost : ℕ → List ℕ → Type 0
@@ -111,15 +105,8 @@ pub record Bounds (m : ℕ) (a : Translated) : Type 0 where
 
 answered : (m : ℕ) (r : Walked) (room : ℕ) → 4096 ≤ m → Bounded m 4096 0 r → Bounds m (translated_of r room)
 unfolding translated_of
-answered m r room h b = by_number (eqb r.number 0)
-  where
-    short : (c : Bool) → cond c 0 14 ≤ 23
-    short true = omega arith
-    short false = omega arith
-
-    by_number : (c : Bool) → Bounds m (cond c (record { number = cond (leb (8 * length r.words) room) 0 14; place = length r.words; read = length r.commands }) (record { number = r.number; place = r.place; read = length r.commands }))
-    by_number true = record { number = short (leb (8 * length r.words) room); place = omega (arith, b.words, b.read); read = b.read }
-    by_number false = record { number = b.number; place = b.place; read = b.read }
+answered m r room h b =
+    record { number = grind (arith, nat_tests, b.number); place = grind (arith, nat_tests, b.place, b.words, b.read); read = grind (arith, nat_tests, b.read) }
 
 pub answer-bounds :
     (memory : List ℕ) (start m room : ℕ) → 2 ^ 24 ≤ m → length memory ≤ m → start ≤ m → Bounds m (translate_answer memory start room)

@@ -1,13 +1,7 @@
 -- The bytes that are written. Promises: `translated-decodes`, they decode, command after command, to the commands that the display list commands read
 -- become; `beyond-left`, no byte beyond them changes; `refusal-leaves`, a refusal leaves the output. Assumes nothing.
-use Prim.Native.Nat.{ℕ, ◌+◌, ◌*◌, ◌^◌, ◌≤◌, ◌<◌}
-use mathlib.Core.Bool.{Bool, true, false, false≢true}
-use mathlib.Core.List.{List, [], ◌∷◌, ◌++◌}
-use mathlib.Core.Path.{◌≡◌, refl, ap, sym, subst, ◌∙◌}
-use native.Mathlib.Omega.{arith}
-use borrow.Author.Tests.{eqb-true, eq-eqb, ne_eqb}
-use lib.Dec.{eqb}
-use lib.ListN.{length, take, drop, length-append}
+use Rattle.std.proofs.Common.{ℕ, ◌+◌, ◌*◌, ◌^◌, ◌≤◌, ◌<◌, List, [], ◌∷◌, ◌++◌, ◌≡◌, refl, ap, sym, subst, ◌∙◌, arith, eq-eqb, ne_eqb, length, take, drop, length-append}
+use Rattle.std.proofs.lemmas.Bool.Decides.{nat_tests}
 use Rattle.rdp_words.specs.Words.{word_at, bytes_of, number_in, overwrite, bytes_of_words}
 use Rattle.rdp_words.specs.Kinds.{words_of}
 use Rattle.rdp_words.specs.Lengths.{first_number}
@@ -61,10 +55,9 @@ record Accepted (r : Walked) (room : ℕ) : Type 0 where
   number : r.number ≡ 0
   place : (translated_of r room).place ≡ length r.words
 
-accepted-by : (b : Bool) (r : Walked) (room : ℕ) → eqb r.number 0 ≡ b → (translated_of r room).number ≡ 0 → Accepted r room
+accepted-by : (r : Walked) (room : ℕ) → (translated_of r room).number ≡ 0 → Accepted r room
 unfolding translated_of
-accepted-by true r room e z = record { number = eqb-true _ _ e; place = rw e }
-accepted-by false r room e z = absurd (false≢true (sym e ∙ eq-eqb _ _ (rw e at z)))
+accepted-by r room z = record { number = grind (arith, nat_tests); place = grind (arith, nat_tests) }
 
 module _ (memory : List ℕ) (start : ℕ) (out : List ℕ) where
   abbrev answer : ℕ
@@ -76,7 +69,7 @@ module _ (memory : List ℕ) (start : ℕ) (out : List ℕ) where
 
   module _ (z : answer ≡ 0) where
     accepted : Accepted (walked memory start) (length out)
-    accepted = accepted-by (eqb (walked memory start).number 0) (walked memory start) (length out) refl z
+    accepted = accepted-by (walked memory start) (length out) z
 
     out-is : translate_out memory start out ≡ overwrite (bytes_of_words (walked memory start).words) out
     unfolding out_of

@@ -1,5 +1,5 @@
 -- The worked examples hold of the definition, which antt computes. Assumes nothing.
-use mathlib.Core.Path.{◌≡◌, refl}
+use Rattle.std.proofs.Common.{◌≡◌, refl}
 use Rattle.rdp_words.specs.Words.{half_of, word_at}
 use Rattle.f3dex2.specs.Commands.{role_of, modified, setting_after}
 use Rattle.f3dex2.specs.Walk.{walk}

@@ -1,6 +1,5 @@
 -- No ground has the number 0. Assumes nothing.
-use Rattle.std.proofs.Common.{◌≡◌, refl, false}
-use lib.Dec.{eqb}
+use Rattle.std.proofs.Common.{◌≡◌, refl, false, eqb}
 use Rattle.rdp_words.specs.Grounds.{number_of}
 use Rattle.rdp_words.specs.declared.grounds.Ground.{Ground}
 use Rattle.rdp_words.specs.declared.grounds.Ground.TheVariants.{TooLong, NotWords, Cut, AfterSyncFull, Unset, FillOnFourBits, LoadMissing, TileMissing, PipeMissing, NotDrawn, Unaligned, OutsideMemory, WorkTooShort, OutputTooShort, NotEncodable, NoTextureMemory, NotRgba16, OutsideTexture, Unassigned, NoCommand, TooManyCommands, Unknown, Invalid, NotAtPlace, OtherLength, NoEntry, Unviewable, Damaged}

@@ -1,11 +1,7 @@
 -- The roles of commands: what comes after each, and the RDP command that it becomes. Assumes nothing.
-use Prim.Native.Nat.{ℕ, ◌%◌, ◌^◌, ◌≤◌, ◌<◌}
-use mathlib.Core.Bool.{Bool, true, not, ◌&&◌, ◌||◌}
-use mathlib.Core.List.{[]}
-use mathlib.Core.Path.{◌≡◌, ◌∙◌}
-use native.Mathlib.Omega.{arith}
-use borrow.Author.Tests.{eqb-true, ltb-true, ltb-false, ne_eqb, le-leb, lt-leb}
-use lib.Dec.{T, eqb, ltb, eqb→eq}
+use Rattle.std.proofs.Common.{ℕ, ◌%◌, ◌^◌, ◌≤◌, ◌<◌, Bool, true, not, ◌&&◌, ◌||◌, [], ◌≡◌, ◌∙◌, arith, eqb-true, ltb-true, ltb-false, le-leb, T, eqb, ltb, eqb→eq}
+use Rattle.std.proofs.lemmas.Bool.{lt-leb}
+use Rattle.std.proofs.lemmas.Bool.Decides.{nat_tests}
 use Rattle.rdp_words.specs.Words.{number_in}
 use Rattle.rdp_words.specs.Kinds.{between, words_of, words_of_kind}
 use Rattle.rdp_words.specs.Kinds as rdp
@@ -27,19 +23,7 @@ role_test unnamed n = not (between 0xE4 0xE5 n)
 -- no byte has a number of 256 or more
 unnamed-beyond : (n : ℕ) → 256 ≤ n → role_of n ≡ unnamed
 unfolding role_of
-unnamed-beyond n h =
-    rw (
-      le-leb 0xE6 n (omega arith),
-      lt-leb n 0xF0 (omega arith),
-      le-leb 0xF2 n (omega arith),
-      lt-leb n 0xFF (omega arith),
-      le-leb 0xE4 n (omega arith),
-      lt-leb n 0xE5 (omega arith),
-      le-leb 0xE2 n (omega arith),
-      lt-leb n 0xE3 (omega arith),
-      ne_eqb n 0xDE (λ e. omega arith),
-      ne_eqb n 0xDF (λ e. omega arith),
-    )
+unnamed-beyond n h = grind (arith, nat_tests)
 
 beyond : (n : ℕ) → 256 ≤ n → T (role_test (role_of n) n)
 beyond n h = rw (unnamed-beyond n h, le-leb 0xE4 n (omega arith), lt-leb n 0xE5 (omega arith)) tt

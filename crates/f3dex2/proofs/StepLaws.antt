@@ -1,19 +1,11 @@
 -- One command of the walk, as `read_command` meets it, and a word that it writes. Assumes nothing.
-use mathlib.Core.Path.{◌≡◌, refl, sym, ◌∙◌, ap}
-use mathlib.Core.Bool.{Bool, true, false, cond}
-use mathlib.Core.List.{List}
-use Prim.Native.Nat.{ℕ, zero, suc, ◌+◌, ◌-◌, ◌/◌, ◌%◌, ◌≤◌, ◌<◌}
-use native.Mathlib.Omega.{arith}
-use native.Mathlib.Nat.{add-zero}
-use lib.Dec.{eqb, leb}
-use lib.ListN.{length}
-use borrow.Author.Tests.{leb-true, leb-false}
+use Rattle.std.proofs.Common.{◌≡◌, refl, sym, ◌∙◌, ap, Bool, true, false, cond, List, ℕ, zero, suc, ◌+◌, ◌-◌, ◌/◌, ◌≤◌, ◌<◌, arith, add-zero, leb, length, leb-true}
 use Rattle.std.specs.Prelude.{Result, Ok, Err}
+use Rattle.std.proofs.lemmas.Bool.Decides.{nat_tests}
 use Rattle.rdp_words.specs.Words.{word_at}
 use Rattle.rdp_words.specs.Grounds.{number_of}
 use Rattle.rdp_words.specs.declared.grounds.Ground.{Ground}
 use Rattle.rdp_words.specs.declared.grounds.Ground.TheVariants.{NoCommand, TooManyCommands}
-use Rattle.rdp_words.proofs.Tests.{and-true}
 use Rattle.f3dex2.specs.Commands.{first_byte, setting_after}
 use Rattle.f3dex2.specs.Walk.{Walked, stopped, counted, readable, walk}
 use Rattle.f3dex2.specs.Steps.{action_by, action_of, acted, perform, read_refusal, put_words, refused_with, settled_on, walk_from, Reads, Stays}
@@ -77,16 +69,11 @@ pub record Readable (memory : List ℕ) (at read : ℕ) : Type 0 where
   pub left : read < 4096
 
 module _ (memory : List ℕ) (at read : ℕ) where
-  readable-by : (b f : Bool) → readable memory at ≡ b → leb 4096 read ≡ f → Ok tt ≡ refusal-by b f → Readable memory at read
-  readable-by false f e h is = absurd cc
-  readable-by true true e h is = absurd cc
-  readable-by true false e h is = record { there = e; left = leb-false _ _ h }
-
   pub found : Ok tt ≡ read_refusal memory at read → Readable memory at read
-  found = readable-by (readable memory at) (leb 4096 read) refl refl
+  found is = record { there = grind (arith, nat_tests); left = grind (arith, nat_tests) }
 
   pub offset-fits : Readable memory at read → at + 8 ≤ length memory
-  offset-fits can = leb-true _ _ (and-true (eqb (at % 8) 0) (leb (at + 8) (length memory)) can.there).1
+  offset-fits can = grind (arith, nat_tests, can.there)
 
 -- the command at an offset is read: what it does, or why it is refused
 module _ (memory : List ℕ) (at depth : ℕ) (s : State) (can : Readable memory at s.read) {w : ℕ} (is-w : w ≡ word_at memory (at / 8)) {set : Setting}

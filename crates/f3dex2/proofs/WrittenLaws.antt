@@ -1,18 +1,13 @@
 -- The words that are written. Promise: `words-commands`, they are whole commands with bits 63:62 zero, for each display list command read just those that it
 -- becomes, in their order; so one Set Other Modes for each 0xE2 and 0xE3. Assumes nothing.
-use Prim.Native.Nat.{ℕ, zero, suc, ◌+◌, ◌-◌, ◌/◌, ◌%◌, ◌^◌, ◌<◌}
-use mathlib.Core.Bool.{Bool, true, false, cond, not, false≢true}
-use mathlib.Core.List.{List, [], ◌∷◌, ◌++◌}
-use mathlib.Core.Path.{◌≡◌, refl, ap, sym, subst, ◌∙◌}
-use native.Mathlib.Nat.{lt_of_le_of_lt, mod-lt}
-use native.Mathlib.Omega.{arith}
-use lib.Bits.{bit_and, or_lt, and_le_l}
-use lib.Dec.{T, eqb, eqb→eq, lit<}
-use lib.ListN.{length}
+use Rattle.std.proofs.Common.{ℕ, zero, suc, ◌+◌, ◌-◌, ◌/◌, ◌%◌, ◌^◌, ◌<◌, Bool, true, false, cond, not, List, [], ◌∷◌, ◌++◌, ◌≡◌, refl, ap, sym, subst, ◌∙◌, lt_of_le_of_lt, mod-lt, arith, bit_and, T, eqb, eqb→eq, lit<, length}
+use Rattle.std.proofs.lemmas.Bool.{false≢true}
+use Rattle.std.proofs.lemmas.Nat.{or_lt, and_le_l}
+use Rattle.std.proofs.lemmas.Bool.Decides.{nat_tests}
 use Rattle.rdp_words.specs.Words.{word_at, number_in}
 use Rattle.rdp_words.specs.Kinds.{between, words_of}
 use Rattle.rdp_words.proofs.Tests.{both, true_of, false_of}
-use Rattle.f3dex2.specs.Commands.{first_byte, low_half, Role, straight, rectangle, modes, list, end, unnamed, role_of, command_word, second_word, modes_word, count_in, shift_code, inside, masked, modified, setting_by, setting_after, setting_first, calls}
+use Rattle.f3dex2.specs.Commands.{first_byte, low_half, Role, straight, rectangle, modes, list, end, unnamed, role_of, command_word, second_word, modes_word, count_in, shift_code, masked, modified, setting_by, setting_after, setting_first, calls}
 use Rattle.f3dex2.specs.Walk.{Walked, counted, resumed, named, offset_refusal, runs_role, runs, judged, walk}
 use Rattle.f3dex2.specs.Translate.{walked}
 use Rattle.f3dex2.specs.Written.{becomes, numbers_for, AreCommands, none, one, two}
@@ -24,23 +19,18 @@ use Rattle.f3dex2.proofs.RoleLaws.{role_test, role-known, first-none, second_non
 
 -- ---- the low word of the other modes has 32 bits
 
-cond-less : (b : Bool) (x y m : ℕ) → x < m → y < m → cond b x y < m
-cond-less true x y m h k = h
-cond-less false x y m h k = k
-
 low_small : (w : ℕ) → low_half w < 2 ^ 32
 low_small w = mod-lt w (lit< tt)
 
 modified-small : (x w : ℕ) → x < 2 ^ 32 → modified x w < 2 ^ 32
 unfolding modified
 modified-small x w h =
-    cond-less (inside w) (masked x (32 - (shift_code w + count_in w)) (count_in w) (low_half w)) x (2 ^ 32)
-    (or_lt 32 (bit_and x _) (low_half w) (lt_of_le_of_lt (and_le_l x _) h) (low_small w)) h
+    let masked_small : masked x (32 - (shift_code w + count_in w)) (count_in w) (low_half w) < 2 ^ 32 =
+    or_lt 32 (bit_and x _) (low_half w) (lt_of_le_of_lt (and_le_l x _) h) (low_small w) in
+    grind (arith, nat_tests, masked_small)
 
 low_by : (due : Due) (s : Setting) (n w : ℕ) → s.low < 2 ^ 32 → (setting_by due s n w).low < 2 ^ 32
-low_by Command s n w h =
-    cond-less (eqb n 0xEF) (low_half w) (cond (eqb n 0xE2) (modified s.low w) s.low) (2 ^ 32) (low_small w)
-    (cond-less (eqb n 0xE2) (modified s.low w) s.low (2 ^ 32) (modified-small s.low w h) h)
+low_by Command s n w h = grind (arith, nat_tests, low_small w, modified-small s.low w h)
 low_by FirstHalf s n w h = h
 low_by (SecondHalf first) s n w h = h
 
