@@ -1,9 +1,9 @@
--- Commands and lists that run one after the other, as `run_command` and `run_list` meet them. Assumes nothing.
+-- What holds at the head of the loop of `run_list`: the walk from the start of the list is the walk from here. Assumes nothing.
 use Rattle.std.proofs.Common.{◌≡◌, List, ℕ, ◌≤◌, length}
 use Rattle.f3dex2.specs.Steps.{walk_from}
-use Rattle.f3dex2.specs.declared.State.{State}
+use Rattle.f3dex2.specs.declared.Walker.{Walker}
 
--- what holds at the head of the list's loop: the walk from the start of the list is the walk from here
-pub record Ran (memory : List ℕ) (start depth : ℕ) (begun : State) (before : List ℕ) (at : ℕ) (s : State) (out : List ℕ) : Type 0 where
-  pub more : begun.read ≤ s.read
-  pub same : (returns : List ℕ) → length returns ≡ depth → walk_from memory returns start begun before ≡ walk_from memory returns at s out
+pub record Ran (begun : Walker) (start depth : ℕ) (w : Walker) (at : ℕ) : Type 0 where
+  pub more : begun.read ≤ w.read
+  pub same : (returns : List ℕ) → length returns ≡ depth → walk_from begun returns start ≡ walk_from w returns at
+  pub same_output : w.out.ghost_name ≡ begun.out.ghost_name

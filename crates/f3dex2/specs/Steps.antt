@@ -13,7 +13,7 @@ use Rattle.f3dex2.specs.declared.Due.TheVariants.{Command, FirstHalf, SecondHalf
 use Rattle.f3dex2.specs.declared.Setting.{Setting}
 use Rattle.f3dex2.specs.declared.Action.{Action}
 use Rattle.f3dex2.specs.declared.Action.TheVariants.{Write, Pass, Call, Branch, End}
-use Rattle.f3dex2.specs.declared.State.{State}
+use Rattle.f3dex2.specs.declared.Walker.{Walker}
 use Rattle.f3dex2.specs.declared.Refused.{Refused}
 use Rattle.f3dex2.specs.declared.Translated as made
 use Rattle.f3dex2.specs.declared.Untranslated.{Untranslated}
@@ -82,10 +82,12 @@ put_words k (w ∷ ws) out = put_words (suc k) ws (put_word k w out)
 -- ---- how far a walk has come
 
 -- before the first command
-pub record IsStart (s : State) : Type 0 where
-  pub setting : s.setting ≡ setting_first
-  pub read : s.read ≡ 0
-  pub written : s.written ≡ 0
+pub record Starts (memory out : List ℕ) (w : Walker) : Type 0 where
+  pub reads : w.memory.now ≡ memory
+  pub writes : w.out.now ≡ out
+  pub setting : w.setting ≡ setting_first
+  pub read : w.read ≡ 0
+  pub written : w.written ≡ 0
 
 -- a walk that is over, with its output
 pub record Settled : Type 0 where
@@ -95,71 +97,71 @@ pub record Settled : Type 0 where
   pub words : ℕ
   pub out : List ℕ
 
-abbrev pub refused_with : ℕ → ℕ → State → List ℕ → Settled
-refused_with number place s out = record { number = number; place = place; read = s.read; words = s.written; out = out }
+abbrev pub refused_with : ℕ → ℕ → Walker → Settled
+refused_with number place v = record { number = number; place = place; read = v.read; words = v.written; out = v.out.now }
 
 -- what is to come, settled on what has been read and written
-abbrev pub settled_on : Walked → State → List ℕ → Settled
-settled_on r s out =
+abbrev pub settled_on : Walked → Walker → Settled
+settled_on r w =
     record {
       number = r.number;
       place = r.place;
-      read = s.read + length r.commands;
-      words = s.written + length r.words;
-      out = put_words s.written r.words out;
+      read = w.read + length r.commands;
+      words = w.written + length r.words;
+      out = put_words w.written r.words w.out.now;
     }
 
-abbrev pub walk_from : List ℕ → List ℕ → ℕ → State → List ℕ → Settled
-walk_from memory returns at s out = settled_on (walk memory (4096 - s.read) returns at s.setting) s out
+abbrev pub walk_left : Walker → List ℕ → ℕ → Setting → Walked
+walk_left w = walk w.memory.now (4096 - w.read)
+
+abbrev pub walk_from : Walker → List ℕ → ℕ → Settled
+walk_from w returns at = settled_on (walk_left w returns at w.setting) w
 
 -- on by what a command does
-abbrev pub walk_by : List ℕ → List ℕ → ℕ → Action → State → List ℕ → Settled
-walk_by memory returns at action s out = settled_on (acted (walk memory (4096 - s.read)) returns at s.setting action) s out
+abbrev pub walk_by : Walker → List ℕ → ℕ → Action → Settled
+walk_by w returns at action = settled_on (acted (walk_left w) returns at w.setting action) w
 
 -- on after the end of a list
-abbrev pub walk_back : List ℕ → List ℕ → State → List ℕ → Settled
-walk_back memory returns s out = settled_on (resumed (walk memory (4096 - s.read)) returns s.setting) s out
+abbrev pub walk_back : Walker → List ℕ → Settled
+walk_back w returns = settled_on (resumed (walk_left w) returns w.setting) w
 
--- a state that comes later
-pub record Later (s t : State) : Type 0 where
-  pub most : t.read ≤ 4096
-  pub more : s.read < t.read
+-- more is read, and no more than may be
+pub record Later (w v : Walker) : Type 0 where
+  pub most : v.read ≤ 4096
+  pub more : w.read < v.read
 
 -- the walk from an offset, whatever stands on the stack of `depth` offsets to return to, is refused, goes on elsewhere, or ends its list
-pub record Refuses (memory : List ℕ) (at depth : ℕ) (s : State) (before : List ℕ) (r : Refused) (t : State) (after : List ℕ) : Type 0 where
-  pub same : (returns : List ℕ) → length returns ≡ depth → walk_from memory returns at s before ≡ refused_with (number_of r.ground) r.place t after
+pub record Refuses (w : Walker) (at depth number place : ℕ) (v : Walker) : Type 0 where
+  pub same : (returns : List ℕ) → length returns ≡ depth → walk_from w returns at ≡ refused_with number place v
 
-pub record Goes (memory : List ℕ) (at depth : ℕ) (s : State) (before : List ℕ) (on : ℕ) (t : State) (after : List ℕ) : Type 0 where
-  pub later : Later s t
-  pub same : (returns : List ℕ) → length returns ≡ depth → walk_from memory returns at s before ≡ walk_from memory returns on t after
+pub record Goes (w : Walker) (at depth on : ℕ) (v : Walker) : Type 0 where
+  pub later : Later w v
+  pub same : (returns : List ℕ) → length returns ≡ depth → walk_from w returns at ≡ walk_from v returns on
 
-pub record Ends (memory : List ℕ) (at depth : ℕ) (s : State) (before : List ℕ) (t : State) (after : List ℕ) : Type 0 where
-  pub later : Later s t
-  pub same : (returns : List ℕ) → length returns ≡ depth → walk_from memory returns at s before ≡ walk_back memory returns t after
+pub record Ends (w : Walker) (at depth : ℕ) (v : Walker) : Type 0 where
+  pub later : Later w v
+  pub same : (returns : List ℕ) → length returns ≡ depth → walk_from w returns at ≡ walk_back v returns
 
--- the command at an offset is read, or refused
-pub record Reads (memory : List ℕ) (at depth : ℕ) (s : State) (action : Action) (t : State) : Type 0 where
-  pub there : at + 8 ≤ length memory
-  pub most : t.read ≤ 4096
-  pub more : t.read ≡ s.read + 1
-  pub written : t.written ≡ s.written
-  pub same : (returns out : List ℕ) → length returns ≡ depth → walk_from memory returns at s out ≡ walk_by memory returns at action t out
+-- the command at an offset is read
+pub record Reads (w : Walker) (at depth : ℕ) (action : Action) (v : Walker) : Type 0 where
+  pub there : at + 8 ≤ length w.memory.now
+  pub most : v.read ≤ 4096
+  pub more : v.read ≡ w.read + 1
+  pub written : v.written ≡ w.written
+  pub same : (returns : List ℕ) → length returns ≡ depth → walk_from w returns at ≡ walk_by v returns at action
 
-pub record Stays (memory : List ℕ) (at depth : ℕ) (s : State) (g : Ground) (t : State) : Type 0 where
-  pub same : (returns out : List ℕ) → length returns ≡ depth → walk_from memory returns at s out ≡ refused_with (number_of g) at t out
+abbrev pub ReadIs : Walker → ℕ → ℕ → Result Action Ground → Walker → Type 0
+ReadIs w at depth (Ok action) v = Reads w at depth action v
+ReadIs w at depth (Err g) v = Refuses w at depth (number_of g) at v
 
-abbrev pub ReadIs : List ℕ → ℕ → ℕ → State → Result Action Ground → State → Type 0
-ReadIs memory at depth s (Ok action) t = Reads memory at depth s action t
-ReadIs memory at depth s (Err g) t = Stays memory at depth s g t
+abbrev pub StepIs : Walker → ℕ → ℕ → Result (Option ℕ) Refused → Walker → Type 0
+StepIs w at depth (Ok (Some on)) v = Goes w at depth on v
+StepIs w at depth (Ok None) v = Ends w at depth v
+StepIs w at depth (Err r) v = Refuses w at depth (number_of r.ground) r.place v
 
-abbrev pub StepIs : List ℕ → ℕ → ℕ → State → List ℕ → Result (Option ℕ) Refused → State → List ℕ → Type 0
-StepIs memory at depth s before (Ok (Some on)) t after = Goes memory at depth s before on t after
-StepIs memory at depth s before (Ok None) t after = Ends memory at depth s before t after
-StepIs memory at depth s before (Err r) t after = Refuses memory at depth s before r t after
-
-abbrev pub ListIs : List ℕ → ℕ → ℕ → State → List ℕ → Result (Unit {0}) Refused → State → List ℕ → Type 0
-ListIs memory at depth s before (Ok _) t after = Ends memory at depth s before t after
-ListIs memory at depth s before (Err r) t after = Refuses memory at depth s before r t after
+abbrev pub ListIs : Walker → ℕ → ℕ → Result (Unit {0}) Refused → Walker → Type 0
+ListIs w at depth (Ok _) v = Ends w at depth v
+ListIs w at depth (Err r) v = Refuses w at depth (number_of r.ground) r.place v
 
 -- the whole walk comes to its end, or is refused
 pub record Finished (r : Walked) (t : made.Translated) : Type 0 where

@@ -131,6 +131,7 @@ fn command_action(after: Setting, depth: usize, w: u64) -> Result<Action, Ground
     ensures { result ≡ role_action (role_of (first_byte w)) after depth (first_byte w) w }
 {
     let number = w >> 56;
+    // One test first, which nearly all commands pass: as arms of the match below it makes the row translate of make bench a sixth slower.
     if matches!(number, 0xE4..=0xF0 | 0xF2..=0xFF) {
         if number >= 0xFD && (w >> 24) % 256 != 0 {
             return Err(Ground::Invalid);

@@ -52,9 +52,12 @@ pub enum Action {
     End,
 }
 
-// How far a walk has come: the setting, the commands read and the words written, at most one for each.
-#[derive(Clone, Copy)]
-pub struct State {
+// A walk: the memory that it reads and the output that it writes, and how far it has come: the setting, the commands read and the words written, at most one
+// for each.
+#[derive(Drop)]
+pub struct Walker<'a> {
+    pub memory: &'a [u8],
+    pub out: &'a mut [u8],
     pub setting: Setting,
     pub read: usize,
     pub written: usize,

@@ -2,17 +2,16 @@
 -- The loop's invariant: the walk from the start of the list is the walk from here.
 use Rattle.std.proofs.Common.{◌+◌, ◌-◌, ◌*◌}
 use Rattle.f3dex2.proofs.RunLaws.{Ran}
-use Rattle.f3dex2.proofs.walk.+run_command_run_list.Given as goal
+use Rattle.f3dex2.proofs.Walker.+run_command_run_list.Given as goal
 
 abbrev pub decreases-run_command : goal.decreases-run_command
-decreases-run_command l = 2 * (4096 - l.state.now.read)
+decreases-run_command l = 2 * (4096 - l.self.now.read)
 
 abbrev pub decreases-run_list : goal.decreases-run_list
-decreases-run_list l = 2 * (4096 - l.state.now.read) + 1
+decreases-run_list l = 2 * (4096 - l.self.now.read) + 1
 
 abbrev pub invariant-run_list-loop-next : goal.invariant-run_list-loop-next
-invariant-run_list-loop-next l =
-    Ran l.memory l.initial.at l.depth l.initial.state l.initial.out l.at l.state l.out
+invariant-run_list-loop-next l = Ran l.initial.self l.initial.at l.depth l.self l.at
 
 abbrev pub decreases-run_list-loop-next : goal.decreases-run_list-loop-next
-decreases-run_list-loop-next l = 4096 - l.state.read
+decreases-run_list-loop-next l = 4096 - l.self.read
