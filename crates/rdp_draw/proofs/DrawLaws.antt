@@ -2,7 +2,7 @@
 use mathlib.Core.Bool.{Bool, true, false, cond, not, not-not}
 use mathlib.Core.List.{List, [], ◌∷◌}
 use mathlib.Core.Path.{◌≡◌, refl, sym, ◌∙◌, ap, subst}
-use Prim.Native.Nat.{ℕ, ◌+◌, ◌/◌, ◌%◌, ◌≤◌, ◌<◌}
+use Prim.Native.Nat.{ℕ, ◌+◌, ◌/◌, ◌%◌, ◌≤◌, ◌<◌, ◌-◌}
 use native.Mathlib.Omega.{arith}
 use borrow.Author.Tests.{eq-eqb, ne_eqb, eqb-true, eqb-false, ltb-true, ltb-false}
 use lib.Dec.{eqb, ltb}
@@ -27,7 +27,8 @@ use Rattle.rdp_texels.proofs.ActLaws.{never, load-first, copy-first, load-leaves
 use Rattle.rdp_draw.specs.declared.walk.Reached.{Reached}
 use Rattle.rdp_fill.specs.Fill.{outside, painted, fill_memory}
 use Rattle.rdp_draw.specs.Draw.{Act, other_draw, filling, copying, loading, blocking, fill_act, copy_act, Placed, acts_of, misaligned, act_refusals, act_grounds, texture_ground, draw_answer, Memories, memories, acted, acted_all, drawn}
-use Rattle.rdp_draw.specs.Seen.{fill_at, copy_at, load_at, act_by, act_with, placed_with, act_refusal, Next, ReachedIs, Reaches, first_refusal}
+use Rattle.std.specs.Prelude.{Some, None}
+use Rattle.rdp_draw.specs.Seen.{ActsDue, fill_at, copy_at, load_at, act_by, act_with, placed_with, act_refusal, Next, Reaches, first_refusal}
 use Rattle.rdp_draw.proofs.SeenLaws.{start-due}
 
 -- ---- a list that the check accepts
@@ -258,38 +259,45 @@ first_next start len words p acts =
 
 -- ---- the loops over the acts
 
--- what holds at the head of both: the acts from the one that is reached on have a property
-pub record Reaching (P : List Placed → Type 0) (list : List ℕ) (words : ℕ) (r : Reached) (file : List ℕ) : Type 0 where
+-- what holds at the head of both: the acts that are due have a property
+pub record Going (P : List Placed → Type 0) (list : List ℕ) (words : ℕ) (next : ℕ) (file : List ℕ) : Type 0 where
   pub count : words ≡ length list / 8
   pub acts : List Placed
-  pub reached : ReachedIs list r file acts
+  pub due : ActsDue list next file acts
   pub holds : P acts
 
-pub reaching-first :
-    (P : List Placed → Type 0) (list : List ℕ) (words : ℕ) → words ≡ length list / 8 → rest_of list ≡ [] → P (acts_of list) → (r : Reached) (file : List ℕ) →
-    Reaches list 0 (replicate 32 0) r file → Reaching P list words r file
-reaching-first P list words e w p r file h = record { count = e; acts = acts_of list; reached = h.1 _ (start-due list w); holds = p }
+pub going-first :
+    (P : List Placed → Type 0) (list : List ℕ) (words : ℕ) → words ≡ length list / 8 → rest_of list ≡ [] → P (acts_of list) →
+    Going P list words 0 (replicate 32 0)
+going-first P list words e w p = record { count = e; acts = acts_of list; due = start-due list w; holds = p }
 
-module _ {P : List Placed → Type 0} {list : List ℕ} {words : ℕ} {r : Reached} {file : List ℕ} (t : Reaching P list words r file) where
-  reaching-none : words ≤ r.place → P []
-  reaching-none h = subst P (t.reached.none (omega (arith, t.count))) t.holds
+module _ {P : List Placed → Type 0} {list : List ℕ} {words : ℕ} {from : ℕ} {file : List ℕ} (t : Going P list words from file) where
+  -- there is no act
+  going-none : (file' : List ℕ) → Reaches list from file None file' → P []
+  going-none file' h = subst P (h _ t.due) t.holds
 
-  module _ (more : r.place < words) where
-    pub next : Next list r file t.acts
-    next = t.reached.some (omega (arith, t.count))
+  module _ {r : Reached} {file' : List ℕ} (h : Reaches list from file (Some r) file') where
+    next : Next list r file' t.acts
+    next = (h _ t.due).1
+
+    pub inside : r.place + words_of r.number ≤ words
+    inside = omega (arith, t.count, next.inside)
+
+    pub before-end : r.place < words
+    before-end = omega (arith, inside, next.some)
 
     abbrev p : Placed
-    p = placed_with file list r.place r.number
+    p = placed_with file' list r.place r.number
 
     here : P (p ∷ next.others)
     here = subst P next.first t.holds
 
-    module _ (k : ℕ) (is-k : k ≡ words_of r.number) (r' : Reached) (file' : List ℕ) (h : Reaches list (r.place + k) file r' file') where
-      reaching-again : (Q : List Placed → Type 0) → Q next.others → Reaching Q list words r' file'
-      reaching-again Q q = record { count = t.count; acts = next.others; reached = h.1 _ (rw is-k next.due); holds = q }
+    module _ (k : ℕ) (is-k : k ≡ words_of r.number) where
+      going-again : (Q : List Placed → Type 0) → Q next.others → Going Q list words (r.place + k) file'
+      going-again Q q = record { count = t.count; acts = next.others; due = rw is-k next.due; holds = q }
 
-      pub falls : r.place < r'.place
-      falls = omega (arith, h.0, next.some)
+      pub falls : words - (r.place + k) < words - from
+      falls = omega (arith, (h _ t.due).0, next.some, inside)
 
 -- ---- the loop that tests
 
@@ -297,27 +305,25 @@ module _ {P : List Placed → Type 0} {list : List ℕ} {words : ℕ} {r : Reach
 abbrev pub Tests : List ℕ → ℕ → ℕ → ℕ → List Placed → Type 0
 Tests list start len words acts = first_refusal start len words acts ≡ first_refusal start len words (acts_of list)
 
-module _ {list : List ℕ} (start len : ℕ) {words : ℕ} {r : Reached} {file : List ℕ} (t : Reaching (Tests list start len words) list words r file) where
-  pub tests-none : words ≤ r.place → answer 0 words ≡ first_refusal start len words (acts_of list)
+module _ {list : List ℕ} (start len : ℕ) {words : ℕ} {from : ℕ} {file : List ℕ} (t : Going (Tests list start len words) list words from file) where
+  pub tests-none : (file' : List ℕ) → Reaches list from file None file' → answer 0 words ≡ first_refusal start len words (acts_of list)
   unfolding first_refusal act_grounds
-  tests-none h = reaching-none t h
+  tests-none file' h = going-none t file' h
 
-  module _ (more : r.place < words) (g : ℕ) (is : g ≡ act_refusal start len (p t more).act) where
+  module _ {r : Reached} {file' : List ℕ} (h : Reaches list from file (Some r) file') (g : ℕ) (is : g ≡ act_refusal start len (p t h).act) where
     abbrev onward : Answer
-    onward = first_refusal start len words (next t more).others
+    onward = first_refusal start len words (next t h).others
 
     unrolled : refused_at g r.place onward ≡ first_refusal start len words (acts_of list)
     unrolled =
-        ap (λ (k : ℕ). refused_at k r.place onward) is ∙ sym (first_next start len words (p t more) (next t more).others) ∙ here t more
+        ap (λ (k : ℕ). refused_at k r.place onward) is ∙ sym (first_next start len words (p t h) (next t h).others) ∙ here t h
 
     pub tests-refused : (g ≡ 0 → ⊥) → answer g r.place ≡ first_refusal start len words (acts_of list)
-    tests-refused h = sym (refused-some g r.place onward h) ∙ unrolled
+    tests-refused ne = sym (refused-some g r.place onward ne) ∙ unrolled
 
-    pub tests-again :
-        g ≡ 0 → (k : ℕ) → k ≡ words_of r.number → (r' : Reached) (file' : List ℕ) → Reaches list (r.place + k) file r' file' →
-        Reaching (Tests list start len words) list words r' file'
-    tests-again e k is-k r' file' h =
-        reaching-again t more k is-k r' file' h (Tests list start len words) (ap (λ (j : ℕ). refused_at j r.place onward) (sym e) ∙ unrolled)
+    pub tests-again : g ≡ 0 → (k : ℕ) → k ≡ words_of r.number → Going (Tests list start len words) list words (r.place + k) file'
+    tests-again e k is-k =
+        going-again t h k is-k (Tests list start len words) (ap (λ (j : ℕ). refused_at j r.place onward) (sym e) ∙ unrolled)
 
 -- ---- the loop that acts
 
@@ -329,37 +335,36 @@ pub record Does (list : List ℕ) (start words : ℕ) (m₀ m : Memories) (acts 
   pub clear : (first_refusal start (length m.memory) words acts).number ≡ 0
   pub same : acted_all start acts m ≡ acted_all start (acts_of list) m₀
 
-module _ {list : List ℕ} {start words : ℕ} {m₀ m : Memories} {r : Reached} {file : List ℕ} (t : Reaching (Does list start words m₀ m) list words r file) where
-  pub does-none : words ≤ r.place → m ≡ acted_all start (acts_of list) m₀
+module _ {list : List ℕ} {start words : ℕ} {m₀ m : Memories} {from : ℕ} {file : List ℕ} (t : Going (Does list start words m₀ m) list words from file) where
+  pub does-none : (file' : List ℕ) → Reaches list from file None file' → m ≡ acted_all start (acts_of list) m₀
   unfolding acted_all
-  does-none h = (reaching-none t h).same
+  does-none file' h = (going-none t file' h).same
 
-  module _ (more : r.place < words) where
+  module _ {r : Reached} {file' : List ℕ} (h : Reaches list from file (Some r) file') where
     clears :
-        (act_refusal start (length m.memory) (p t more).act ≡ 0) ×
-        ((first_refusal start (length m.memory) words (next t more).others).number ≡ 0)
+        (act_refusal start (length m.memory) (p t h).act ≡ 0) ×
+        ((first_refusal start (length m.memory) words (next t h).others).number ≡ 0)
     clears =
         refused_none _ r.place _
-        (ap (λ (x : Answer). x.number) (sym (first_next start (length m.memory) words (p t more) (next t more).others)) ∙ (here t more).clear)
+        (ap (λ (x : Answer). x.number) (sym (first_next start (length m.memory) words (p t h) (next t h).others)) ∙ (here t h).clear)
 
-    pub does-clear : act_refusal start (length m.memory) (act_with file list r.place r.number) ≡ 0
+    pub does-clear : act_refusal start (length m.memory) (act_with file' list r.place r.number) ≡ 0
     does-clear = clears.0
 
     pub does-size : length m.texture ≡ 4096
-    does-size = (here t more).size
+    does-size = (here t h).size
 
     pub does-again :
-        (m' : Memories) → m' ≡ acted start (act_with file list r.place r.number) m → length m'.memory ≡ length m.memory →
-        length m'.texture ≡ length m.texture → (k : ℕ) → k ≡ words_of r.number → (r' : Reached) (file' : List ℕ) →
-        Reaches list (r.place + k) file r' file' → Reaching (Does list start words m₀ m') list words r' file'
+        (m' : Memories) → m' ≡ acted start (act_with file' list r.place r.number) m → length m'.memory ≡ length m.memory →
+        length m'.texture ≡ length m.texture → (k : ℕ) → k ≡ words_of r.number → Going (Does list start words m₀ m') list words (r.place + k) file'
     unfolding acted_all
-    does-again m' is_m same_memory same-texture k is-k r' file' h =
-        let q = here t more in
-        reaching-again t more k is-k r' file' h (Does list start words m₀ m')
+    does-again m' is_m same_memory same-texture k is-k =
+        let q = here t h in
+        going-again t h k is-k (Does list start words m₀ m')
         (record {
           long = same_memory ∙ q.long;
           long-texture = same-texture ∙ q.long-texture;
           size = same-texture ∙ q.size;
           clear = rw same_memory clears.1;
-          same = ap (acted_all start (next t more).others) is_m ∙ q.same;
+          same = ap (acted_all start (next t h).others) is_m ∙ q.same;
         })

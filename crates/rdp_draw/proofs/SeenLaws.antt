@@ -2,7 +2,7 @@
 use mathlib.Core.Bool.{Bool, true, false, cond, not, ◌||◌, true≢false, false≢true}
 use mathlib.Core.List.{List, [], ◌∷◌}
 use mathlib.Core.Path.{◌≡◌, refl, sym, ◌∙◌, ap, subst}
-use Prim.Native.Nat.{ℕ, ◌+◌, ◌*◌, ◌/◌, ◌%◌, ◌≤◌, ◌<◌, max}
+use Prim.Native.Nat.{ℕ, ◌+◌, ◌*◌, ◌/◌, ◌%◌, ◌≤◌, ◌<◌}
 use native.Mathlib.Nat.{le_refl, mod-eq_of_lt}
 use native.Mathlib.Omega.{arith}
 use borrow.Author.Tests.{ne_eqb, eqb-true, ltb-true, ltb-false}
@@ -37,6 +37,7 @@ use Rattle.rdp_state.proofs.RegisterLaws.{none-set, length-stored, words-kept, r
 use Rattle.rdp_state.specs.Replay.{setters}
 use Rattle.rdp_check.proofs.ListLaws.{command_at, commands-at, rest_at, commands-past, rest-past, split_at, command-word, command-number, command-whole, command-there}
 use Rattle.rdp_draw.specs.Draw.{Act, nothing, other_draw, other_load, filling, copying, loading, blocking, fill_of, copy_of, load_of, fill_act, copy_act, act_of, act_of_decoded, Placed, with_act, acts_from, acts_of}
+use Rattle.std.specs.Prelude.{Some, None}
 use Rattle.rdp_draw.specs.Seen.{fill_words, copy_words, load_words, act_by, act_with, ActsDue, Next, Reaches}
 
 -- ---- the kinds of steps
@@ -428,9 +429,8 @@ pub walk_first : (list : List ℕ) (from : ℕ) (file : List ℕ) (words : ℕ) 
 walk_first list from file words e = record { count = e; onward = le_refl from; due = λ acts d. d }
 
 module _ {list : List ℕ} {from : ℕ} {before : List ℕ} {words : ℕ} {file : List ℕ} {at : ℕ} (w : Walks list from before words file at) where
-  pub walk_none : words ≤ at → (end : ℕ) → end ≡ max words from → (n : ℕ) → Reaches list from before (record { place = end; number = n }) file
-  walk_none h end is n =
-      (omega (arith, is), λ acts d. record { some = λ l. absurd (omega (arith, w.count, is)); none = λ l. due-none (w.due acts d) (omega (arith, w.count)) })
+  pub walk_none : words ≤ at → Reaches list from before None file
+  walk_none h acts d = due-none (w.due acts d) (omega (arith, w.count))
 
   module _ (more : at < words) (n : ℕ) (is : n ≡ number_in (word_at list at)) (b : Bool) (in_draws : b ≡ is_among 0x0040_0030_0000_FF00 n) where
     low : n < 64
@@ -442,9 +442,8 @@ module _ {list : List ℕ} {from : ℕ} {before : List ℕ} {words : ℕ} {file 
     inside : at < length list / 8
     inside = omega (arith, w.count)
 
-    pub walk-found : b ≡ true → Reaches list from before (record { place = at; number = n }) file
-    walk-found t =
-        (w.onward, λ acts d. record { some = λ l. reached (w.due acts d) inside n is (sym is_b ∙ t); none = λ l. absurd (omega arith) })
+    pub walk-found : b ≡ true → Reaches list from before (Some (record { place = at; number = n })) file
+    walk-found t acts d = (w.onward, reached (w.due acts d) inside n is (sym is_b ∙ t))
 
     module _ (f : b ≡ false) where
       pub walk-skip : (s : Bool) → s ≡ is_among 0xFFBD_FC00_0000_0000 n → s ≡ false → Walks list from before words file (at + 1)
@@ -461,15 +460,11 @@ module _ {list : List ℕ} {from : ℕ} {before : List ℕ} {words : ℕ} {file 
         same : words_after file n (word_at list at) ≡ stored
         same = let same_number : n % 64 ≡ n = mod-eq_of_lt low in sym (is-stored ∙ (λ i. words_after file (same_number i) (is-v i)))
 
-        pub walk-load : load ≡ true → Reaches list from before (record { place = at; number = n }) stored
-        walk-load t = (
+        pub walk-load : load ≡ true → Reaches list from before (Some (record { place = at; number = n })) stored
+        walk-load t acts d = (
           w.onward,
-          λ acts d. record {
-            some =
-                λ l. subst (λ (x : List ℕ). Next list (record { place = at; number = n }) x acts) same
-                (loaded (w.due acts d) inside n is (sym (is-load ∙ loads-by n low) ∙ t));
-            none = λ l. absurd (omega arith);
-          },
+          subst (λ (x : List ℕ). Next list (record { place = at; number = n }) x acts) same
+              (loaded (w.due acts d) inside n is (sym (is-load ∙ loads-by n low) ∙ t)),
         )
 
         pub walk-set : load ≡ false → Walks list from before words stored (at + 1)

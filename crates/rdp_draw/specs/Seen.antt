@@ -1,5 +1,5 @@
 -- What the drawing's loops carry and reach: the register file, and the acts still to come. No public contract cites this.
-use Rattle.std.specs.Prelude.{ℕ, ◌+◌, ◌*◌, ◌/◌, ◌<◌, ◌≤◌, cond, List, [], ◌∷◌, ◌≡◌, eqb, length, drop}
+use Rattle.std.specs.Prelude.{ℕ, ◌+◌, ◌*◌, ◌/◌, ◌≤◌, cond, List, [], ◌∷◌, ◌≡◌, eqb, length, drop, Option, Some, None}
 use Rattle.rdp_words.specs.Words.{word_at}
 use Rattle.rdp_words.specs.Kinds.{words_of}
 use Rattle.rdp_command.specs.Reads.{color_image_in, fill_fields, copy_fields, load_fields}
@@ -78,13 +78,13 @@ pub record Next (list : List ℕ) (r : Reached) (file : List ℕ) (acts : List P
   pub first : acts ≡ placed_with file list r.place r.number ∷ others
   pub due : ActsDue list (r.place + words_of r.number) file others
 
-pub record ReachedIs (list : List ℕ) (r : Reached) (file : List ℕ) (acts : List Placed) : Type 0 where
-  pub some : r.place < length list / 8 → Next list r file acts
-  pub none : length list / 8 ≤ r.place → acts ≡ []
+abbrev pub ReachedIs : List ℕ → ℕ → Option Reached → List ℕ → List Placed → Type 0
+ReachedIs list from None file acts = acts ≡ []
+ReachedIs list from (Some r) file acts = (from ≤ r.place) × Next list r file acts
 
 -- what the search for the next act gives, whatever is due, with the file before it and after it
-abbrev pub Reaches : List ℕ → ℕ → List ℕ → Reached → List ℕ → Type 0
-Reaches list from file r file' = (from ≤ r.place) × ((acts : List Placed) → ActsDue list from file acts → ReachedIs list r file' acts)
+abbrev pub Reaches : List ℕ → ℕ → List ℕ → Option Reached → List ℕ → Type 0
+Reaches list from file r file' = (acts : List Placed) → ActsDue list from file acts → ReachedIs list from r file' acts
 
 -- the first refusal of acts, at its place; 0 at the number of words where there is none
 unfoldable pub first_refusal : ℕ → ℕ → ℕ → List Placed → Answer

@@ -48,10 +48,9 @@ pub fn act_all(list: &[u8], words: usize, memory: &mut [u8], start: u64, texture
     ensures { memories memory.new texture.new ≡ acted_all start (acts_of list.now) (memories memory.old texture.old) }
 {
     let mut file = [0u64; 32];
-    let mut reached = walk::next_act(list, 0, &mut file);
-    while reached.place < words {
+    let mut next = 0;
+    while let Some(reached) = walk::next_act(list, next, &mut file) {
         act(list, reached, &file, memory, start, texture);
-        let next = reached.place + rdp_words::words_of(reached.number);
-        reached = walk::next_act(list, next, &mut file);
+        next = reached.place + rdp_words::words_of(reached.number);
     }
 }

@@ -74,8 +74,8 @@ pub fn first_refusal(list: &[u8], words: usize, start: u64, len: usize) -> Answe
     ensures { answered result ≡ first_refusal start len words (acts_of list.now) }
 {
     let mut file = [0u64; 32];
-    let mut reached = walk::next_act(list, 0, &mut file);
-    while reached.place < words {
+    let mut next = 0;
+    while let Some(reached) = walk::next_act(list, next, &mut file) {
         let place = reached.place;
         if let Err(ground) = refusal_at(list, reached, &file, start, len) {
             return Err(Refusal {
@@ -83,8 +83,7 @@ pub fn first_refusal(list: &[u8], words: usize, start: u64, len: usize) -> Answe
                 place: place as u32,
             });
         }
-        let next = place + rdp_words::words_of(reached.number);
-        reached = walk::next_act(list, next, &mut file);
+        next = place + rdp_words::words_of(reached.number);
     }
     Ok(words as u32)
 }

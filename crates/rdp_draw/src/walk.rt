@@ -8,15 +8,15 @@ use rdp_state::slots;
 // The commands that set a register, a bit for each number.
 const SETTERS: u64 = 0xFFBD_FC00_0000_0000;
 
-// An act: its place and its number. Where there is none, the place is the number of words.
+// An act: its place and its number.
 #[derive(Clone, Copy)]
 pub struct Reached {
     pub place: usize,
     pub number: u8,
 }
 
-// The first act from a place on; the words before it are stored in the file, and a load's own. Every command but an act has one word.
-pub fn next_act(list: &[u8], from: usize, file: &mut [u64; 32]) -> Reached
+// The first act from a place on, if there is one; the words before it are stored in the file, and a load's own. Every command but an act has one word.
+pub fn next_act(list: &[u8], from: usize, file: &mut [u64; 32]) -> Option<Reached>
     ensures { Reaches list.now from file.old result file.new }
 {
     let words = list.len() / 8;
@@ -24,19 +24,16 @@ pub fn next_act(list: &[u8], from: usize, file: &mut [u64; 32]) -> Reached
         let head = rdp_command::head_at(list, at);
         let number = head.number;
         if rdp_words::is_among(rdp_words::DRAWS, number) {
-            return Reached { place: at, number };
+            return Some(Reached { place: at, number });
         }
         if rdp_words::is_among(SETTERS, number) {
             rdp_state::store(file, number, rdp_words::word_at(list, at));
             if rdp_words::is_among(rdp_words::LOADS, number) {
-                return Reached { place: at, number };
+                return Some(Reached { place: at, number });
             }
         }
     }
-    Reached {
-        place: words.max(from),
-        number: 0,
-    }
+    None
 }
 
 // A fill rectangle at a place, with what it is drawn under.

@@ -28,4 +28,4 @@ loop-at-preserved c =
     ]
 
 pub returns : goal.returns
-returns c = walk_none c.loop-at.invariant c.loop-at-test.false _ c.max.ensures _
+returns c = walk_none c.loop-at.invariant c.loop-at-test.false
