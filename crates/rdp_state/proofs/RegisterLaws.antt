@@ -1,14 +1,6 @@
 -- The registers of the words that last set them: before the first command, after one and after those of a list. Assumes nothing.
-use Prim.Native.Nat.{ℕ, zero, suc, pred, ◌+◌, ◌*◌, ◌/◌, ◌%◌, ◌^◌, ◌<◌}
-use mathlib.Core.Bool.{Bool, true, false, cond, not}
-use mathlib.Core.List.{List, [], ◌∷◌}
-use mathlib.Core.Path.{◌≡◌, refl, sym, ap, ◌∙◌}
-use native.Mathlib.Nat.{mod-lt}
-use native.Mathlib.Omega.{arith}
-use borrow.Author.Tests.{ne_eqb, eqb-true, eqb-false, ltb-true}
-use lib.Dec.{T, eqb, ltb, eqb→eq, lit<}
-use lib.ListN.{length, get_or, set, take, replicate, length-set}
-use lib.Seq.{get_or-set_same, get_or-set_other}
+use Rattle.std.proofs.Common.{ℕ, zero, suc, pred, ◌+◌, ◌*◌, ◌/◌, ◌%◌, ◌^◌, ◌<◌, Bool, true, false, cond, not, List, [], ◌∷◌, ◌≡◌, refl, sym, ap, ◌∙◌, mod-lt, arith, ne_eqb, eqb-true, ltb-true, T, eqb, ltb, eqb→eq, lit<, length, get_or, set, take, replicate, length-set, get_or-set_same, get_or-set_other}
+use borrow.Author.Tests.{eqb-false}
 use Rattle.rdp_words.specs.Words.{word_at, number_in}
 use Rattle.rdp_words.specs.Kinds.{among, words_of}
 use Rattle.rdp_command.specs.Layout.{tile_area_lines, tile_descriptor_lines}

@@ -1,13 +1,5 @@
 -- The registers after the commands of a list, as the loop of the replay meets them and as the outcome has them. Assumes nothing.
-use mathlib.Core.Bool.{Bool, not, ◌||◌}
-use mathlib.Core.List.{List, [], ◌∷◌}
-use mathlib.Core.Path.{◌≡◌, refl, sym, ap, ◌∙◌}
-use Prim.Native.Nat.{ℕ, zero, suc, ◌+◌, ◌*◌, ◌-◌, ◌/◌, ◌%◌, ◌≤◌, ◌<◌}
-use native.Mathlib.Nat.{le_refl}
-use native.Mathlib.Omega.{arith}
-use borrow.Author.Tests.{lt-ltb, le-ltb}
-use lib.Dec.{T, eqb, ltb}
-use lib.ListN.{length, drop, replicate}
+use Rattle.std.proofs.Common.{Bool, not, ◌||◌, List, [], ◌∷◌, ◌≡◌, refl, sym, ap, ◌∙◌, ℕ, zero, suc, ◌+◌, ◌*◌, ◌-◌, ◌/◌, ◌%◌, ◌≤◌, ◌<◌, le_refl, arith, lt-ltb, le-ltb, T, eqb, ltb, length, drop, replicate, Result, Ok, Err}
 use Rattle.rdp_words.specs.Words.{word_at, number_in}
 use Rattle.rdp_words.specs.Kinds.{words_of}
 use Rattle.rdp_words.specs.Lengths.{first_number}
@@ -23,7 +15,6 @@ use Rattle.rdp_check.specs.declared.Registers.{Registers}
 use Rattle.rdp_check.specs.declared.Accepted.{Accepted}
 use Rattle.rdp_check.specs.declared.Refused.{Refused}
 use Rattle.rdp_words.specs.Grounds.{Answer}
-use Rattle.std.specs.Prelude.{Result, Ok, Err}
 use Rattle.rdp_words.proofs.PlaceLaws.{number_small, some_words}
 use Rattle.rdp_check.proofs.ListLaws.{commands-at, command-number, command-word, commands-past}
 use Rattle.rdp_check.proofs.JoinLaws.{command-some}

@@ -71,7 +71,8 @@ fn wait_of(number: u8) -> u32
     }
 }
 
-// What the commands of a list that begin before a place leave.
+// What the commands of a list that begin before a place leave. A `while`: a turn goes on by its command's words, and an iterator of commands costs two of some
+// fifty instructions a command more.
 pub fn replay_from(file: [u64; 32], before: u32, list: &[u8], end: usize) -> Replay
     ensures { (result.words ≡ words_up_to end 0 file (commands_of list.now)) × (result.waited ≡ waited_up_to end 0 before (commands_of list.now)) }
 {

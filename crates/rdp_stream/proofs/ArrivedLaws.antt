@@ -1,15 +1,7 @@
 -- A list of any length that has arrived and is closed is answered by the first of its refusals. Assumes nothing.
-use mathlib.Core.Path.{◌≡◌, refl, sym, ◌∙◌, ap, subst}
-use mathlib.Core.Bool.{false}
-use mathlib.Core.List.{List, [], ◌∷◌}
+use Rattle.std.proofs.Common.{◌≡◌, refl, sym, ◌∙◌, ap, subst, false, List, [], ◌∷◌, ℕ, ◌*◌, ◌-◌, ◌/◌, ◌%◌, ◌≤◌, ◌<◌, suc-ne-zero, arith, lt-ltb, le-ltb, eq-eqb, ne_eqb, eqb-true, ltb-true, ltb-false, eqb, ltb, length, take, drop, length-take, length-drop, take-append-drop, take_all}
+use borrow.Author.Tests.{eqb-false}
 use mathlib.Core.Logic.{inl, inr, ⊎_elim}
-use Prim.Native.Nat.{ℕ, ◌*◌, ◌-◌, ◌/◌, ◌%◌, ◌≤◌, ◌<◌}
-use native.Mathlib.Nat.{suc-ne-zero}
-use native.Mathlib.Omega.{arith}
-use borrow.Author.Tests.{lt-ltb, le-ltb, eq-eqb, ne_eqb, eqb-true, eqb-false, ltb-true, ltb-false}
-use lib.Dec.{eqb, ltb}
-use lib.ListN.{length, take, drop, length-take, length-drop, take-append-drop}
-use lib.Seq.{take_all}
 use Rattle.rdp_words.proofs.Tests.{true_of, false_of, by-test}
 use Rattle.rdp_words.specs.Grounds.{Answer}
 use Rattle.rdp_command.specs.Decode.{answer}
@@ -20,9 +12,8 @@ use Rattle.rdp_check.specs.Refusals.{CommandHolds, command_grounds}
 use Rattle.rdp_check.proofs.JoinLaws.{parsed, commands-joined, rest-joined, length-split}
 use Rattle.rdp_check.proofs.OrderLaws.{Found, found, among-left, among-right, among-parts, answered, then-refused, then-accepted}
 use Rattle.rdp_check.proofs.FirstLaws.{check-numbered, some_bytes, bytes-some, no-zero-command, commands-first}
-use Rattle.rdp_state.specs.Resume.{idle}
+use Rattle.rdp_state.specs.Resume.{idle, Resumed}
 use Rattle.rdp_state.specs.declared.Standing.{Standing}
-use Rattle.rdp_state.specs.Resume.{Resumed}
 use Rattle.rdp_state.proofs.StandingLaws.{outcome_in}
 use Rattle.rdp_stream.specs.Portions.{Feeding, fresh, fed_bytes, closing_grounds, closed, answer_of}
 use Rattle.rdp_stream.specs.Steps.{open_of}

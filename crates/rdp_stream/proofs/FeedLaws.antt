@@ -1,13 +1,7 @@
 -- What the code does with bytes is what the definition does with them, one after the other. Assumes nothing.
-use mathlib.Core.Path.{◌≡◌, refl, sym, ◌∙◌, ap}
-use mathlib.Core.Bool.{Bool, true, false, not}
-use mathlib.Core.List.{List, [], ◌∷◌, ◌++◌, append_assoc, append-nil}
-use Prim.Native.Nat.{ℕ, ◌+◌, ◌*◌, ◌-◌, ◌/◌, ◌%◌, min, ◌≤◌, ◌<◌}
-use native.Mathlib.Omega.{arith}
-use borrow.Author.Tests.{eq-eqb, ne_eqb, eqb-true, eqb-false, ltb-true, ltb-false}
-use lib.Dec.{eqb, ltb}
-use lib.ListN.{length, take, drop, replicate, length-append, take-append-drop}
-use lib.Seq.{paste, take-append-add, drop_at, take-take, drop-drop, take_all, length-take-le, length-paste, take-paste}
+use Rattle.std.proofs.Common.{◌≡◌, refl, sym, ◌∙◌, ap, Bool, true, false, not, List, [], ◌∷◌, ◌++◌, append_assoc, append-nil, ℕ, ◌+◌, ◌*◌, ◌-◌, ◌/◌, ◌%◌, min, ◌≤◌, ◌<◌, arith, eq-eqb, ne_eqb, eqb-true, ltb-true, ltb-false, eqb, ltb, length, take, drop, replicate, length-append, take-append-drop, drop_at, take-take, drop-drop, take_all, length-take-le}
+use borrow.Author.Tests.{eqb-false}
+use Rattle.std.proofs.Math.Seq.{paste, take-append-add, length-paste, take-paste}
 use Rattle.rdp_words.specs.Words.{word_at, number_in}
 use Rattle.rdp_words.specs.Kinds.{words_of}
 use Rattle.rdp_words.specs.Lengths.{first_number, whole_words}
@@ -16,9 +10,8 @@ use Rattle.rdp_words.proofs.KindLaws.{words-most}
 use Rattle.rdp_words.proofs.PlaceLaws.{number_small, words-there, words-cut, IsWhole, is_whole}
 use Rattle.rdp_words.proofs.WordLaws.{word-front}
 use Rattle.rdp_check.specs.Commands.{commands_of, rest_of, words_in, joined}
-use Rattle.rdp_state.specs.Resume.{judge_in, resumed_of}
+use Rattle.rdp_state.specs.Resume.{judge_in, resumed_of, Resumed}
 use Rattle.rdp_state.specs.declared.Standing.{Standing}
-use Rattle.rdp_state.specs.Resume.{Resumed}
 use Rattle.rdp_check.proofs.ListLaws.{head, commands-cut, rest-cut}
 use Rattle.rdp_check.proofs.JoinLaws.{parsed, length-joined, length-split, rest-joined, rest-most, words_inside, command-some, head-long, head-alone}
 use Rattle.rdp_state.proofs.ResumeLaws.{resumed-within}

@@ -1,12 +1,9 @@
 -- Laws of the held bytes. Assumes nothing.
-use Rattle.std.specs.Prelude.{ℕ, zero, suc, ◌+◌, ◌-◌, ◌%◌, ◌≤◌, Bool, true, false, not, ◌&&◌, ◌||◌, List, [], ◌∷◌, ◌++◌, eqb, ltb, length, take, drop, replicate, nat_eq}
+use Rattle.std.proofs.Common.{ℕ, zero, suc, ◌+◌, ◌-◌, ◌%◌, ◌≤◌, Bool, true, false, not, ◌&&◌, ◌||◌, List, [], ◌∷◌, ◌++◌, eqb, ltb, length, take, drop, replicate, nat_eq, ◌≡◌, refl, sym, ◌∙◌, ap, arith, true≢false, eq-eqb, eqb-true, le-ltb, ltb-false, length-append, length-drop}
+use Rattle.std.proofs.Math.Nat.{sub-zero, zero-sub, suc-sub-suc}
+use Rattle.std.proofs.Math.ListN.{length-replicate}
 use Rattle.std.specs.Cmp.Lexicographic.{pointwise}
-use Rattle.std.proofs.Common.{◌≡◌, refl, sym, ◌∙◌, ap, arith}
 use Rattle.std.proofs.Math.Seq.{paste, take_all, take-append_seam, drop-append_seam}
-use mathlib.Core.Bool.{true≢false}
-use native.Mathlib.Nat.{sub-zero, zero-sub, suc-sub-suc}
-use borrow.Author.Tests.{eq-eqb, eqb-true, le-ltb, ltb-false}
-use lib.ListN.{length-append, length-drop, length-replicate}
 use Rattle.rdp_words.specs.Kinds.{among}
 use Rattle.rdp_words.specs.Lengths.{whole_words}
 use Rattle.rdp_words.proofs.Tests.{neither}

@@ -1,8 +1,6 @@
 -- What the code has of a list that arrives is what is known of it. Assumes nothing.
-use Rattle.std.specs.Prelude.{ℕ, true, false, Option, None, Some, Result, Ok, Err, [], take}
+use Rattle.std.proofs.Common.{ℕ, true, false, Option, None, Some, Result, Ok, Err, [], take, ◌≡◌, refl, sym, ◌∙◌, ap, true≢false}
 use Rattle.std.specs.Option.{is_some}
-use Rattle.std.proofs.Common.{◌≡◌, refl, sym, ◌∙◌, ap}
-use mathlib.Core.Bool.{true≢false}
 use Rattle.rdp_words.proofs.GroundLaws.{refused-number}
 use Rattle.rdp_words.specs.declared.grounds.Ground.{Ground}
 use Rattle.rdp_words.specs.Grounds.{answered, number_of, number_if}

@@ -1,12 +1,6 @@
 -- Laws of the portions: every cutting gives the same, and what bytes do is the judgement of their commands. Assumes nothing.
-use mathlib.Core.Path.{◌≡◌, refl, sym, ◌∙◌, ap}
-use mathlib.Core.Bool.{false, cond}
-use mathlib.Core.List.{List, [], ◌∷◌, ◌++◌, append_assoc, append-nil}
-use Prim.Native.Nat.{ℕ, zero, suc, ◌+◌, ◌*◌, ◌-◌, ◌/◌, ◌%◌, ◌≤◌, ◌<◌}
-use native.Mathlib.Omega.{arith}
-use borrow.Author.Tests.{lt-ltb, le-ltb, eq-eqb, ne_eqb, eqb-true, eqb-false, ltb-true, ltb-false}
-use lib.Dec.{eqb, ltb}
-use lib.ListN.{length, length-append}
+use Rattle.std.proofs.Common.{◌≡◌, refl, sym, ◌∙◌, ap, false, cond, List, [], ◌∷◌, ◌++◌, append_assoc, append-nil, ℕ, zero, suc, ◌+◌, ◌*◌, ◌-◌, ◌/◌, ◌%◌, ◌≤◌, ◌<◌, arith, lt-ltb, le-ltb, eq-eqb, ne_eqb, eqb-true, ltb-true, ltb-false, eqb, ltb, length, length-append}
+use borrow.Author.Tests.{eqb-false}
 use Rattle.rdp_words.specs.Words.{number_in}
 use Rattle.rdp_words.specs.Kinds.{words_of}
 use Rattle.rdp_words.specs.Lengths.{first_number, whole_words}
@@ -15,9 +9,8 @@ use Rattle.rdp_words.proofs.WordLaws.{word-front}
 use Rattle.rdp_words.proofs.PlaceLaws.{is_whole, words-there, words-cut}
 use Rattle.rdp_check.specs.Commands.{commands_of, rest_of, words_in, joined}
 use Rattle.rdp_check.specs.Check.{State, start, check_refusals, refusal_at, Judgement, judge, outcome_within, outcome_of}
-use Rattle.rdp_state.specs.Resume.{state_in, idle, standing_after, settle_in, judge_in}
+use Rattle.rdp_state.specs.Resume.{state_in, idle, standing_after, settle_in, judge_in, Resumed}
 use Rattle.rdp_state.specs.declared.Standing.{Standing}
-use Rattle.rdp_state.specs.Resume.{Resumed}
 use Rattle.rdp_check.proofs.ListLaws.{commands-cut, rest-cut}
 use Rattle.rdp_check.proofs.JoinLaws.{Alone, command-some, commands-front, rest-front, parsed, length-split}
 use Rattle.rdp_stream.specs.Portions.{Feeding, fresh, settled, completed, after_byte, fed_bytes, fed_portions, closing_grounds, closed, answer_of}

@@ -1,13 +1,6 @@
 -- A record and what it stands for. Assumes nothing.
-use mathlib.Core.Path.{◌≡◌, refl, sym, ◌∙◌, ap}
-use mathlib.Core.Bool.{true, false}
-use mathlib.Core.List.{List, [], ◌∷◌, ◌++◌}
-use Prim.Native.Nat.{ℕ, ◌+◌, ◌*◌, ◌-◌, ◌/◌, ◌%◌, min, ◌≤◌, ◌<◌}
-use native.Mathlib.Omega.{arith}
-use borrow.Author.Tests.{eq-eqb, ne_eqb, eqb-false, le-ltb}
-use lib.Dec.{eqb}
-use lib.ListN.{length, take, drop, replicate, length-append, length-drop, take-append-drop}
-use lib.Seq.{length-take-le, take_all}
+use Rattle.std.proofs.Common.{◌≡◌, refl, sym, ◌∙◌, ap, true, false, not, List, [], ◌∷◌, ◌++◌, ℕ, ◌+◌, ◌*◌, ◌-◌, ◌/◌, ◌%◌, min, ◌≤◌, ◌<◌, arith, eq-eqb, ne_eqb, le-ltb, eqb, length, take, drop, replicate, length-append, length-drop, take-append-drop, length-take-le, take_all, eqb-true}
+use borrow.Author.Tests.{eqb-false}
 use Rattle.rdp_words.specs.Lengths.{whole_words}
 use Rattle.rdp_words.proofs.Tests.{by-test}
 use Rattle.rdp_check.specs.Commands.{rest_of}
@@ -17,13 +10,16 @@ use Rattle.rdp_stream.specs.declared.Stream.{Stream}
 use Rattle.rdp_words.specs.Grounds.{Answer}
 use Rattle.rdp_command.specs.Decode.{answer}
 use Rattle.rdp_stream.specs.Portions.{Feeding, accepted, remembering, after_byte, fed_bytes, closing_grounds, closed, answer_of}
-use Rattle.rdp_stream.specs.Records.{Fed, is_damaged, kept_in, stream_of, answered}
+use Rattle.rdp_stream.specs.Records.{Fed, is_damaged, feeding_of, ended_as, kept_in, stream_of, answered, fed_of, closed_of}
 use Rattle.rdp_stream.specs.Steps.{open_of, Open}
 use Rattle.rdp_stream.proofs.PortionLaws.{resumed, judged_from, fed-joined, fed-refused}
 use Rattle.rdp_stream.proofs.HeldLaws.{zeros, Sound, sound}
 use Rattle.rdp_stream.proofs.FeedLaws.{from-held}
 
 -- ---- a record that is not damaged
+
+ended_same : (e : ℕ) → ended_as e (not (eqb e 0)) ≡ e
+ended_same e = by-test (eqb e 0) (λ t. rw t (sym (eqb-true e 0 t))) (λ f. rw (f, f))
 
 module _ (r : Stream) (undamaged : is_damaged r ≡ false) (long : length r.held ≡ 176) where
   abbrev n : ℕ
@@ -50,9 +46,47 @@ module _ (r : Stream) (undamaged : is_damaged r ≡ false) (long : length r.held
         most = fits.most;
       }
 
+  held-own : take n r.held ++ replicate (176 - length (take n r.held)) 0 ≡ r.held
+  held-own =
+      ap (λ (m : ℕ). take n r.held ++ replicate (176 - m) 0) count-is ∙
+      ap (λ (xs : List ℕ). take n r.held ++ xs) (sym past-zero) ∙
+      take-append-drop n r.held
+
+  -- it stands for itself
+  stream-back : stream_of (kept_in r) (feeding_of r) ≡ r
+  unfolding stream_of
+  stream-back =
+      λ i.
+      record {
+        hazards = r.hazards;
+        ended = ended_same r.ended i;
+        words = r.words;
+        held = held-own i;
+        held_count = count-is i;
+        taken = r.taken;
+        number = r.number;
+        place = r.place;
+        spare = r.spare;
+        waited = r.waited;
+      }
+
   pub answered-is : (f : Feeding) → answered r f ≡ record { after = stream_of (kept_in r) f; answer = answer_of f }
   unfolding answered
   answered-is f = rw undamaged
+
+  -- a remembered refusal is repeated
+  module _ (ne : r.number ≡ 0 → ⊥) where
+    repeats : ◌≡◌ {A = Fed} (record { after = r; answer = answer r.number r.place }) (answered r (feeding_of r))
+    repeats =
+        let a : r.place ≡ (answer_of (feeding_of r)).place = rw (ne_eqb _ _ ne) in
+        (λ i. record { after = sym stream-back i; answer = record { number = r.number; place = a i } }) ∙ sym (answered-is (feeding_of r))
+
+    pub fed-repeats : (bs : List ℕ) → record { after = r; answer = answer r.number r.place } ≡ fed_of r bs
+    fed-repeats bs = repeats ∙ ap (answered r) (sym (fed-refused (feeding_of r) bs ne))
+
+    pub closed-repeats : record { after = r; answer = answer r.number r.place } ≡ closed_of r
+    unfolding closing_grounds
+    closed-repeats = repeats ∙ ap (answered r) (rw (ne_eqb _ _ ne))
 
 -- by the record and the answer that are told
 pub answered-with :

@@ -1,25 +1,17 @@
 -- Every cutting, of the caller's record: it stays sound and stands for what its bytes say, and from a fresh one it ends in the check's answer. Assumes nothing.
-use mathlib.Core.Path.{◌≡◌, refl, sym, ◌∙◌, ap, subst}
-use mathlib.Core.Bool.{Bool, true, false, cond}
-use mathlib.Core.List.{List, [], ◌∷◌, ◌++◌, append_assoc, append-nil}
-use Prim.Native.Nat.{ℕ, zero, suc, ◌-◌, ◌/◌, ◌%◌, ◌^◌, ◌≤◌, ◌<◌}
-use native.Mathlib.Omega.{arith}
-use lib.Dec.{eqb, lit≤}
-use lib.ListN.{length, take, replicate, length-append, length-replicate}
-use lib.Seq.{take-append_seam, drop-append_seam}
+use Rattle.std.proofs.Common.{◌≡◌, refl, sym, ◌∙◌, ap, subst, Bool, true, false, cond, List, [], ◌∷◌, ◌++◌, append_assoc, append-nil, ℕ, zero, suc, ◌-◌, ◌/◌, ◌%◌, ◌^◌, ◌≤◌, ◌<◌, arith, eqb, lit≤, length, take, replicate, length-append}
+use Rattle.std.proofs.Math.ListN.{length-replicate}
+use Rattle.std.proofs.Math.Seq.{take-append_seam, drop-append_seam}
 use Rattle.rdp_words.proofs.Tests.{true_of, by-test}
 use Rattle.rdp_check.specs.Commands.{commands_of, joined}
 use Rattle.rdp_hazards.specs.Syncs.{waiting}
 use Rattle.rdp_check.proofs.BoundLaws.{among_below}
-use Rattle.rdp_state.specs.After.{list_state_of}
+use Rattle.rdp_state.specs.After.{list_state_of, ListState}
 use Rattle.rdp_state.specs.RegisterWords.{registers_in}
-use Rattle.rdp_state.specs.After.{ListState}
 use Rattle.rdp_stream.specs.declared.Stream.{Stream}
-use Rattle.rdp_stream.specs.Records.{Kept}
+use Rattle.rdp_stream.specs.Records.{Kept, Fed, all_zero, remembered, is_damaged, feeding_of, kept_in, stream_of, answered, fed_of, closed_of, fresh_stream, WaitsFor, Call, portion, closing, called_stream, arrived_by, fed_stream}
 use Rattle.rdp_words.specs.Grounds.{Answer}
-use Rattle.rdp_stream.specs.Records.{Fed}
 use Rattle.rdp_stream.specs.Portions.{Feeding, fresh, fed_bytes, fed_portions, closed, answer_of}
-use Rattle.rdp_stream.specs.Records.{all_zero, remembered, is_damaged, feeding_of, kept_in, stream_of, answered, fed_of, closed_of, fresh_stream, WaitsFor, Call, portion, closing, called_stream, arrived_by, fed_stream}
 use Rattle.rdp_stream.proofs.PortionLaws.{fed-portions, portions-end}
 use Rattle.rdp_stream.proofs.FitLaws.{Fit, fit-fed, fit-closed, fit-fresh}
 use Rattle.rdp_stream.proofs.WaitLaws.{Within, within-fed, Counts, counts-fed, counts-closed, counts-fresh, counts-sum}

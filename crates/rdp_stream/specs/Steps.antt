@@ -24,6 +24,10 @@ open_of b held taken p = record { standing = b; held = held; taken = taken; numb
 abbrev pub nothing_held : Standing → ℕ → ℕ → ℕ → Feeding
 nothing_held b taken number place = record { standing = b; held = []; taken = taken; number = number; place = place }
 
+-- bytes are taken and held, where none is
+abbrev pub holding_all : Feeding → List ℕ → Feeding
+holding_all f rest = record { standing = f.standing; held = rest; taken = f.taken + length rest; number = f.number; place = f.place }
+
 -- held bytes of a sound record
 pub record Open (held : List ℕ) (count taken : ℕ) : Type 0 where
   pub few : count ≤ 175

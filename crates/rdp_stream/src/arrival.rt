@@ -5,7 +5,7 @@ use rdp_state::Standing;
 use rdp_words::Ground;
 
 // Where the list stands after the commands accepted, the held bytes of a command that is not complete, zero past them, their number, the bytes taken, the
-// ground of a remembered refusal, and its place, which stays where none is remembered.
+// ground of a remembered refusal, and its place, which stays where none is remembered. An array and a count, as in C's record: a slice cannot be kept.
 #[derive(Clone, Copy)]
 pub struct Arrival {
     pub standing: Standing,

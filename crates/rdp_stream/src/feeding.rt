@@ -5,7 +5,7 @@ ghost use Rattle.rdp_words.specs.Grounds.{answered, number_of, number_if};
 ghost use Rattle.rdp_stream.specs.Portions.{fed_bytes, closed, accepted, answer_of, remembering};
 ghost use Rattle.rdp_stream.specs.Records.{is_damaged, feeding_of, kept_in, stream_of, ended_as};
 ghost use Rattle.rdp_command.specs.Decode.{answer};
-ghost use Rattle.rdp_stream.specs.Steps.{Complete, open_of, nothing_held};
+ghost use Rattle.rdp_stream.specs.Steps.{Complete, holding_all, nothing_held};
 ghost use Rattle.rdp_stream.specs.Arrivals.{known, IsOpen, IsRead};
 
 use crate::{Arrival, Stream, holding};
@@ -82,89 +82,93 @@ impl Arrival {
         }
     }
 
-    // No byte is held.
-    fn empty(standing: Standing, taken: u32, refused: Option<Ground>, place: u32) -> Arrival
-        requires { (taken % 8 ≡ 0) × (taken ≤ 32768) }
-        ensures { known result ≡ nothing_held standing taken (number_if refused) place }
+    // A refusal is remembered.
+    fn remember(&mut self, refused: Ground, place: u32)
+        ensures { known self.new ≡ remembering (answer (number_of refused) place) (known self.old) }
     {
-        Arrival {
-            standing,
-            held: [0; 176],
-            held_count: 0,
-            taken,
-            ground: refused,
-            place,
-        }
+        self.ground = Some(refused);
+        self.place = place;
     }
 
-    // A command is refused, so many words after the first bytes of a part.
-    fn refused(standing: Standing, taken: u32, refusal: Refusal) -> Arrival
-        requires { taken + 8 * refusal.place ≤ 32768 }
-        ensures { known result ≡ nothing_held standing (8 * (taken / 8 + refusal.place)) (number_of refusal.ground) (taken / 8 + refusal.place) }
+    // No byte is held any more, and so many are taken.
+    fn release(&mut self, taken: u32)
+        requires { (taken % 8 ≡ 0) × (taken ≤ 32768) }
+        ensures known { known self.new ≡ nothing_held self.old.standing taken (number_if self.old.ground) self.old.place }
+        ensures open { IsOpen self.old → IsOpen self.new }
+        ensures none { self.new.held_count ≡ 0 }
     {
-        let place = taken / 8 + refusal.place;
-        Arrival::empty(standing, 8 * place, Some(refusal.ground), place)
+        self.held = [0; 176];
+        self.held_count = 0;
+        self.taken = taken;
+    }
+
+    // A command is refused, so many words after a byte that begins one.
+    fn refuse(&mut self, start: u32, refusal: Refusal)
+        requires { start + 8 * refusal.place ≤ 32768 }
+        ensures { known self.new ≡ nothing_held self.old.standing (8 * (start / 8 + refusal.place)) (number_of refusal.ground) (start / 8 + refusal.place) }
+    {
+        let place = start / 8 + refusal.place;
+        self.release(8 * place);
+        self.remember(refusal.ground, place);
     }
 
     // What is left after the commands of a part is held.
-    fn holding(standing: Standing, taken: u32, place: u32, rest: &[u8]) -> Arrival
-        requires { (whole_words rest.now ≡ 0) × ((taken % 8 ≡ 0) × (taken + length rest.now ≤ 32768)) }
-        ensures { known result ≡ open_of standing rest.now (taken + length rest.now) place }
+    fn hold(&mut self, rest: &[u8])
+        requires { (self.old.held_count ≡ 0) × ((whole_words rest.now ≡ 0) × (self.old.taken + length rest.now ≤ 32768)) }
+        ensures { known self.new ≡ holding_all (known self.old) rest.now }
     {
         let count = rest.len();
         let held = holding::fill([0; 176], 0, rest, count);
-        Arrival {
-            standing,
-            held,
-            held_count: count as u32,
-            taken: taken + count as u32,
-            ground: None,
-            place,
-        }
+        self.held = held;
+        self.held_count = count as u32;
+        self.taken += count as u32;
     }
 
     // A part that begins at a command's first byte.
-    fn feed_whole(&self, part: &[u8]) -> Arrival
-        requires { (IsOpen self.now × (self.now.held_count ≡ 0)) × (self.now.taken + length part.now ≤ 32768) }
-        ensures { known result ≡ fed_bytes (known self.now) part.now }
+    fn feed_whole(&mut self, part: &[u8])
+        requires { (IsOpen self.old × (self.old.held_count ≡ 0)) × (self.old.taken + length part.now ≤ 32768) }
+        ensures { known self.new ≡ fed_bytes (known self.old) part.now }
     {
         if part.len() < 8 {
-            return Arrival::holding(self.standing, self.taken, self.place, part);
+            self.hold(part);
+            return;
         }
+        let start = self.taken;
         let resumed = rdp_state::resume(self.standing, part);
-        let after = resumed.standing;
-        match resumed.outcome {
+        let outcome = resumed.outcome;
+        self.standing = resumed.standing;
+        match outcome {
             Ok(words) => {
-                let taken = self.taken + 8 * words;
-                Arrival::holding(after, taken, self.place, &part[8 * words as usize..])
+                self.taken = start + 8 * words;
+                self.hold(&part[8 * words as usize..]);
             }
-            Err(refusal) => Arrival::refused(after, self.taken, refusal),
+            Err(refusal) => self.refuse(start, refusal),
         }
     }
 
     // Held bytes that a part has completed, and the part after them.
-    fn finish(&self, filled: &[u8; 176], words: usize, part: &[u8]) -> Arrival
-        requires { IsOpen self.now × Complete self.now.held self.now.held_count self.now.taken filled.now words part.now }
-        ensures { known result ≡ fed_bytes (known self.now) part.now }
+    fn finish(&mut self, filled: &[u8; 176], words: usize, part: &[u8])
+        requires { IsOpen self.old × Complete self.old.held self.old.held_count self.old.taken filled.now words part.now }
+        ensures { known self.new ≡ fed_bytes (known self.old) part.now }
     {
         let end = 8 * words;
         let used = end - self.held_count as usize;
         let start = self.taken - self.held_count;
         let resumed = rdp_state::resume(self.standing, &filled[..end]);
-        let after = resumed.standing;
+        self.standing = resumed.standing;
         match resumed.outcome {
             Ok(_) => {
-                let next = Arrival::empty(after, start + end as u32, None, self.place);
-                next.feed_whole(&part[used..])
+                self.release(start + end as u32);
+                self.feed_whole(&part[used..]);
             }
-            Err(refusal) => Arrival::refused(after, start, refusal),
+            Err(refusal) => self.refuse(start, refusal),
         }
     }
 
     // A part after held bytes.
-    fn feed_held(&self, part: &[u8]) -> Arrival
-        requires { IsOpen self.now × (self.now.taken + length part.now ≤ 32768) }
-        ensures { known result ≡ fed_bytes (known self.now) part.now }
+    fn feed_held(&mut self, part: &[u8])
+        requires { IsOpen self.old × (self.old.taken + length part.now ≤ 32768) }
+        ensures { known self.new ≡ fed_bytes (known self.old) part.now }
     {
         let at = self.held_count as usize;
         let len = part.len();
@@ -172,53 +176,40 @@ impl Arrival {
         let filled = holding::fill(self.held, at, part, copied);
         let words = rdp_words::whole_words(&filled[..at + copied]);
         if words == 0 {
-            return Arrival {
-                standing: self.standing,
-                held: filled,
-                held_count: self.held_count + len as u32,
-                taken: self.taken + len as u32,
-                ground: None,
-                place: self.place,
-            };
+            self.held = filled;
+            self.held_count += len as u32;
+            self.taken += len as u32;
+            return;
         }
-        self.finish(&filled, words, part)
+        self.finish(&filled, words, part);
     }
 
     // A part for which there is room.
-    fn feed_some(&self, part: &[u8]) -> Arrival
-        requires { IsOpen self.now × (self.now.taken + length part.now ≤ 32768) }
-        ensures { known result ≡ fed_bytes (known self.now) part.now }
+    fn feed_some(&mut self, part: &[u8])
+        requires { IsOpen self.old × (self.old.taken + length part.now ≤ 32768) }
+        ensures { known self.new ≡ fed_bytes (known self.old) part.now }
     {
         if self.held_count == 0 {
-            return self.feed_whole(part);
+            self.feed_whole(part);
+            return;
         }
-        self.feed_held(part)
+        self.feed_held(part);
     }
 
-    // With a refusal remembered.
-    fn remembering(&self, refused: Ground, place: u32) -> Arrival
-        ensures { known result ≡ remembering (answer (number_of refused) place) (known self.now) }
-    {
-        let mut after = *self;
-        after.ground = Some(refused);
-        after.place = place;
-        after
-    }
-
-    // After a portion: what there is room for is fed; then 1.
-    pub fn feed(&self, portion: &[u8]) -> Arrival
-        ensures { known result ≡ fed_bytes (known self.now) portion.now }
+    // A portion: what there is room for is fed; then 1.
+    pub fn feed(&mut self, portion: &[u8])
+        ensures { known self.new ≡ fed_bytes (known self.old) portion.now }
     {
         if self.ground.is_some() {
-            return *self;
+            return;
         }
         let room = rdp_check::MOST_BYTES - self.taken as usize;
         let fed = portion.len().min(room);
-        let after = self.feed_some(&portion[..fed]);
-        if (fed == portion.len()) | after.ground.is_some() {
-            return after;
+        self.feed_some(&portion[..fed]);
+        if (fed == portion.len()) | self.ground.is_some() {
+            return;
         }
-        after.remembering(Ground::TooLong, rdp_check::MOST_WORDS)
+        self.remember(Ground::TooLong, rdp_check::MOST_WORDS);
     }
 
     // The words of the commands accepted so far.
@@ -228,20 +219,22 @@ impl Arrival {
         (self.taken - self.held_count) / 8
     }
 
-    // At the list's end: 2, then 3.
-    pub fn closed(&self) -> Arrival
-        ensures { known result ≡ closed (known self.now) }
+    // The list's end: 2, then 3.
+    pub fn close(&mut self)
+        ensures { known self.new ≡ closed (known self.old) }
     {
         if self.ground.is_some() {
-            return *self;
+            return;
         }
         if self.taken % 8 != 0 {
-            return self.remembering(Ground::NotWords, self.taken / 8);
+            let place = self.taken / 8;
+            self.remember(Ground::NotWords, place);
+            return;
         }
         if self.held_count != 0 {
-            return self.remembering(Ground::Cut, self.accepted());
+            let place = self.accepted();
+            self.remember(Ground::Cut, place);
         }
-        *self
     }
 
     // The remembered refusal, or the words of the commands accepted so far.

@@ -16,6 +16,7 @@ use rdp_words::{Answer, Refusal};
 // What is known of the list so far: the words that last set the registers, the held bytes of a command that is not complete, zero past them, their number,
 // the bytes taken, a remembered refusal, 0 where there is none, and its place, the hazards, of which the low four bits count, and whether a Sync Full has
 // come, 0 where not, two bytes that mean nothing and stay, and the cycles that the commands accepted have waited (#105). A fresh record is all zero.
+// Field for field the record of C (include/lanyardrove.h): so the refusal is a number, and the held bytes stand beside their count.
 #[repr(C)]
 #[derive(Clone, Copy)]
 pub struct Stream {
@@ -45,10 +46,11 @@ pub fn feed_value(before: Stream, portion: &[u8]) -> Fed
 {
     match Arrival::read(&before) {
         Ok(arrival) => {
-            let after = arrival.feed(portion);
+            let mut fed = arrival;
+            fed.feed(portion);
             Fed {
-                after: after.recorded(&before),
-                answer: after.answer(),
+                after: fed.recorded(&before),
+                answer: fed.answer(),
             }
         }
         Err(ground) => Fed {
@@ -64,7 +66,8 @@ pub fn close_value(before: Stream) -> Fed
 {
     match Arrival::read(&before) {
         Ok(arrival) => {
-            let closed = arrival.closed();
+            let mut closed = arrival;
+            closed.close();
             Fed {
                 after: closed.recorded(&before),
                 answer: closed.answer(),

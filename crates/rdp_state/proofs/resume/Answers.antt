@@ -1,7 +1,5 @@
 -- `rdp_state::resume` meets its contract: the check from where the list stands, and the words of the commands before its place. Assumes nothing.
-use mathlib.Core.Path.{◌≡◌}
-use lib.ListN.{length}
-use borrow.Author.Rules.{rules}
+use Rattle.std.proofs.Common.{◌≡◌, length, rules}
 use Rattle.rdp_state.proofs.ResumeLaws.{resumed-is}
 use Rattle.rdp_state.proofs.resume.Goals as goal
 

@@ -10,7 +10,7 @@ pub returns-in-Ok : goal.returns-in-Ok
 returns-in-Ok c =
     let r = c.args.before in
     let told = c.in-Ok.ensures in
-    answered-with r told.1 _ _ (c.feed-after.ensures ∙ ap (λ (f : Feeding). fed_bytes f c.args.portion.now) told.0) _ c.recorded.ensures _ c.answer.ensures
+    answered-with r told.1 _ _ (c.feed.ensures ∙ ap (λ (f : Feeding). fed_bytes f c.args.portion.now) told.0) _ c.recorded.ensures _ c.answer.ensures
 
 pub returns-in-Err : goal.returns-in-Err
 returns-in-Err c =

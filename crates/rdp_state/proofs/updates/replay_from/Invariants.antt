@@ -1,6 +1,6 @@
 -- `rdp_state::updates::replay_from` meets its contract. The loop's invariant: the words after what is left are those after the list. The measure is what
 -- is left of the words. Assumes nothing.
-use Rattle.std.specs.Prelude.{◌-◌}
+use Rattle.std.proofs.Common.{◌-◌}
 use Rattle.rdp_state.proofs.ReplayLaws.{Replayed}
 use Rattle.rdp_state.proofs.updates.replay_from.Given as goal
 

@@ -1,6 +1,5 @@
 -- `rdp_state::updates::slot_of` meets its contract: the rows hold the slots, all of which are small. Assumes nothing.
-use Rattle.std.proofs.Common.{◌≡◌, ◌<◌, arith}
-use borrow.Author.Tests.{eq-eqb, ne_eqb}
+use Rattle.std.proofs.Common.{◌≡◌, ◌<◌, arith, eq-eqb, ne_eqb}
 use Rattle.rdp_state.specs.RegisterWords.{slot_of, tile_in}
 use Rattle.rdp_state.specs.Replay.{slot_in}
 use Rattle.rdp_state.proofs.RegisterLaws.{found-slot, found-small}

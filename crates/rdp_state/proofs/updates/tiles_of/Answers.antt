@@ -1,10 +1,9 @@
 -- `rdp_state::updates::tiles_of` meets its contract: each tile is read out of its two words. Assumes nothing.
-use Rattle.std.specs.Prelude.{ℕ, zero, suc, ◌+◌, ◌≤◌, ◌<◌, List, eqb, get_or}
+use Rattle.std.proofs.Common.{ℕ, zero, suc, ◌+◌, ◌≤◌, ◌<◌, List, eqb, get_or, ◌≡◌, rules, arith, subst, ap, sym, ◌∙◌, eqb-true}
+use borrow.Author.Tests.{eqb-false}
 use Rattle.std.specs.Array.{IsFromFnResultFrom}
 use Rattle.std.specs.Fn.{Called, Mut}
-use Rattle.std.proofs.Common.{◌≡◌, rules, arith, subst, ap, sym, ◌∙◌}
 use Rattle.std.proofs.lemmas.List.FromFn.{fill_by_all}
-use borrow.Author.Tests.{eqb-true, eqb-false}
 use Rattle.rdp_words.proofs.Tests.{by-test}
 use Rattle.rdp_check.specs.declared.Tile.{Tile}
 use Rattle.rdp_check.specs.Registers.{no_tile}

@@ -1,6 +1,5 @@
 -- `rdp_stream::holding::bytes_damaged` meets its contract, by those of what it calls. Assumes nothing.
-use Rattle.std.specs.Prelude.{ℕ, not, List, drop, length}
-use Rattle.std.proofs.Common.{◌≡◌, rules, sym, ◌∙◌, ap}
+use Rattle.std.proofs.Common.{ℕ, not, List, drop, length, ◌≡◌, rules, sym, ◌∙◌, ap}
 use Rattle.rdp_stream.specs.Records.{all_zero}
 use Rattle.rdp_stream.proofs.HeldLaws.{zero-past}
 use Rattle.rdp_stream.proofs.holding.bytes_damaged.Goals.{After-ne}

@@ -1,7 +1,5 @@
 -- `rdp_stream::holding::remembered` meets its contract: a number that no ground has is none that is remembered. Assumes nothing.
-use Rattle.std.specs.Prelude.{ℕ, false}
-use Rattle.std.proofs.Common.{◌≡◌, refl, sym}
-use borrow.Author.Tests.{ne_eqb}
+use Rattle.std.proofs.Common.{ℕ, false, ◌≡◌, refl, sym, ne_eqb}
 use Rattle.rdp_words.specs.Kinds.{among}
 use Rattle.rdp_words.specs.Grounds.{IsNoGround}
 use Rattle.rdp_words.specs.declared.grounds.Ground.TheVariants.{TooLong, NotWords, Cut, AfterSyncFull, Unset, FillOnFourBits, LoadMissing, TileMissing, PipeMissing, Unassigned}

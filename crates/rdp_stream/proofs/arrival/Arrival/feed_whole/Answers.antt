@@ -1,10 +1,10 @@
 -- `rdp_stream::arrival::Arrival::feed_whole` meets its contract: what the check answers of the part is what its bytes do. Assumes nothing.
-use Rattle.std.specs.Prelude.{ℕ, ◌+◌, ◌*◌, ◌%◌, ◌≤◌, List, length}
-use Rattle.std.proofs.Common.{◌≡◌, rules, refl, sym, ◌∙◌, ap, arith, length-drop}
+use Rattle.std.proofs.Common.{ℕ, ◌+◌, ◌*◌, ◌%◌, ◌≤◌, List, length, ◌≡◌, rules, refl, sym, ◌∙◌, ap, arith, length-drop}
 use Rattle.std.proofs.lemmas.List.{take_rest}
+use Rattle.rdp_words.specs.Grounds.{number_if}
 use Rattle.rdp_words.proofs.GroundLaws.{refused-number}
 use Rattle.rdp_stream.specs.Portions.{Feeding, fed_bytes}
-use Rattle.rdp_stream.specs.Steps.{open_of}
+use Rattle.rdp_stream.specs.Steps.{holding_all}
 use Rattle.rdp_stream.specs.declared.arrival.Arrival.{Arrival}
 use Rattle.rdp_stream.proofs.FeedLaws.{short-cut, short-fed, refused-room, refused-fed, held-inside, held-cut, held-fed}
 use Rattle.rdp_stream.proofs.KnownLaws.{known-whole, told-ok, told-err}
@@ -14,15 +14,15 @@ use Rattle.rdp_stream.proofs.arrival.Arrival.feed_whole.Goals as goal
 even : (a : Arrival) → a.held_count ≡ 0 → a.taken % 8 ≡ 0
 even a z = omega (arith, a.sound.whole)
 
-pub holding-requires : goal.holding-requires
-holding-requires c =
-    (short-cut c.args.part.now c.if-part-lt8.true, (even c.args.self.now c.requires.0.1, c.requires.1))
+pub hold-requires : goal.hold-requires
+hold-requires c = (c.requires.0.1, (short-cut c.args.part.now c.if-part-lt8.true, c.requires.1))
 
 pub returns-then-part-lt8 : goal.returns-then-part-lt8
 returns-then-part-lt8 c =
     let a = c.args.self.now in
     let part = c.args.part.now in
-    c.holding.ensures ∙
+    c.hold.ensures ∙
+    ap (λ (f : Feeding). holding_all f part) (known-whole a c.requires.0.0 c.requires.0.1) ∙
     short-fed a.standing a.taken a.place part (even a c.requires.0.1) c.requires.1 c.if-part-lt8.true ∙
     ap (λ (f : Feeding). fed_bytes f part) (sym (known-whole a c.requires.0.0 c.requires.0.1))
 
@@ -32,32 +32,43 @@ inside c =
     let a = c.args.self.now in
     held-inside a.standing a.taken a.place c.args.part.now (even a c.requires.0.1) c.requires.1 _ (told-ok c.resume-resumed.result _ c.resume-resumed.ensures c.in-Ok.words c.in-Ok.is) refl
 
-pub overflow_mul-taken : goal.overflow_mul-taken
-overflow_mul-taken c = record { fits = omega (arith, inside (goal.at.overflow_mul-taken c).In-Ok, c.requires.1) }
+pub overflow_mul-self : goal.overflow_mul-self
+overflow_mul-self c = record { fits = omega (arith, inside (goal.at.overflow_mul-self c).In-Ok, c.requires.1) }
 
-pub overflow_add-taken : goal.overflow_add-taken
-overflow_add-taken c = record { fits = omega (arith, inside (goal.at.overflow_add-taken c).In-Ok, c.requires.1) }
+pub overflow_add-self : goal.overflow_add-self
+overflow_add-self c = record { fits = omega (arith, inside (goal.at.overflow_add-self c).In-Ok, c.requires.1) }
 
-pub slice_bounds-holding-count : goal.slice_bounds-holding-count
-slice_bounds-holding-count c = inside (goal.at.slice_bounds-holding-count c).In-Ok
+pub invariant_of-self : goal.invariant_of-self
+invariant_of-self c =
+    let k = c.args.self.now.sound in
+    let within = inside (goal.at.invariant_of-self c).In-Ok in
+    record {
+      sound =
+          record {
+            few = k.few;
+            long = k.long;
+            past = k.past;
+            cut = k.cut;
+            inside = omega (arith, k.inside);
+            whole = omega (arith, k.whole, c.requires.0.1);
+            most = omega (arith, within, c.requires.1);
+          };
+    }
 
-pub slice_bounds-holding-start : goal.slice_bounds-holding-start
-slice_bounds-holding-start c = let h = inside (goal.at.slice_bounds-holding-start c).In-Ok in search (rules, h)
+pub slice_bounds-hold-count : goal.slice_bounds-hold-count
+slice_bounds-hold-count c = inside (goal.at.slice_bounds-hold-count c).In-Ok
 
-pub holding-requires-in-Ok : goal.holding-requires-in-Ok
-holding-requires-in-Ok c =
+pub slice_bounds-hold-start : goal.slice_bounds-hold-start
+slice_bounds-hold-start c = let h = inside (goal.at.slice_bounds-hold-start c).In-Ok in search (rules, h)
+
+pub hold-requires-in-Ok : goal.hold-requires-in-Ok
+hold-requires-in-Ok c =
     let a = c.args.self.now in
     let part : List ℕ = c.args.part.now in
     let words : ℕ = c.in-Ok.words in
-    let within = inside (goal.at.holding-requires-in-Ok c).In-Ok in
+    let within = inside (goal.at.hold-requires-in-Ok c).In-Ok in
     let cut = held-cut a.standing a.taken a.place part (even a c.requires.0.1) c.requires.1 _ (told-ok c.resume-resumed.result _ c.resume-resumed.ensures words c.in-Ok.is) refl in
-    let zero = even a c.requires.0.1 in
-    rw (take_rest part (8 * words)) (cut, (omega (arith, zero), omega (arith, within, c.requires.1, length-drop (8 * words) part)))
-
-pub refused-requires : goal.refused-requires
-refused-requires c =
-    let a = c.args.self.now in
-    refused-room a.standing a.taken a.place c.args.part.now (even a c.requires.0.1) c.requires.1 _ (told-err c.resume-resumed.result _ c.resume-resumed.ensures c.in-Err.refusal c.in-Err.is)
+    rw (take_rest part (8 * words)) (c.requires.0.1, (cut, omega (arith, within, c.requires.1, length-drop (8 * words) part)))
 
 pub returns-in-Ok : goal.returns-in-Ok
 returns-in-Ok c =
@@ -65,16 +76,22 @@ returns-in-Ok c =
     let part : List ℕ = c.args.part.now in
     let words : ℕ = c.in-Ok.words in
     let after = c.resume-resumed.result.standing in
-    c.holding-in-Ok.ensures ∙
-    ap (λ (xs : List ℕ). open_of after xs (a.taken + 8 * words + length xs) a.place) (take_rest part (8 * words)) ∙
+    let rest = take_rest part (8 * words) in
+    c.hold-in-Ok.ensures ∙
+    (λ i. record { standing = after; held = rest i; taken = a.taken + 8 * words + length (rest i); number = number_if (c.requires.0.0 i); place = a.place }) ∙
     held-fed a.standing a.taken a.place part (even a c.requires.0.1) c.requires.1 _ (told-ok c.resume-resumed.result _ c.resume-resumed.ensures words c.in-Ok.is) refl ∙
     ap (λ (f : Feeding). fed_bytes f part) (sym (known-whole a c.requires.0.0 c.requires.0.1))
+
+pub refuse-requires : goal.refuse-requires
+refuse-requires c =
+    let a = c.args.self.now in
+    refused-room a.standing a.taken a.place c.args.part.now (even a c.requires.0.1) c.requires.1 _ (told-err c.resume-resumed.result _ c.resume-resumed.ensures c.in-Err.refusal c.in-Err.is)
 
 pub returns-in-Err : goal.returns-in-Err
 returns-in-Err c =
     let a = c.args.self.now in
     let part : List ℕ = c.args.part.now in
-    c.refused.ensures ∙
+    c.refuse.ensures ∙
     refused-fed a.standing a.taken a.place part (even a c.requires.0.1) c.requires.1 _ (told-err c.resume-resumed.result _ c.resume-resumed.ensures c.in-Err.refusal c.in-Err.is)
     (refused-number c.in-Err.refusal.ground) ∙
     ap (λ (f : Feeding). fed_bytes f part) (sym (known-whole a c.requires.0.0 c.requires.0.1))

@@ -1,8 +1,6 @@
 -- `rdp_stream::arrival::Arrival::read` meets its contract. Assumes nothing.
-use Rattle.std.specs.Prelude.{true, false, Result, Ok, Err, length, take}
+use Rattle.std.proofs.Common.{true, false, Result, Ok, Err, length, take, ◌≡◌, rules, refl, sym, ◌∙◌, true≢false}
 use Rattle.std.specs.Result.{IsErr, IsErrAnd}
-use Rattle.std.proofs.Common.{◌≡◌, rules, refl, sym, ◌∙◌}
-use mathlib.Core.Bool.{true≢false}
 use Rattle.rdp_words.specs.declared.grounds.Ground.{Ground}
 use Rattle.rdp_words.specs.declared.grounds.Ground.TheVariants.{Damaged}
 use Rattle.rdp_stream.specs.declared.Stream.{Stream}
