@@ -14,9 +14,8 @@ use Rattle.rdp_pixels.proofs.BoolLaws.{and_is}
 use Rattle.rdp_texels.specs.Texels.{loaded}
 use Rattle.rdp_texels.specs.Load.{load_needs}
 use Rattle.rdp_texels.proofs.ActLaws.{never, both-lie}
-use Rattle.rdp_block.specs.declared.Strip.{Strip}
 use Rattle.rdp_block.specs.Block.{block_count, block_needs, block_moves, block_refusals, block_refusal, block_texture}
-use Rattle.rdp_block.specs.Strips.{SmallStrip, strip_moves, strip_of, flat, strip_refusal, Fits}
+use Rattle.rdp_block.specs.Strips.{Strip, strip_moves, strip_of, flat, strip_refusal, Fits}
 use Rattle.rdp_block.proofs.StripLaws.{block-strip}
 use Rattle.rdp_block.proofs.EndLaws.{strip-refusal}
 
@@ -37,44 +36,44 @@ module _ (l : LoadFields) where
       let ends = and_is (leb 1 (block_count l)) (leb (block_count l) 2048) parts.1 in
       (leb-true 1 (block_count l) ends.0, leb-true (block_count l) 2048 ends.1)
 
-  strip-whole : (strip_of l).ahead % 8 ≡ 0
-  unfolding strip_of
-  strip-whole = omega arith
+  module _ (start : ℕ) where
+    strip-whole : (strip_of start l).ahead % 8 ≡ 0
+    strip-whole = omega arith
 
-  strip-some : block_needs l ≡ true → 0 < (strip_of l).count
-  unfolding strip_of
-  strip-some e = (needs-count e).0
+    strip-some : block_needs l ≡ true → 0 < (strip_of start l).count
+    strip-some e = (needs-count e).0
 
-  pub block-refusal-is : (start len : ℕ) {q : Strip} {r : ℕ} → block_needs l ≡ true → q ≡ strip_of l → r ≡ strip_refusal q start len → r ≡ block_refusal l start len
-  unfolding block_refusal
-  block-refusal-is start len needs e is =
-      is ∙ ap (λ (x : Strip). strip_refusal x start len) e
-      ∙ rw (needs, block-strip l) (sym (strip-refusal (strip_of l) (strip-some needs) strip-whole start len))
+    module _ {q : Strip} (is : q ≡ strip_of start l) where
+      pub block-refusal-is : (len : ℕ) {r : ℕ} → block_needs l ≡ true → r ≡ strip_refusal q len → r ≡ block_refusal l start len
+      unfolding block_refusal
+      block-refusal-is len needs e =
+          e ∙ ap (λ (x : Strip). strip_refusal x len) is
+          ∙ rw (needs, block-strip start l) (sym (strip-refusal (strip_of start l) (strip-some needs) strip-whole len))
 
-  -- where nothing is refused, the strip is there
-  pub block-fits : (start len : ℕ) {q : Strip} → q ≡ strip_of l → SmallStrip q → block_refusal l start len ≡ 0 → Fits q start len
-  unfolding block_refusal strip_refusal
-  block-fits start len {q} e small clear =
-      by-test (block_needs l)
-      (λ needs.
-      let none : strip_refusal (strip_of l) start len ≡ 0 =
-      sym (strip-refusal (strip_of l) (strip-some needs) strip-whole start len) ∙ rw (needs, block-strip l) at clear in
-      let lie = both-lie (flat q.address q.count start len) (flat q.ahead q.count 0 4096) (rw e none) in
-      let memory = and_is (leb start q.address) (leb (q.address + 2 * q.count) (start + len)) lie.0 in
-      let texture = and_is (leb 0 q.ahead) (leb (q.ahead + 2 * q.count) (0 + 4096)) lie.1 in
-      let high = leb-true (q.ahead + 2 * q.count) (0 + 4096) texture.1 in
-      record {
-        small = small;
-        from = leb-true start q.address memory.0;
-        memory = leb-true (q.address + 2 * q.count) (start + len) memory.1;
-        texture = omega arith;
-        whole = rw e strip-whole;
-      })
-      (λ broken. never 17 (omega arith) (rw broken at clear))
+      -- where nothing is refused, the strip is there
+      pub block-fits : (len bytes : ℕ) → bytes ≡ 4096 → block_refusal l start len ≡ 0 → Fits q len bytes
+      unfolding block_refusal
+      block-fits len bytes size clear =
+          by-test (block_needs l)
+          (λ needs.
+          let none : strip_refusal (strip_of start l) len ≡ 0 =
+          sym (strip-refusal (strip_of start l) (strip-some needs) strip-whole len) ∙ rw (needs, block-strip start l) at clear in
+          let lie = both-lie (flat q.address q.count q.start len) (flat q.ahead q.count 0 4096) (rw is none) in
+          let memory = and_is (leb q.start q.address) (leb (q.address + 2 * q.count) (q.start + len)) lie.0 in
+          let texture = and_is (leb 0 q.ahead) (leb (q.ahead + 2 * q.count) (0 + 4096)) lie.1 in
+          let high = leb-true (q.ahead + 2 * q.count) (0 + 4096) texture.1 in
+          record {
+            from = leb-true q.start q.address memory.0;
+            memory = leb-true (q.address + 2 * q.count) (q.start + len) memory.1;
+            texture = omega arith;
+            whole = rw is strip-whole;
+            size = size;
+          })
+          (λ broken. never 17 (omega arith) (rw broken at clear))
 
-  pub block-loaded : (start : ℕ) (memory texture : List ℕ) {q : Strip} {after : List ℕ} → q ≡ strip_of l
-      → after ≡ loaded start memory (strip_moves q 0 q.count) texture → after ≡ loaded start memory (block_moves l) texture
-  block-loaded start memory texture e is = is ∙ rw (e, block-strip l)
+      pub block-loaded : (memory texture : List ℕ) {after : List ℕ} → after ≡ loaded q.start memory (strip_moves q 0 q.count) texture
+          → after ≡ loaded start memory (block_moves l) texture
+      block-loaded memory texture e = e ∙ rw (is, block-strip start l)
 
 -- what is left where nothing is refused
 pub block-leaves : (start : ℕ) (memory texture : List ℕ) → length texture ≡ 4096 → (l : LoadFields) → block_refusal l start (length memory) ≡ 0

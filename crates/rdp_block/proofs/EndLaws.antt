@@ -8,13 +8,12 @@ use borrow.Author.Tests.{le-leb, lt-leb, le-ltb, leb-true, leb-false, not-true, 
 use lib.Dec.{leb, ltb}
 use Rattle.rdp_words.proofs.Tests.{by-test, neither}
 use Rattle.rdp_pixels.specs.Overlay.{within}
-use Rattle.rdp_pixels.proofs.BoolLaws.{and_is, and-true-of, other-truth, same_truth}
+use Rattle.rdp_pixels.proofs.BoolLaws.{and_is, and-true-of, other-truth}
 use Rattle.rdp_pixels.proofs.OverlayLaws.{within-true, within-is}
 use Rattle.rdp_texels.specs.Texels.{Move, moves_over, some, in_row, outside_memory, outside_texture}
 use Rattle.rdp_texels.proofs.TurnLaws.{row_next, row_below, row-below-is}
 use Rattle.rdp_texels.proofs.SpanLaws.{some-single, some-over-is, some-over-true}
-use Rattle.rdp_block.specs.declared.Strip.{Strip}
-use Rattle.rdp_block.specs.Strips.{strip_move, strip_moves, flat, strip_refusal}
+use Rattle.rdp_block.specs.Strips.{Strip, strip_move, strip_moves, flat, strip_refusal}
 
 -- ---- a test of texels that lie two bytes on each
 
@@ -84,41 +83,14 @@ module _ (q : Strip) (some-texel : 0 < q.count) where
           (omega arith, omega arith)
 
   -- 12, else 18, else 0
-  pub strip-refusal : q.ahead % 8 ≡ 0 → (start len : ℕ)
+  pub strip-refusal : q.ahead % 8 ≡ 0 → (len : ℕ)
       → let ms = strip_moves q 0 q.count in
-      ◌≡◌ {A = ℕ} (cond (some (outside_memory start len) ms) 12 (cond (some outside_texture ms) 18 0)) (strip_refusal q start len)
-  unfolding strip_refusal
-  strip-refusal whole start len =
-      rw (strip-memory start len, strip-texture whole)
-      (picked (flat q.address q.count start len) (flat q.ahead q.count 0 4096))
+      ◌≡◌ {A = ℕ} (cond (some (outside_memory q.start len) ms) 12 (cond (some outside_texture ms) 18 0)) (strip_refusal q len)
+  strip-refusal whole len =
+      rw (strip-memory q.start len, strip-texture whole)
+      (picked (flat q.address q.count q.start len) (flat q.ahead q.count 0 4096))
     where
       picked : (a b : Bool) → ◌≡◌ {A = ℕ} (cond (not a) 12 (cond (not b) 18 0)) (cond a (cond b 0 18) 12)
       picked true true = refl
       picked true false = refl
       picked false b = refl
-
--- ---- for the functions
-
-module _ (base count low size : ℕ) where
-  pub flat-early : base < low → false ≡ flat base count low size
-  flat-early h = rw (lt-leb low base h)
-
-  pub flat-late : low ≤ base → leb (base - low + 2 * count) size ≡ flat base count low size
-  flat-late h =
-      rw (le-leb low base h)
-      (same_truth (leb (base - low + 2 * count) size) (leb (base + 2 * count) (low + size))
-      (λ e. let k = leb-true (base - low + 2 * count) size e in le-leb (base + 2 * count) (low + size) (omega arith))
-      (λ e. let k = leb-true (base + 2 * count) (low + size) e in le-leb (base - low + 2 * count) size (omega arith)))
-
-module _ (q : Strip) (start len : ℕ) where
-  pub strip-12 : flat q.address q.count start len ≡ false → 12 ≡ strip_refusal q start len
-  unfolding strip_refusal
-  strip-12 e = rw e
-
-  pub strip-18 : flat q.address q.count start len ≡ true → flat q.ahead q.count 0 4096 ≡ false → 18 ≡ strip_refusal q start len
-  unfolding strip_refusal
-  strip-18 e h = rw (e, h)
-
-  pub strip-0 : flat q.address q.count start len ≡ true → flat q.ahead q.count 0 4096 ≡ true → 0 ≡ strip_refusal q start len
-  unfolding strip_refusal
-  strip-0 e h = rw (e, h)

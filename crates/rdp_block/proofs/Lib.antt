@@ -1,5 +1,4 @@
 pub mod StripLaws
-pub mod WordLaws
 pub mod LineLaws
 pub mod EndLaws
 pub mod BlockLaws

@@ -1,6 +1,6 @@
 -- The texels of a strip: those of a line are one run of bytes, and the loops over them. Assumes nothing.
 use mathlib.Core.Path.{◌≡◌, refl, sym, ap, ◌∙◌, subst}
-use mathlib.Core.Bool.{Bool, true, false, cond}
+use mathlib.Core.Bool.{Bool, false}
 use mathlib.Core.List.{List, [], ◌∷◌, ◌++◌}
 use Prim.Native.Nat.{ℕ, ◌+◌, ◌-◌, ◌*◌, ◌/◌, ◌%◌, ◌≤◌, ◌<◌}
 use native.Mathlib.Nat.{zero-add}
@@ -8,24 +8,22 @@ use native.Mathlib.Omega.{arith}
 use lib.Dec.{eqb}
 use lib.ListN.{length}
 use Rattle.rdp_command.specs.declared.LoadFields.{LoadFields}
-use Rattle.rdp_texels.specs.declared.Grid.{Grid}
 use Rattle.rdp_texels.specs.Texels.{Move, moves_over, loaded}
 use Rattle.rdp_texels.specs.Run.{part, run_texture}
-use Rattle.rdp_texels.specs.Rows.{grid_address, grid_ahead, grid_move, grid_odd}
+use Rattle.rdp_texels.specs.Rows.{Grid, grid_address, grid_ahead, grid_move, grid_odd}
 use Rattle.rdp_texels.proofs.SpanLaws.{over-append, over-cong}
 use Rattle.rdp_texels.proofs.LinkLaws.{same_move}
 use Rattle.rdp_texels.proofs.ActLaws.{run-there}
 use Rattle.rdp_texels.proofs.RowLaws.{loaded-append, loaded-row}
-use Rattle.rdp_block.specs.declared.Strip.{Strip}
 use Rattle.rdp_block.specs.Block.{block_move, block_moves}
-use Rattle.rdp_block.specs.Strips.{strip_move, strip_moves, strip_of, Fits}
+use Rattle.rdp_block.specs.Strips.{Strip, strip_move, strip_moves, strip_of, Fits}
 
 -- ---- a block is its strip
 
-pub block-strip : (l : LoadFields) → block_moves l ≡ strip_moves (strip_of l) 0 (strip_of l).count
-unfolding block_moves strip_moves strip_of
-block-strip l =
-    over-cong (λ k. block_move l k ∷ []) (λ k. strip_move (strip_of l) k ∷ []) 0 (strip_of l).count
+pub block-strip : (start : ℕ) (l : LoadFields) → block_moves l ≡ strip_moves (strip_of start l) 0 (strip_of start l).count
+unfolding block_moves strip_moves
+block-strip start l =
+    over-cong (λ k. block_move l k ∷ []) (λ k. strip_move (strip_of start l) k ∷ []) 0 (strip_of start l).count
     (λ k _ _. ap (λ (m : Move). m ∷ []) (same_move (omega arith) refl refl refl))
 
 -- ---- some texels, and those after them
@@ -40,10 +38,10 @@ strip-none q k n start memory texture e = rw e
 
 -- ---- texels of one line
 
-module _ (q : Strip) (start : ℕ) (memory texture : List ℕ) (fits : Fits q start (length memory)) (size : length texture ≡ 4096) where
+module _ (q : Strip) (memory texture : List ℕ) (fits : Fits q (length memory) (length texture)) where
   -- a row of a grid that has the same texels
   abbrev row : ℕ → Grid
-  row line = record { address = q.address; pitch = 0; ahead = q.ahead; line = 0; behind = 0; turn = line }
+  row line = record { address = q.address; pitch = 0; start = q.start; ahead = q.ahead; line = 0; behind = 0; turn = line }
 
   row-moves : (x m line : ℕ) → ((k : ℕ) → x ≤ k → k < x + m → k / 4 * q.dxt / 2048 ≡ line) → strip_moves q x m ≡ moves_over x m (λ i. grid_move (row line) 0 i ∷ [])
   unfolding strip_moves
@@ -54,18 +52,18 @@ module _ (q : Strip) (start : ℕ) (memory texture : List ℕ) (fits : Fits q st
       (same_move (omega arith) (omega arith) refl (ap (λ (n : ℕ). eqb (n % 2) 1) (same i l h ∙ sym (zero-add line)))))
 
   pub line-loaded : (x m line : ℕ) → x + m ≤ q.count → ((k : ℕ) → x ≤ k → k < x + m → k / 4 * q.dxt / 2048 ≡ line)
-      → loaded start memory (strip_moves q x m) texture ≡ part (eqb (line % 2) 1) false (q.address - start + 2 * x) (q.ahead + 2 * x) 0 (2 * m) memory texture
+      → loaded q.start memory (strip_moves q x m) texture ≡ part (eqb (line % 2) 1) false (q.address - q.start + 2 * x) (q.ahead + 2 * x) 0 (2 * m) memory texture
   line-loaded x m line h same =
       let f = fits.from in
       let t = fits.texture in
       let w = fits.whole in
       let above : 0 ≤ grid_ahead (row line) 0 x = omega arith in
       let even : (grid_ahead (row line) 0 x - 0) % 2 ≡ 0 = omega arith in
-      let in_memory : grid_address (row line) 0 x - start ≡ q.address - start + 2 * x = omega arith in
+      let in_memory : grid_address (row line) 0 x - q.start ≡ q.address - q.start + 2 * x = omega arith in
       let in-texture : grid_ahead (row line) 0 x - 0 ≡ q.ahead + 2 * x = omega arith in
       let odd : grid_odd (row line) 0 ≡ eqb (line % 2) 1 = ap (λ (n : ℕ). eqb (n % 2) 1) (zero-add line) in
-      ap (λ (ms : List Move). loaded start memory ms texture) (row-moves x m line same)
-      ∙ loaded-row start (row line) 0 x (omega arith) above even texture memory size m (omega arith)
+      ap (λ (ms : List Move). loaded q.start memory ms texture) (row-moves x m line same)
+      ∙ loaded-row q.start (row line) 0 x (omega arith) above even texture memory fits.size m (omega arith)
       ∙ (λ i. part (odd i) false (in_memory i) (in-texture i) 0 (2 * m) memory texture)
 
 -- the texels of a word are of one line
@@ -114,35 +112,30 @@ two-parts q start memory texture r h first second =
 
 -- ---- what the functions move
 
-module _ (q : Strip) (start : ℕ) (memory texture : List ℕ) (fits : Fits q start (length memory)) (size : length texture ≡ 4096) where
+module _ (q : Strip) (memory texture : List ℕ) (fits : Fits q (length memory) (length texture)) where
   -- a run of texels of one line
   pub run-loaded : (x m line : ℕ) → x + m ≤ q.count → ((k : ℕ) → x ≤ k → k < x + m → k / 4 * q.dxt / 2048 ≡ line)
-      → {s d n : ℕ} {odd : Bool} {after : List ℕ} → s ≡ q.address - start + 2 * x → d ≡ q.ahead + 2 * x → n ≡ 2 * m → odd ≡ eqb (line % 2) 1
-      → after ≡ run_texture s d n odd memory texture → after ≡ loaded start memory (strip_moves q x m) texture
+      → {s d n : ℕ} {odd : Bool} {after : List ℕ} → s ≡ q.address - q.start + 2 * x → d ≡ q.ahead + 2 * x → n ≡ 2 * m → odd ≡ eqb (line % 2) 1
+      → after ≡ run_texture s d n odd memory texture → after ≡ loaded q.start memory (strip_moves q x m) texture
   run-loaded x m line h same {s} {d} {n} {odd} is-s is-d is-n is_odd e =
       let f = fits.from in
       let to = fits.memory in
       let t = fits.texture in
       e
-      ∙ run-there s d n odd memory texture size (omega (arith, is-d, is-n)) (omega (arith, is-s, is-n))
+      ∙ run-there s d n odd memory texture fits.size (omega (arith, is-d, is-n)) (omega (arith, is-s, is-n))
       ∙ (λ i. part (is_odd i) false (is-s i) (is-d i) 0 (is-n i) memory texture)
-      ∙ sym (line-loaded q start memory texture fits size x m line h same)
+      ∙ sym (line-loaded q memory texture fits x m line h same)
 
   -- a word
-  pub word-loaded : (j : ℕ) → 4 * j + 4 ≤ q.count → {s d first : ℕ} {after : List ℕ} → s ≡ q.address - start + 8 * j → d ≡ q.ahead + 8 * j
-      → first ≡ cond (eqb (j * q.dxt / 2048 % 2) 1) 4 0 → after ≡ part (eqb first 4) false s d 0 8 memory texture
-      → after ≡ loaded start memory (strip_moves q (4 * j) 4) texture
-  word-loaded j h {s} {d} {first} is-s is-d is-first e =
-      let in_memory : q.address - start + 8 * j ≡ q.address - start + 2 * (4 * j) = omega arith in
+  pub word-loaded : (j : ℕ) → 4 * j + 4 ≤ q.count → {s d : ℕ} {turned : Bool} {after : List ℕ} → s ≡ q.address - q.start + 8 * j → d ≡ q.ahead + 8 * j
+      → turned ≡ eqb (j * q.dxt / 2048 % 2) 1 → after ≡ part turned false s d 0 8 memory texture
+      → after ≡ loaded q.start memory (strip_moves q (4 * j) 4) texture
+  word-loaded j h is-s is-d odd e =
+      let in_memory : q.address - q.start + 8 * j ≡ q.address - q.start + 2 * (4 * j) = omega arith in
       let in-texture : q.ahead + 8 * j ≡ q.ahead + 2 * (4 * j) = omega arith in
-      let odd : eqb first 4 ≡ eqb (j * q.dxt / 2048 % 2) 1 = ap (λ (n : ℕ). eqb n 4) is-first ∙ back (eqb (j * q.dxt / 2048 % 2) 1) in
       e
       ∙ (λ i. part (odd i) false ((is-s ∙ in_memory) i) ((is-d ∙ in-texture) i) 0 8 memory texture)
-      ∙ sym (line-loaded q start memory texture fits size (4 * j) 4 (j * q.dxt / 2048) h (λ k l u. word_line q.dxt j k l u))
-    where
-      back : (b : Bool) → eqb (cond b 4 0) 4 ≡ b
-      back true = refl
-      back false = refl
+      ∙ sym (line-loaded q memory texture fits (4 * j) 4 (j * q.dxt / 2048) h (λ k l u. word_line q.dxt j k l u))
 
 -- a word more, and a line more
 module _ {q : Strip} {start first n : ℕ} {memory before after : List ℕ} where

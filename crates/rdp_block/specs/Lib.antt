@@ -1,2 +1,4 @@
 pub mod Block
+-- No public contract cites these.
 pub mod Strips
+pub mod Views

@@ -2,8 +2,15 @@
 use Rattle.std.specs.Prelude.{ℕ, ◌+◌, ◌*◌, ◌/◌, ◌%◌, ◌<◌, ◌≤◌, Bool, cond, ◌&&◌, List, [], ◌∷◌, ◌≡◌, leb}
 use Rattle.rdp_command.specs.declared.LoadFields.{LoadFields}
 use Rattle.rdp_texels.specs.Texels.{Move, moves_over, texel_address}
-use Rattle.rdp_block.specs.declared.Strip.{Strip}
 use Rattle.rdp_block.specs.Block.{block_count, is_turned}
+
+-- texel k at address `address + 2 k` of memory, which begins at `start`, goes to byte `ahead + 2 k` of texture memory, turned by dxt
+pub record Strip : Type 0 where
+  pub address : ℕ
+  pub start : ℕ
+  pub ahead : ℕ
+  pub dxt : ℕ
+  pub count : ℕ
 
 abbrev pub strip_move : Strip → ℕ → Move
 strip_move q k = record { address = q.address + 2 * k; ahead = q.ahead + 2 * k; behind = 0; odd = is_turned q.dxt k }
@@ -12,36 +19,30 @@ strip_move q k = record { address = q.address + 2 * k; ahead = q.ahead + 2 * k; 
 unfoldable pub strip_moves : Strip → ℕ → ℕ → List Move
 strip_moves q k n = moves_over k n (λ i. strip_move q i ∷ [])
 
-unfoldable pub strip_of : LoadFields → Strip
-strip_of l =
+abbrev pub strip_of : ℕ → LoadFields → Strip
+strip_of start l =
     record {
+      start = start;
       address = texel_address l.image.address l.image.width l.area.upper_left.s l.area.upper_left.t;
       ahead = 8 * l.tile.address;
       dxt = l.area.lower_right.t;
       count = block_count l;
     }
 
--- far below what a sum or a product could wrap at
-pub record SmallStrip (q : Strip) : Type 0 where
-  pub address : q.address ≤ 68719476736
-  pub ahead : q.ahead ≤ 524288
-  pub dxt : q.dxt ≤ 65536
-  pub count : q.count ≤ 65536
-
 -- 2 bytes for each of `count` texels from `base` on are among the `size` bytes from `low` on
 abbrev pub flat : ℕ → ℕ → ℕ → ℕ → Bool
 flat base count low size = leb low base && leb (base + 2 * count) (low + size)
 
-unfoldable pub strip_refusal : Strip → ℕ → ℕ → ℕ
-strip_refusal q start len = cond (flat q.address q.count start len) (cond (flat q.ahead q.count 0 4096) 0 18) 12
+abbrev pub strip_refusal : Strip → ℕ → ℕ
+strip_refusal q len = cond (flat q.address q.count q.start len) (cond (flat q.ahead q.count 0 4096) 0 18) 12
 
--- every texel of the strip is there, in memory of `len` bytes from `start` on and in texture memory
-pub record Fits (q : Strip) (start len : ℕ) : Type 0 where
-  pub small : SmallStrip q
-  pub from : start ≤ q.address
-  pub memory : q.address + 2 * q.count ≤ start + len
+-- every texel of the strip is there, in memory of `len` bytes and in texture memory
+pub record Fits (q : Strip) (len bytes : ℕ) : Type 0 where
+  pub from : q.start ≤ q.address
+  pub memory : q.address + 2 * q.count ≤ q.start + len
   pub texture : q.ahead + 2 * q.count ≤ 4096
   pub whole : q.ahead % 8 ≡ 0
+  pub size : bytes ≡ 4096
 
 -- where the texels of a line end, of `count` in all
 pub record LineEnds (line dxt count r : ℕ) : Type 0 where

@@ -1,26 +1,23 @@
 -- A load and a copy rectangle by their grids: refusals, and what is moved. Assumes nothing.
 use mathlib.Core.Path.{◌≡◌, refl, sym, ◌∙◌}
 use mathlib.Core.Bool.{Bool, true, false, cond, not, ◌&&◌}
-use mathlib.Core.List.{List, []}
-use Prim.Native.Nat.{ℕ, ◌+◌, ◌-◌, ◌<◌, ◌≤◌}
+use mathlib.Core.List.{List}
+use Prim.Native.Nat.{ℕ, ◌+◌, ◌<◌, ◌≤◌}
 use native.Mathlib.Omega.{arith}
-use borrow.Author.Tests.{eq-eqb, ne_eqb, eqb-true, le-leb, lt-leb, leb-true}
+use borrow.Author.Tests.{eq-eqb, ne_eqb, eqb-true, le-leb, leb-true}
 use lib.Dec.{eqb, leb}
 use lib.ListN.{length}
-use Rattle.rdp_pixels.specs.Kept.{row_kept}
-use Rattle.rdp_pixels.proofs.BoolLaws.{and_is, and-true-of, same_truth}
+use Rattle.rdp_pixels.proofs.BoolLaws.{and_is, and-true-of}
 use Rattle.rdp_command.specs.declared.LoadFields.{LoadFields}
 use Rattle.rdp_command.specs.declared.CopyFields.{CopyFields}
 use Rattle.rdp_check.specs.Order.{first_of}
-use Rattle.rdp_texels.specs.declared.Grid.{Grid}
-use Rattle.rdp_texels.specs.declared.Span.{Span}
 use Rattle.rdp_texels.specs.Texels.{Move, loaded, copied}
 use Rattle.rdp_texels.specs.Load.{load_needs, load_moves}
 use Rattle.rdp_texels.specs.Copy.{copy_needs, copy_moves}
 use Rattle.rdp_texels.specs.Run.{part, run_fits, run_texture}
 use Rattle.rdp_texels.specs.Refusals.{load_refusals, copy_refusals, load_refusal, copy_refusal, sized, load_texture, copy_memory}
-use Rattle.rdp_texels.specs.Rows.{kept_moves, load_grid, load_span, copy_grid, copy_span, lies, span_some, corners_refusal, EvenGrid, SmallGrid, SmallSpan, Ready}
-use Rattle.rdp_texels.proofs.CornerLaws.{texel_refusal, Ends, corners-refusal, grid-none, span-some}
+use Rattle.rdp_texels.specs.Rows.{Grid, Span, keeps, moved, kept_moves, load_grid, load_span, copy_grid, copy_span, corners_refusal, EvenGrid}
+use Rattle.rdp_texels.proofs.CornerLaws.{texel_refusal, Ends, corners-refusal}
 use Rattle.rdp_texels.proofs.LinkLaws.{load_moves_lem, load-ends, load-even, copy_moves_lem, copy-ends, copy-even}
 
 pub never : {X : Type 0} → (n : ℕ) → 0 < n → n ≡ 0 → X
@@ -33,24 +30,12 @@ both-lie false b e = never 12 (omega arith) e
 
 -- ---- moves that are those of a grid
 
-module _ (keeps : ℕ → Bool) (g : Grid) (q : Span) (ms : List Move) (link : ms ≡ kept_moves keeps g q q.top) (even : EvenGrid g) (ends : Ends keeps q) where
-  moves-refusal : (start len : ℕ) {g' : Grid} {q' : Span} {r : ℕ} → g' ≡ g → q' ≡ q → r ≡ corners_refusal g' q' start len → r ≡ texel_refusal start len ms
-  moves-refusal start len e h is = is ∙ rw (e, h, link) (sym (corners-refusal keeps g q even ends start len))
+module _ (g : Grid) (q : Span) (ms : List Move) (link : ms ≡ kept_moves (keeps q) g q q.top) (even : EvenGrid g) (ends : Ends (keeps q) q) (len : ℕ) where
+  moves-refusal : {g' : Grid} {q' : Span} {r : ℕ} → g' ≡ g → q' ≡ q → r ≡ corners_refusal g' q' len → r ≡ texel_refusal g.start len ms
+  moves-refusal e h is = is ∙ rw (e, h, link) (sym (corners-refusal (keeps q) g q even ends len))
 
-  moves-ready : (start len : ℕ) {g' : Grid} {q' : Span} → g' ≡ g → q' ≡ q → SmallGrid g' → SmallSpan q' → span_some q' ≡ true
-      → texel_refusal start len ms ≡ 0 → Ready g' q' start len
-  unfolding corners_refusal
-  moves-ready start len {g'} {q'} e h small small' some clear =
-      let corners : corners_refusal g' q' start len ≡ 0 = rw (e, h) (sym (corners-refusal keeps g q even ends start len) ∙ rw link at clear) in
-      let parts = span-some q' some in
-      let lie = both-lie (lies g'.address g'.pitch q' start len) (lies g'.ahead g'.line q' g'.behind 4096) (rw some at corners) in
-      record { columns = parts.0; rows = parts.1; memory = lie.0; texture = lie.1; grid = small; span = small'; even = rw e even }
-
-  moves-are : {g' : Grid} {q' : Span} → g' ≡ g → q' ≡ q → kept_moves keeps g' q' q'.top ≡ ms
-  moves-are e h = rw (e, h) (sym link)
-
-  moves-none : {q' : Span} → q' ≡ q → span_some q' ≡ false → ms ≡ []
-  moves-none h none = link ∙ grid-none keeps g q (rw h at none)
+  moves-clear : {g' : Grid} {q' : Span} → g' ≡ g → q' ≡ q → texel_refusal g.start len ms ≡ 0 → corners_refusal g' q' len ≡ 0
+  moves-clear e h clear = rw (e, h) (sym (corners-refusal (keeps q) g q even ends len) ∙ rw link at clear)
 
 -- the answers are the first that holds of the refusals in order
 pub load-first : (l : LoadFields) (start len : ℕ) → load_refusal l start len ≡ first_of (load_refusals l start len) 0
@@ -66,54 +51,45 @@ when-needs : (b : Bool) (x : ℕ) → cond (not b) 17 x ≡ 0 → x ≡ 0
 when-needs true x e = e
 when-needs false x e = never 17 (omega arith) e
 
-module _ (l : LoadFields) where
-  pub load-broken : (start len : ℕ) → load_needs l ≡ false → 17 ≡ load_refusal l start len
-  unfolding load_refusal
-  load-broken start len e = rw e
+pub load-broken : (l : LoadFields) (start len : ℕ) → load_needs l ≡ false → 17 ≡ load_refusal l start len
+unfolding load_refusal
+load-broken l start len e = rw e
 
-  pub load-refusal-is : (start len : ℕ) {g : Grid} {q : Span} {r : ℕ} → load_needs l ≡ true → g ≡ load_grid l → q ≡ load_span l
-      → r ≡ corners_refusal g q start len → r ≡ load_refusal l start len
+module _ (l : LoadFields) (start len : ℕ) {g : Grid} {q : Span} (grid : g ≡ load_grid start l) (span : q ≡ load_span l) where
+  pub load-refusal-is : {r : ℕ} → load_needs l ≡ true → r ≡ corners_refusal g q len → r ≡ load_refusal l start len
   unfolding load_refusal
-  load-refusal-is start len needs e h is =
-      rw needs (moves-refusal (λ _. true) (load_grid l) (load_span l) (load_moves l) (load_moves_lem l) (load-even l) (load-ends l) start len e h is)
+  load-refusal-is needs is =
+      rw needs
+      (moves-refusal (load_grid start l) (load_span l) (load_moves l) (load_moves_lem start l) (load-even start l) (load-ends start l) len grid span is)
 
-  pub load-ready : (start len : ℕ) {g : Grid} {q : Span} → g ≡ load_grid l → q ≡ load_span l → SmallGrid g → SmallSpan q → span_some q ≡ true
-      → load_refusal l start len ≡ 0 → Ready g q start len
+  pub load-clear : load_refusal l start len ≡ 0 → corners_refusal g q len ≡ 0
   unfolding load_refusal
-  load-ready start len e h small small' some clear =
-      moves-ready (λ _. true) (load_grid l) (load_span l) (load_moves l) (load_moves_lem l) (load-even l) (load-ends l) start len e h small small' some
+  load-clear clear =
+      moves-clear (load_grid start l) (load_span l) (load_moves l) (load_moves_lem start l) (load-even start l) (load-ends start l) len grid span
       (when-needs (load_needs l) (texel_refusal start len (load_moves l)) clear)
 
-  pub load-are : {g : Grid} {q : Span} → g ≡ load_grid l → q ≡ load_span l → kept_moves (λ _. true) g q q.top ≡ load_moves l
-  load-are = moves-are (λ _. true) (load_grid l) (load_span l) (load_moves l) (load_moves_lem l) (load-even l) (load-ends l)
+  pub load-are : (memory texture : List ℕ) → moved true g.start memory (kept_moves (keeps q) g q q.top) texture ≡ loaded start memory (load_moves l) texture
+  load-are memory texture = rw (grid, span, load_moves_lem start l)
 
-  pub load-none : {q : Span} → q ≡ load_span l → span_some q ≡ false → load_moves l ≡ []
-  load-none = moves-none (λ _. true) (load_grid l) (load_span l) (load_moves l) (load_moves_lem l) (load-even l) (load-ends l)
+pub copy-broken : (c : CopyFields) (start len : ℕ) → copy_needs c ≡ false → 17 ≡ copy_refusal c start len
+unfolding copy_refusal
+copy-broken c start len e = rw e
 
-module _ (c : CopyFields) where
-  pub copy-broken : (start len : ℕ) → copy_needs c ≡ false → 17 ≡ copy_refusal c start len
+module _ (c : CopyFields) (start len : ℕ) {g : Grid} {q : Span} (grid : g ≡ copy_grid start c) (span : q ≡ copy_span c) where
+  pub copy-refusal-is : {r : ℕ} → copy_needs c ≡ true → r ≡ corners_refusal g q len → r ≡ copy_refusal c start len
   unfolding copy_refusal
-  copy-broken start len e = rw e
-
-  pub copy-refusal-is : (start len : ℕ) {g : Grid} {q : Span} {r : ℕ} → copy_needs c ≡ true → g ≡ copy_grid c → q ≡ copy_span c
-      → r ≡ corners_refusal g q start len → r ≡ copy_refusal c start len
-  unfolding copy_refusal
-  copy-refusal-is start len needs e h is =
+  copy-refusal-is needs is =
       rw needs
-      (moves-refusal (row_kept c.scissor) (copy_grid c) (copy_span c) (copy_moves c) (copy_moves_lem c) (copy-even c) (copy-ends c) start len e h is)
+      (moves-refusal (copy_grid start c) (copy_span c) (copy_moves c) (copy_moves_lem c start) (copy-even c start) (copy-ends c) len grid span is)
 
-  pub copy-ready : (start len : ℕ) {g : Grid} {q : Span} → g ≡ copy_grid c → q ≡ copy_span c → SmallGrid g → SmallSpan q → span_some q ≡ true
-      → copy_refusal c start len ≡ 0 → Ready g q start len
+  pub copy-clear : copy_refusal c start len ≡ 0 → corners_refusal g q len ≡ 0
   unfolding copy_refusal
-  copy-ready start len e h small small' some clear =
-      moves-ready (row_kept c.scissor) (copy_grid c) (copy_span c) (copy_moves c) (copy_moves_lem c) (copy-even c) (copy-ends c) start len e h small small' some
+  copy-clear clear =
+      moves-clear (copy_grid start c) (copy_span c) (copy_moves c) (copy_moves_lem c start) (copy-even c start) (copy-ends c) len grid span
       (when-needs (copy_needs c) (texel_refusal start len (copy_moves c)) clear)
 
-  pub copy-are : {g : Grid} {q : Span} → g ≡ copy_grid c → q ≡ copy_span c → kept_moves (row_kept c.scissor) g q q.top ≡ copy_moves c
-  copy-are = moves-are (row_kept c.scissor) (copy_grid c) (copy_span c) (copy_moves c) (copy_moves_lem c) (copy-even c) (copy-ends c)
-
-  pub copy-none : {q : Span} → q ≡ copy_span c → span_some q ≡ false → copy_moves c ≡ []
-  copy-none = moves-none (row_kept c.scissor) (copy_grid c) (copy_span c) (copy_moves c) (copy_moves_lem c) (copy-even c) (copy-ends c)
+  pub copy-are : (texture memory : List ℕ) → moved false g.start texture (kept_moves (keeps q) g q q.top) memory ≡ copied start texture (copy_moves c) memory
+  copy-are texture memory = rw (grid, span, copy_moves_lem c start)
 
 -- ---- 16, and what is left
 
@@ -124,8 +100,8 @@ module _ (size refusal : ℕ) (x y : List ℕ) where
   pub stays-refused : size ≡ 4096 → 0 < refusal → x ≡ cond (eqb (sized size refusal) 0) y x
   stays-refused e h = rw (eq-eqb size 4096 e, ne_eqb refusal 0 (λ z. omega arith))
 
-  pub moved : size ≡ 4096 → refusal ≡ 0 → y ≡ cond (eqb (sized size refusal) 0) y x
-  moved e z = rw (eq-eqb size 4096 e, z)
+  pub all-moved : size ≡ 4096 → refusal ≡ 0 → y ≡ cond (eqb (sized size refusal) 0) y x
+  all-moved e z = rw (eq-eqb size 4096 e, z)
 
 -- what is left where nothing is refused
 module _ (start : ℕ) (memory texture : List ℕ) (size : length texture ≡ 4096) where
@@ -138,16 +114,6 @@ module _ (start : ℕ) (memory texture : List ℕ) (size : length texture ≡ 40
   copy-leaves c e = rw (eq-eqb (length texture) 4096 size, e)
 
 -- ---- a run
-
-module _ (size first n : ℕ) where
-  pub holds_not : size < first → false ≡ leb (first + n) size
-  holds_not h = sym (lt-leb (first + n) size (omega arith))
-
-  pub holds_by : first ≤ size → leb n (size - first) ≡ leb (first + n) size
-  holds_by h =
-      same_truth (leb n (size - first)) (leb (first + n) size)
-      (λ e. let k = leb-true n (size - first) e in le-leb (first + n) size (omega arith))
-      (λ e. let k = leb-true (first + n) size e in le-leb n (size - first) (omega arith))
 
 pub run-parts : (len s size d n : ℕ) → run_fits len s size d n ≡ true → (size ≡ 4096) × (d + n ≤ 4096) × (s + n ≤ len)
 run-parts len s size d n e =

@@ -11,10 +11,8 @@ use Rattle.rdp_words.proofs.Tests.{by-test, neither}
 use Rattle.rdp_pixels.specs.Overlay.{within}
 use Rattle.rdp_pixels.proofs.BoolLaws.{and_is, and-true-of, other-truth}
 use Rattle.rdp_pixels.proofs.OverlayLaws.{split, within-true, within-is}
-use Rattle.rdp_texels.specs.declared.Grid.{Grid}
-use Rattle.rdp_texels.specs.declared.Span.{Span}
 use Rattle.rdp_texels.specs.Texels.{Move, some, in_row, outside_memory, outside_texture}
-use Rattle.rdp_texels.specs.Rows.{grid_address, grid_ahead, grid_odd, grid_move, row_moves, kept_moves, lies, span_some, corners_refusal, EvenGrid}
+use Rattle.rdp_texels.specs.Rows.{Grid, Span, grid_address, grid_ahead, grid_odd, grid_move, row_moves, kept_moves, lies, span_some, corners_refusal, EvenGrid}
 use Rattle.rdp_texels.proofs.TurnLaws.{row_next, row_below, row-below-is}
 use Rattle.rdp_texels.proofs.SpanLaws.{over_none, some-over-is, some-over-true}
 
@@ -171,24 +169,24 @@ pub record Ends (keeps : ℕ → Bool) (q : Span) : Type 0 where
 abbrev pub texel_refusal : ℕ → ℕ → List Move → ℕ
 texel_refusal start len ms = cond (some (outside_memory start len) ms) 12 (cond (some outside_texture ms) 18 0)
 
-pub corners-refusal : (keeps : ℕ → Bool) (g : Grid) (q : Span) → EvenGrid g → Ends keeps q → (start len : ℕ)
-    → texel_refusal start len (kept_moves keeps g q q.top) ≡ corners_refusal g q start len
-unfolding corners_refusal some
-corners-refusal keeps g q even ends start len = by-test (span_some q) full (λ e. rw (grid-none keeps g q e, e))
+pub corners-refusal : (keeps : ℕ → Bool) (g : Grid) (q : Span) → EvenGrid g → Ends keeps q → (len : ℕ)
+    → texel_refusal g.start len (kept_moves keeps g q q.top) ≡ corners_refusal g q len
+unfolding some
+corners-refusal keeps g q even ends len = by-test (span_some q) full (λ e. rw (grid-none keeps g q e, e))
   where
     picked : (a b : Bool) → ◌≡◌ {A = ℕ} (cond (not a) 12 (cond (not b) 18 0)) (cond a (cond b 0 18) 12)
     picked true true = refl
     picked true false = refl
     picked false b = refl
 
-    full : span_some q ≡ true → texel_refusal start len (kept_moves keeps g q q.top) ≡ corners_refusal g q start len
+    full : span_some q ≡ true → texel_refusal g.start len (kept_moves keeps g q q.top) ≡ corners_refusal g q len
     full e =
         let parts = and_is (ltb q.left q.right) (ltb q.top q.bottom) e in
         let columns = ltb-true q.left q.right parts.0 in
         let rows = ltb-true q.top q.bottom parts.1 in
         rw (
           e,
-          memory-corners keeps g q columns rows (ends.first rows) (ends.last rows) start len,
+          memory-corners keeps g q columns rows (ends.first rows) (ends.last rows) g.start len,
           texture-corners keeps g q columns rows (ends.first rows) (ends.last rows) even,
         )
-        (picked (lies g.address g.pitch q start len) (lies g.ahead g.line q g.behind 4096))
+        (picked (lies g.address g.pitch q g.start len) (lies g.ahead g.line q g.behind 4096))

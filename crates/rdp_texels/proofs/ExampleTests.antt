@@ -10,7 +10,7 @@ use Rattle.rdp_command.specs.declared.LoadFields.{LoadFields}
 use Rattle.rdp_command.specs.declared.CopyFields.{CopyFields}
 use Rattle.rdp_texels.specs.Texels.{turned, some, moves_over, loaded, copied}
 use Rattle.rdp_texels.specs.Load.{load_needs, load_moves}
-use Rattle.rdp_texels.specs.Copy.{step_needs, copy_needs, copy_moves}
+use Rattle.rdp_texels.specs.Copy.{copy_needs, copy_moves}
 use Rattle.rdp_texels.specs.Refusals.{load_refusal, copy_refusal}
 use Rattle.rdp_pixels.specs.Kept.{kept, line_kept}
 
@@ -99,10 +99,10 @@ unfolding copy turned_bytes copied copy_moves moves_over turned kept line_kept
 copies-above = refl
 
 copies-below-0 : copy_refusal (copy (negsuc 31) 0) 0 16 ≡ 18
-unfolding copy copy_refusal copy_needs step_needs copy_moves moves_over some turned kept line_kept
+unfolding copy copy_refusal copy_needs copy_moves moves_over some turned kept line_kept
 copies-below-0 = refl
 
 -- half a texel is no whole one
 copies-half : copy_refusal (copy (pos 16) 0) 0 16 ≡ 17
-unfolding copy copy_refusal copy_needs step_needs
+unfolding copy copy_refusal copy_needs
 copies-half = refl

@@ -1,45 +1,69 @@
 -- Groups of eight bytes whose halves exchange places, as parts of an odd row. Assumes nothing.
 use mathlib.Core.Path.{◌≡◌, refl, sym, ap, subst, ◌∙◌}
 use mathlib.Core.Bool.{Bool, true, false, not, cond}
-use mathlib.Core.List.{List, [], ◌∷◌}
+use mathlib.Core.List.{List, [], ◌∷◌, ◌++◌}
 use Prim.Native.Nat.{ℕ, ◌+◌, ◌-◌, ◌*◌, ◌/◌, ◌%◌, ◌≤◌, ◌<◌}
 use native.Mathlib.Omega.{arith}
-use lib.ListN.{length, get_or, set, drop, length-set}
-use lib.Seq.{get_or-drop, drop-drop}
+use lib.ListN.{length, get_or, take, drop, length-append, length-drop}
+use lib.Seq.{get_or-drop, drop-drop, length-take-le}
+use borrow.Rule.Slice.PartMut.{put_mid, post_of}
+use Rattle.std.proofs.lemmas.List.{drop_all, get_or-append_right, get_or_append_left, get_or-take}
 use Rattle.rdp_pixels.specs.Overlay.{within}
 use Rattle.rdp_pixels.proofs.BoolLaws.{same_truth}
-use Rattle.rdp_pixels.proofs.OverlayLaws.{within-true, within-is}
+use Rattle.rdp_pixels.proofs.OverlayLaws.{split, within-true, within-is}
 use Rattle.rdp_texels.specs.Texels.{turned}
 use Rattle.rdp_texels.specs.Run.{part}
-use Rattle.rdp_texels.specs.Rows.{exchanged, GroupsAre}
+use Rattle.rdp_texels.specs.Rows.{exchanged}
 use Rattle.rdp_texels.proofs.TurnLaws.{turned-twice, turned-below, turned-above, turned_on}
-use Rattle.rdp_texels.proofs.PartLaws.{overlay-same, part-joined, part-from, part-eight, Taken, taken_none, taken-part}
+use Rattle.rdp_texels.proofs.PartLaws.{overlay-same, placed, copied-as, part-joined, part-from, Taken, taken-part}
 
--- stores one after the other: each an index and a value
-abbrev pub stored : List ℕ → List (ℕ × ℕ) → List ℕ
-stored l [] = l
-stored l (p ∷ ps) = stored (set l p.0 p.1) ps
+-- four bytes from one on
+abbrev pub four : List ℕ → ℕ → List ℕ
+four l a = get_or l a 0 ∷ get_or l (a + 1) 0 ∷ get_or l (a + 2) 0 ∷ get_or l (a + 3) 0 ∷ []
 
-pub length-stored : (l : List ℕ) (ps : List (ℕ × ℕ)) → length (stored l ps) ≡ length l
-length-stored l [] = refl
-length-stored l (p ∷ ps) = length-stored (set l p.0 p.1) ps ∙ length-set l p.0 p.1
+halves : (l : List ℕ) → length l ≡ 8 → (four l 0 ++ four l 4 ≡ l) × (four l 4 ++ four l 0 ≡ drop 4 l ++ take 4 l)
+halves [] e = absurd (omega arith)
+halves (a ∷ []) e = absurd (omega arith)
+halves (a ∷ b ∷ []) e = absurd (omega arith)
+halves (a ∷ b ∷ c ∷ []) e = absurd (omega arith)
+halves (a ∷ b ∷ c ∷ d ∷ []) e = absurd (omega arith)
+halves (a ∷ b ∷ c ∷ d ∷ f ∷ []) e = absurd (omega arith)
+halves (a ∷ b ∷ c ∷ d ∷ f ∷ g ∷ []) e = absurd (omega arith)
+halves (a ∷ b ∷ c ∷ d ∷ f ∷ g ∷ h ∷ []) e = absurd (omega arith)
+halves (a ∷ b ∷ c ∷ d ∷ f ∷ g ∷ h ∷ i ∷ []) e = (refl, refl)
+halves (a ∷ b ∷ c ∷ d ∷ f ∷ g ∷ h ∷ i ∷ j ∷ l) e = absurd (omega arith)
 
-module _ (s d : ℕ) (from : List ℕ) where
-  -- the stores of eight bytes
-  abbrev pub eight : List (ℕ × ℕ)
-  eight =
-      (d, get_or from (s + 4) 0) ∷ (d + 1, get_or from (s + 5) 0) ∷ (d + 2, get_or from (s + 6) 0) ∷ (d + 3, get_or from (s + 7) 0)
-      ∷ (d + 4, get_or from s 0) ∷ (d + 5, get_or from (s + 1) 0) ∷ (d + 6, get_or from (s + 2) 0) ∷ (d + 7, get_or from (s + 3) 0) ∷ []
+-- four bytes stored, then four more
+four-stored : (l to : List ℕ) (a b : ℕ) → length to ≡ 8 → put_mid 4 4 (four l a ++ post_of 0 4 to) (four l b) ≡ four l a ++ four l b
+four-stored l to a b e =
+    ap (λ (r : List ℕ). four l a ++ (four l b ++ r)) (drop_all 4 (drop 4 (drop 0 to)) (simp length-drop (omega (arith, e))))
 
-  byte : (j : ℕ) → get_or from (s + j) 0 ≡ get_or (drop s from) j 0
-  byte j = sym (get_or-drop s from j 0)
+pub eight-stored : (turned : Bool) (l to first second : List ℕ) → length l ≡ 8 → length to ≡ 8 → first ≡ cond turned (four l 4) (four l 0)
+    → second ≡ cond turned (four l 0) (four l 4) → put_mid 4 4 (first ++ post_of 0 4 to) second ≡ cond turned (drop 4 l ++ take 4 l) l
+eight-stored true l to first second e h p q = rw (p, q) (four-stored l to 4 0 h ∙ (halves l e).1)
+eight-stored false l to first second e h p q = rw (p, q) (four-stored l to 0 4 h ∙ (halves l e).0)
 
-  pub exchanged-eight : (to : List ℕ) → d + 8 ≤ length to → stored to eight ≡ exchanged s d 8 from to
-  unfolding turned
-  exchanged-eight to h =
-      let first : get_or from s 0 ≡ get_or from (s + 0) 0 = ap (λ (j : ℕ). get_or from j 0) (omega arith) in
-      part-eight false true 0 d (drop s from) to (λ i l. omega arith)
-      (omega arith) (byte 4) refl (byte 5) refl (byte 6) refl (byte 7) refl (first ∙ byte 0) refl (byte 1) refl (byte 2) refl (byte 3)
+-- eight bytes of a list whose halves exchange places
+pub exchanged-eight : (s d : ℕ) (from to : List ℕ) → s + 8 ≤ length from → d + 8 ≤ length to → {xs : List ℕ}
+    → xs ≡ drop 4 (take 8 (drop s from)) ++ take 4 (take 8 (drop s from)) → put_mid d 8 to xs ≡ exchanged s d 8 from to
+unfolding turned
+exchanged-eight s d from to h k {xs} e =
+    let g : List ℕ = take 8 (drop s from) in
+    let long : length g ≡ 8 = length-take-le 8 (drop s from) (simp length-drop (omega arith)) in
+    let high : length (drop 4 g) ≡ 4 = length-drop 4 g ∙ (omega (arith, long)) in
+    let low : length (take 4 g) ≡ 4 = length-take-le 4 g (omega (arith, long)) in
+    let all : length xs ≡ 8 = ap length e ∙ length-append (drop 4 g) (take 4 g) ∙ omega (arith, high, low) in
+    placed d 8 to xs k all true 0 (drop s from)
+    (λ j l. ap (λ (x : List ℕ). get_or x j 0) e
+    ∙ split 4 j
+    (λ x. get_or-append_right (drop 4 g) (take 4 g) 4 j 0 high x
+    ∙ get_or-take 4 g (j - 4) 0 (omega arith)
+    ∙ get_or-take 8 (drop s from) (j - 4) 0 (omega arith)
+    ∙ ap (λ (i : ℕ). get_or (drop s from) i 0) (omega arith))
+    (λ x. get_or_append_left (drop 4 g) (take 4 g) 0 j (omega (arith, high))
+    ∙ get_or-drop 4 g j 0
+    ∙ get_or-take 8 (drop s from) (4 + j) 0 (omega arith)
+    ∙ ap (λ (i : ℕ). get_or (drop s from) i 0) (omega arith)))
 
 module _ (s d n : ℕ) (from to : List ℕ) where
   -- out of texture memory: they are a part of an odd row that is taken from a multiple of 8 on
@@ -90,68 +114,59 @@ module _ (s d n : ℕ) (from to : List ℕ) where
         overlay-same (λ i. within (d + 0) (d + n) i) (λ i. within (d + 0) (d + n) (turned i))
         (λ i. get_or (drop s from) (turned (0 + (i - d))) 0) (λ i. get_or from (s + (turned i - d)) 0) to picks value
 
--- ---- in a loop: bytes a up to k are exchanged, in groups
+-- eight bytes that go to a multiple of 8 of texture memory
+pub eight-moved : (turned : Bool) (s d : ℕ) (from to : List ℕ) → s + 8 ≤ length from → d + 8 ≤ length to → d % 8 ≡ 0 → {xs : List ℕ}
+    → (let g = take (s + 8 - s) (drop s from) in xs ≡ cond turned (drop 4 g ++ take 4 g) g) → put_mid d (d + 8 - d) to xs ≡ part turned false s d 0 8 from to
+eight-moved true s d from to h k whole {xs} e =
+    let read : s + 8 - s ≡ 8 = omega arith in
+    let wrote : d + 8 - d ≡ 8 = omega arith in
+    rw wrote (exchanged-eight s d from to h k (rw read at e) ∙ exchanged-to s d 8 from to refl (λ _. whole))
+eight-moved false s d from to h k whole e = copied-as s d 8 from to h k e
 
-pub record Exchanged (s d a k : ℕ) (from before after : List ℕ) : Type 0 where
-  pub start : a ≤ k
-  pub whole : (k - a) % 8 ≡ 0
-  pub taken : Taken false true 0 (d + a) 0 (k - a) (drop (s + a) from) before after
+-- ---- in a loop: i eights are exchanged, and then one more
 
-pub exchanged-none : {s d a : ℕ} {from before : List ℕ} → Exchanged s d a a from before before
-exchanged-none {s} {d} {a} {from} {before} =
-    let none : 0 ≡ a - a = omega arith in
-    record {
-      start = omega arith;
-      whole = omega arith;
-      taken = subst (λ (n : ℕ). Taken false true 0 (d + a) 0 n (drop (s + a) from) before before) none taken_none;
-    }
-
--- eight bytes more
-pub exchanged-more : {s d a k : ℕ} {from before after : List ℕ} → Exchanged s d a k from before after → {then : List ℕ}
-    → then ≡ exchanged (s + k) (d + k) 8 from after → Exchanged s d a (k + 8) from before then
-exchanged-more {s} {d} {a} {k} {from} {before} {after} x {then} e =
-    record {
-      start = omega (arith, x.start);
-      whole = omega (arith, x.start, x.whole);
-      taken =
-          let n : ℕ = k - a in
-          let h = x.start in
-          let is-s : s + k ≡ s + a + n = omega arith in
-          let is-d : d + k ≡ d + a + n = omega arith in
-          let is-n : n + 8 ≡ k + 8 - a = omega arith in
-          let zero : n ≡ 0 + n = omega arith in
-          subst (λ (m : ℕ). Taken false true 0 (d + a) 0 m (drop (s + a) from) before then) is-n
-          (taken-part x.taken (omega arith) 8
-          (e
-          ∙ ap (λ (l : List ℕ). part false true 0 (d + k) 0 8 l after) (ap (λ (i : ℕ). drop i from) is-s ∙ sym (drop-drop n (s + a) from))
-          ∙ exchanged-from n (d + k) 8 (drop (s + a) from) after (λ _. x.whole)
-          ∙ ap (λ (i : ℕ). part false true n i 0 8 (drop (s + a) from) after) is-d
-          ∙ ap (λ (i : ℕ). part false true i (d + a + n) 0 8 (drop (s + a) from) after) zero));
-    }
+pub exchanged-more : (s d i : ℕ) (from : List ℕ) {before after : List ℕ} → Taken false true 0 d 0 (8 * i) (drop s from) before after
+    → s + 8 * (i + 1) ≤ length from → d + 8 * (i + 1) ≤ length before → {xs : List ℕ}
+    → (let g = take (s + 8 * i + 8 - (s + 8 * i)) (drop (s + 8 * i) from) in xs ≡ drop 4 g ++ take 4 g)
+    → Taken false true 0 d 0 (8 * (i + 1)) (drop s from) before (put_mid (d + 8 * i) (d + 8 * i + 8 - (d + 8 * i)) after xs)
+exchanged-more s d i from {before} {after} t h k {xs} e =
+    let m : ℕ = 8 * i in
+    let count : m + 8 ≡ 8 * (i + 1) = omega arith in
+    let read : s + m + 8 - (s + m) ≡ 8 = omega arith in
+    let wrote : d + m + 8 - (d + m) ≡ 8 = omega arith in
+    let zero : m ≡ 0 + m = omega arith in
+    subst (λ (n : ℕ). Taken false true 0 d 0 n (drop s from) before (put_mid (d + m) (d + m + 8 - (d + m)) after xs)) count
+    (taken-part t (omega arith) 8
+    (ap (λ (n : ℕ). put_mid (d + m) n after xs) wrote
+    ∙ exchanged-eight m (d + m) (drop s from) after (simp length-drop (omega arith)) (omega (arith, t.long))
+    (e ∙ ap (λ (g : List ℕ). drop 4 g ++ take 4 g)
+    (ap (λ (n : ℕ). take n (drop (s + m) from)) read ∙ ap (take 8) (sym (drop-drop m s from))))
+    ∙ exchanged-from m (d + m) 8 (drop s from) after (λ _. omega arith)
+    ∙ ap (λ (j : ℕ). part false true j (d + m) 0 8 (drop s from) after) zero))
 
 -- ---- an odd row in three parts, the middle one in groups
 
 module _ (turn_to turn_from : Bool) (s d : ℕ) (from before : List ℕ) where
-  three : {first n r : ℕ} {one two end : List ℕ} → one ≡ part turn_to turn_from s d 0 first from before → first ≤ r → r ≤ n
-      → two ≡ part turn_to turn_from (s + first) (d + first) 0 (r - first) from one → end ≡ part turn_to turn_from s d r n from two
+  three : (first n m : ℕ) {one two end : List ℕ} → first + m ≤ n → one ≡ part turn_to turn_from s d 0 first from before
+      → two ≡ part turn_to turn_from (s + first) (d + first) 0 m from one → end ≡ part turn_to turn_from s d (first + m) n from two
       → end ≡ part turn_to turn_from s d 0 n from before
-  three {first} {n} {r} {one} a h k b c =
-      let is : first + (r - first) ≡ r = omega arith in
+  three first n m {one} fits a b c =
       c
-      ∙ ap (part turn_to turn_from s d r n from)
+      ∙ ap (part turn_to turn_from s d (first + m) n from)
       (b
-      ∙ part-from turn_to turn_from s d first (r - first) from one
-      ∙ ap (λ (i : ℕ). part turn_to turn_from s d first i from one) is
-      ∙ ap (part turn_to turn_from s d first r from) a
-      ∙ part-joined turn_to turn_from s d from before 0 first r (omega arith) h)
-      ∙ part-joined turn_to turn_from s d from before 0 r n (omega arith) k
+      ∙ part-from turn_to turn_from s d first m from one
+      ∙ ap (part turn_to turn_from s d first (first + m) from) a
+      ∙ part-joined turn_to turn_from s d from before 0 first (first + m) (omega arith) (omega arith))
+      ∙ part-joined turn_to turn_from s d from before 0 (first + m) n (omega arith) fits
 
-pub odd-three : (into : Bool) {s d first n r : ℕ} {from : List ℕ} (before : List ℕ) {one two end : List ℕ} → (first < n → (cond into d s + first) % 8 ≡ 0)
-    → one ≡ part into (not into) s d 0 first from before → GroupsAre s d first n from one two r → end ≡ part into (not into) s d r n from two
+-- the first bytes and the last ones one by one, `groups` eights between them exchanged
+pub odd-three : (into : Bool) (s d first n groups : ℕ) (from before : List ℕ) {one two end : List ℕ} → first + 8 * groups ≤ n
+    → (first < n → (cond into d s + first) % 8 ≡ 0) → one ≡ part into (not into) s d 0 first from before
+    → two ≡ exchanged (s + first) (d + first) (8 * groups) from one → end ≡ part into (not into) s d (first + 8 * groups) n from two
     → end ≡ part into (not into) s d 0 n from before
-odd-three true {s} {d} {first} {n} {r} {from} before {one} whole a g c =
-    three true false s d from before a g.start g.end
-    (g.taken ∙ exchanged-to (s + first) (d + first) (r - first) from one g.whole (λ h. whole (omega (arith, g.end)))) c
-odd-three false {s} {d} {first} {n} {r} {from} before {one} whole a g c =
-    three false true s d from before a g.start g.end
-    (g.taken ∙ exchanged-from (s + first) (d + first) (r - first) from one (λ h. whole (omega (arith, g.end)))) c
+odd-three true s d first n groups from before {one} fits whole a b c =
+    three true false s d from before first n (8 * groups) fits a
+    (b ∙ exchanged-to (s + first) (d + first) (8 * groups) from one (omega arith) (λ h. whole (omega arith))) c
+odd-three false s d first n groups from before {one} fits whole a b c =
+    three false true s d from before first n (8 * groups) fits a
+    (b ∙ exchanged-from (s + first) (d + first) (8 * groups) from one (λ h. whole (omega arith))) c

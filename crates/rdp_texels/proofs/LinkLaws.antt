@@ -19,7 +19,7 @@ use Rattle.rdp_command.specs.declared.CopyFields.{CopyFields}
 use Rattle.rdp_texels.specs.Texels.{Move, ahead_of, some, moves_over, texel_address}
 use Rattle.rdp_texels.specs.Load.{load_move, load_moves}
 use Rattle.rdp_texels.specs.Copy.{copy_move, copy_moves}
-use Rattle.rdp_texels.specs.Rows.{grid_move, row_moves, kept_moves, load_grid, load_span, copy_grid, copy_span, bottom_from, rows_up, EvenGrid}
+use Rattle.rdp_texels.specs.Rows.{keeps, grid_move, row_moves, kept_moves, load_grid, load_span, copy_grid, copy_span, bottom_from, rows_up, EvenGrid}
 use Rattle.rdp_texels.proofs.SpanLaws.{over_none, over-cong, over-trim, some-nothing, some-single, some-over}
 use Rattle.rdp_texels.proofs.CornerLaws.{Ends}
 
@@ -41,40 +41,37 @@ eight-times l y = sym (mul_assoc 8 l y) ∙ mul_comm (8 * l) y
 
 -- ---- a load
 
-module _ (l : LoadFields) where
-  load-move : (y x : ℕ) → load_move l y x ≡ grid_move (load_grid l) y x
-  unfolding load_grid
+module _ (start : ℕ) (l : LoadFields) where
+  load-move : (y x : ℕ) → load_move l y x ≡ grid_move (load_grid start l) y x
   load-move y x =
       let rows = eight-times l.tile.line y in
       let none : l.tile.line * 0 ≡ 0 = mul-zero l.tile.line in
       let turn : y + l.area.upper_left.t / 4 ≡ y + (0 + l.area.upper_left.t / 4) = omega arith in
       same_move (address_is l.image.address l.image.width x y) (omega arith) refl (ap (λ (n : ℕ). eqb (n % 2) 1) turn)
 
-  pub load_moves_lem : load_moves l ≡ kept_moves (λ _. true) (load_grid l) (load_span l) (load_span l).top
-  unfolding load_moves load_span row_moves
+  pub load_moves_lem : load_moves l ≡ kept_moves (keeps (load_span l)) (load_grid start l) (load_span l) (load_span l).top
+  unfolding load_moves row_moves line_kept
   load_moves_lem =
       let q = load_span l in
       rw (add-one (l.area.lower_right.t / 4), add-one (l.area.lower_right.s / 4))
       (over-cong _ _ q.top (suc (l.area.lower_right.t / 4) - q.top)
-      (λ y _ _. over-cong (λ x. load_move l y x ∷ []) (λ x. grid_move (load_grid l) y x ∷ []) q.left (suc (l.area.lower_right.s / 4) - q.left)
+      (λ y _ _. over-cong (λ x. load_move l y x ∷ []) (λ x. grid_move (load_grid start l) y x ∷ []) q.left (suc (l.area.lower_right.s / 4) - q.left)
       (λ x _ _. ap (λ (m : Move). m ∷ []) (load-move y x))))
 
-  pub load-ends : Ends (λ _. true) (load_span l)
+  pub load-ends : Ends (keeps (load_span l)) (load_span l)
+  unfolding line_kept
   load-ends = record { first = λ _. refl; last = λ _. refl }
 
-  pub load-even : EvenGrid (load_grid l)
-  unfolding load_grid
+  pub load-even : EvenGrid (load_grid start l)
   load-even = record { ahead = omega arith; line = omega arith; behind = omega arith }
 
 -- ---- rows that the scissor keeps
 
 module _ (s : Scissor) (y : ℕ) where
   bottom-near : (bottom_from s.«field» s.odd y ≤ y) × (y ≤ bottom_from s.«field» s.odd y + 1)
-  unfolding bottom_from
   bottom-near = by-test (row_kept s (y - 1)) (λ e. rw e (omega arith, omega arith)) (λ e. rw e (omega arith, omega arith))
 
   bottom-kept : 0 < bottom_from s.«field» s.odd y → row_kept s (bottom_from s.«field» s.odd y - 1) ≡ true
-  unfolding bottom_from
   bottom-kept =
       by-test (row_kept s (y - 1)) (λ e. rw e (λ h. e))
       (λ e. rw e (λ h.
@@ -83,7 +80,6 @@ module _ (s : Scissor) (y : ℕ) where
       absurd (false≢true (sym e ∙ rw before at (row-kept-next s (y - 1 - 1) k))))))
 
   bottom-greatest : (k : ℕ) → k < y → row_kept s k ≡ true → k < bottom_from s.«field» s.odd y
-  unfolding bottom_from
   bottom-greatest k h kept-k =
       by-test (row_kept s (y - 1)) (λ e. rw e h)
       (λ e. rw e
@@ -91,22 +87,11 @@ module _ (s : Scissor) (y : ℕ) where
       omega (arith, apart)))
 
 pub bottom-zero : (b o : Bool) → 0 ≡ bottom_from b o 0
-unfolding bottom_from
 bottom-zero b o = by-test (line_kept b o (0 - 1)) (λ e. rw e) (λ e. rw e)
 
 -- ---- a copy rectangle
 
 module _ (c : CopyFields) where
-  copy-move : (y x : ℕ) → copy_move c y x ≡ grid_move (copy_grid c) y x
-  unfolding copy_grid
-  copy-move y x =
-      let line : ℕ = c.tile.line in
-      let down : ℕ = ahead_of c.rectangle.step.t / 32 in
-      let rows = eight-times line y in
-      let sum : line * (down + y) ≡ line * down + line * y = mul-add line down y in
-      let turn : down + y + rows_up c ≡ y + (down + rows_up c) = omega arith in
-      same_move (address_is c.image.address c.image.width x y) (omega arith) refl (ap (λ (n : ℕ). eqb (n % 2) 1) turn)
-
   abbrev left : ℕ
   left = c.rectangle.upper_left.x / 4
 
@@ -139,51 +124,8 @@ module _ (c : CopyFields) where
       (λ e. let k = kept-is c.scissor x y e in absurd (out (omega (arith, k.down)) (omega (arith, k.down)) k.row))
       (λ e. rw e))
 
-  -- a row of which some may be
-  row-full : (y : ℕ) → first_row ≤ y → y < end_row → row_kept c.scissor y ≡ true → row y ≡ row_moves (copy_grid c) (copy_span c) y
-  unfolding row_moves copy_span
-  row-full y t b e =
-      let q = copy_span c in
-      over-trim (pixel y) left (suc right - left) q.left q.right
-      (λ x l r out. by-test (kept c.scissor x y)
-      (λ h. let k = kept-is c.scissor x y h in absurd (out (omega (arith, k.across)) (omega (arith, k.across))))
-      (λ h. rw h))
-      (λ h. (omega arith, omega arith))
-      ∙ over-cong (pixel y) (λ x. grid_move (copy_grid c) y x ∷ []) q.left (q.right - q.left)
-      (λ x l r.
-      rw (kept-true c.scissor x y (record { across = (omega arith, omega arith); down = (omega arith, omega arith); row = e }))
-      (ap (λ (m : Move). m ∷ []) (copy-move y x)))
-
-  row_is : (y : ℕ) → (copy_span c).top ≤ y → y < (copy_span c).bottom
-      → row y ≡ cond (row_kept c.scissor y) (row_moves (copy_grid c) (copy_span c) y) []
-  unfolding copy_span
-  row_is y t b =
-      let near = from-near c.scissor first_row in
-      let near' = bottom-near c.scissor end_row in
-      by-test (row_kept c.scissor y)
-      (λ e. rw e (row-full y (omega arith) (omega arith) e))
-      (λ e. rw e (row-none y (omega arith) (omega arith) (λ _ _ k. false≢true (sym e ∙ k))))
-
-  pub copy_moves_lem : copy_moves c ≡ kept_moves (row_kept c.scissor) (copy_grid c) (copy_span c) (copy_span c).top
-  unfolding copy_moves copy_span
-  copy_moves_lem =
-      let q = copy_span c in
-      let near = from-near c.scissor first_row in
-      let near' = bottom-near c.scissor end_row in
-      over-trim row top (suc bottom - top) q.top q.bottom
-      (λ y t b out. row-none y t (omega arith)
-      (λ h h' k. out (from-least c.scissor first_row y h k) (bottom-greatest c.scissor end_row y h' k)))
-      (λ h. (omega arith, omega arith))
-      ∙ over-cong row (λ y. cond (row_kept c.scissor y) (row_moves (copy_grid c) q y) []) q.top (q.bottom - q.top)
-      (λ y t b. row_is y t (omega arith))
-
-  pub copy-ends : Ends (row_kept c.scissor) (copy_span c)
-  unfolding copy_span
+  pub copy-ends : Ends (keeps (copy_span c)) (copy_span c)
   copy-ends = record { first = λ _. from-kept c.scissor first_row; last = λ h. bottom-kept c.scissor end_row (omega arith) }
-
-  pub copy-even : EvenGrid (copy_grid c)
-  unfolding copy_grid
-  copy-even = record { ahead = omega arith; line = omega arith; behind = omega arith }
 
   -- a test of the kept pixels' moves
   pub some-copied :
@@ -197,3 +139,53 @@ module _ (c : CopyFields) where
     where
       some-pixel : (y x : ℕ) → some test (pixel y x) ≡ (kept c.scissor x y && test (copy_move c y x))
       some-pixel y x = by-test (kept c.scissor x y) (λ e. rw e (some-single test (copy_move c y x))) (λ e. rw e (some-nothing test))
+
+  module _ (start : ℕ) where
+    copy-move : (y x : ℕ) → copy_move c y x ≡ grid_move (copy_grid start c) y x
+    copy-move y x =
+        let line : ℕ = c.tile.line in
+        let down : ℕ = ahead_of c.rectangle.step.t / 32 in
+        let rows = eight-times line y in
+        let sum : line * (down + y) ≡ line * down + line * y = mul-add line down y in
+        let turn : down + y + rows_up c ≡ y + (down + rows_up c) = omega arith in
+        same_move (address_is c.image.address c.image.width x y) (omega arith) refl (ap (λ (n : ℕ). eqb (n % 2) 1) turn)
+
+    -- a row of which some may be
+    row-full : (y : ℕ) → first_row ≤ y → y < end_row → row_kept c.scissor y ≡ true → row y ≡ row_moves (copy_grid start c) (copy_span c) y
+    unfolding row_moves
+    row-full y t b e =
+        let q = copy_span c in
+        over-trim (pixel y) left (suc right - left) q.left q.right
+        (λ x l r out. by-test (kept c.scissor x y)
+        (λ h. let k = kept-is c.scissor x y h in absurd (out (omega (arith, k.across)) (omega (arith, k.across))))
+        (λ h. rw h))
+        (λ h. (omega arith, omega arith))
+        ∙ over-cong (pixel y) (λ x. grid_move (copy_grid start c) y x ∷ []) q.left (q.right - q.left)
+        (λ x l r.
+        rw (kept-true c.scissor x y (record { across = (omega arith, omega arith); down = (omega arith, omega arith); row = e }))
+        (ap (λ (m : Move). m ∷ []) (copy-move y x)))
+
+    row_is : (y : ℕ) → (copy_span c).top ≤ y → y < (copy_span c).bottom
+        → row y ≡ cond (row_kept c.scissor y) (row_moves (copy_grid start c) (copy_span c) y) []
+    row_is y t b =
+        let near = from-near c.scissor first_row in
+        let near' = bottom-near c.scissor end_row in
+        by-test (row_kept c.scissor y)
+        (λ e. rw e (row-full y (omega arith) (omega arith) e))
+        (λ e. rw e (row-none y (omega arith) (omega arith) (λ _ _ k. false≢true (sym e ∙ k))))
+
+    pub copy_moves_lem : copy_moves c ≡ kept_moves (keeps (copy_span c)) (copy_grid start c) (copy_span c) (copy_span c).top
+    unfolding copy_moves
+    copy_moves_lem =
+        let q = copy_span c in
+        let near = from-near c.scissor first_row in
+        let near' = bottom-near c.scissor end_row in
+        over-trim row top (suc bottom - top) q.top q.bottom
+        (λ y t b out. row-none y t (omega arith)
+        (λ h h' k. out (from-least c.scissor first_row y h k) (bottom-greatest c.scissor end_row y h' k)))
+        (λ h. (omega arith, omega arith))
+        ∙ over-cong row (λ y. cond (row_kept c.scissor y) (row_moves (copy_grid start c) q y) []) q.top (q.bottom - q.top)
+        (λ y t b. row_is y t (omega arith))
+
+    pub copy-even : EvenGrid (copy_grid start c)
+    copy-even = record { ahead = omega arith; line = omega arith; behind = omega arith }

@@ -1,108 +1,74 @@
--- The loops over rows: what is still to come gives what was promised. Assumes nothing.
+-- The loop over rows: what is still to come gives what was promised. Assumes nothing.
 use mathlib.Core.Path.{◌≡◌, refl, sym, ap, ◌∙◌}
-use mathlib.Core.Bool.{Bool, false, cond}
+use mathlib.Core.Bool.{Bool, true, false, cond}
 use mathlib.Core.List.{List, [], ◌++◌}
-use Prim.Native.Nat.{ℕ, suc, ◌+◌, ◌-◌, ◌*◌, ◌≤◌, ◌<◌}
+use Prim.Native.Nat.{ℕ, suc, ◌+◌, ◌-◌, ◌≤◌, ◌<◌}
 use native.Mathlib.Numerals.{add-one}
 use native.Mathlib.Omega.{arith}
 use lib.ListN.{length}
-use Rattle.rdp_texels.specs.declared.Grid.{Grid}
-use Rattle.rdp_texels.specs.declared.Span.{Span}
-use Rattle.rdp_texels.specs.Texels.{Move, moves_over, loaded, copied}
-use Rattle.rdp_texels.specs.Run.{part}
-use Rattle.rdp_texels.specs.Rows.{grid_address, grid_ahead, grid_odd, row_moves, kept_moves, Ready}
-use Rattle.rdp_texels.proofs.RowLaws.{loaded-append, copied-append, copied-row, loaded-row}
+use Rattle.rdp_texels.specs.Texels.{Move, moves_over}
+use Rattle.rdp_texels.specs.Rows.{Grid, Span, keeps, moved, row_moves, kept_moves, span_some, Ready, RowStarts}
+use Rattle.rdp_texels.specs.Views.{RunFits, run_moved, row_run}
+use Rattle.rdp_texels.proofs.RowLaws.{moved-append, moved-none, copied-row, loaded-row}
+use Rattle.rdp_texels.proofs.CornerLaws.{grid-none}
 use Rattle.rdp_texels.proofs.GridLaws.{row_fits}
 
--- ---- a row
+module _ (g : Grid) (q : Span) where
+  -- no row or no column
+  pub none-moved : (into : Bool) (from to : List ℕ) → span_some q ≡ false → to ≡ moved into g.start from (kept_moves (keeps q) g q q.top) to
+  none-moved into from to e = rw (grid-none (keeps q) g q e) (moved-none into g.start from to)
 
-module _ {g : Grid} {q : Span} {start : ℕ} (texture memory : List ℕ) (r : Ready g q start (length memory)) (y : ℕ) (from : q.top ≤ y) (to : y < q.bottom)
-    {s d n : ℕ} {odd : Bool} (in-texture : s ≡ grid_ahead g y q.left - g.behind) (in_memory : d ≡ grid_address g y q.left - start)
-    (bytes : n ≡ 2 * (q.right - q.left)) (turn : odd ≡ grid_odd g y) where
-  pub copied-row-is : {after : List ℕ} → after ≡ part false odd s d 0 n texture memory → after ≡ copied start texture (row_moves g q y) memory
-  unfolding row_moves
-  copied-row-is e =
-      let f = row_fits r y from to in
-      e
-      ∙ rw (in-texture, in_memory, bytes, turn)
-      (sym (copied-row start g y q.left f.memory f.texture f.even texture memory (q.right - q.left) f.memory-end))
+  -- ---- a row
 
-  pub loaded-row-is : length texture ≡ 4096 → {after : List ℕ} → after ≡ part odd false d s 0 n memory texture
-      → after ≡ loaded start memory (row_moves g q y) texture
-  unfolding row_moves
-  loaded-row-is whole e =
-      let f = row_fits r y from to in
-      e
-      ∙ rw (in-texture, in_memory, bytes, turn)
-      (sym (loaded-row start g y q.left f.memory f.texture f.even texture memory whole (q.right - q.left) f.texture-end))
+  module _ (y : ℕ) (low : q.top ≤ y) (high : y < q.bottom) where
+    pub row-starts : (into : Bool) (from to : ℕ) → Ready into g q from to → RowStarts g q y
+    row-starts into from to r = let f = row_fits r y low high in record { columns = omega (arith, r.columns); memory = f.memory; texture = f.texture }
 
--- ---- rows
+    pub row-ready : (into : Bool) (from to : ℕ) → Ready into g q from to → RunFits into (row_run into g q y) from to
+    row-ready true from to r = let f = row_fits r y low high in record { size = r.size; source = f.memory-end; target = omega (arith, f.texture-end, r.size) }
+    row-ready false from to r = let f = row_fits r y low high in record { size = r.size; source = omega (arith, f.texture-end, r.size); target = f.memory-end }
 
-module _ (keeps : ℕ → Bool) (g : Grid) (q : Span) where
-  kept_step : (y : ℕ) → y < q.bottom → kept_moves keeps g q y ≡ cond (keeps y) (row_moves g q y) [] ++ kept_moves keeps g q (y + 1)
+    pub row-moved : (into : Bool) (from to : List ℕ) → Ready into g q (length from) (length to)
+        → run_moved into (row_run into g q y) from to ≡ moved into g.start from (row_moves g q y) to
+    unfolding row_moves
+    row-moved true from to r =
+        let f = row_fits r y low high in sym (loaded-row g.start g y q.left f.memory f.texture f.even to from r.size (q.right - q.left) f.texture-end)
+    row-moved false from to r =
+        let f = row_fits r y low high in sym (copied-row g.start g y q.left f.memory f.texture f.even from to (q.right - q.left) f.memory-end)
+
+  -- ---- rows
+
+  kept_step : (y : ℕ) → y < q.bottom → kept_moves (keeps q) g q y ≡ cond (keeps q y) (row_moves g q y) [] ++ kept_moves (keeps q) g q (y + 1)
   unfolding moves_over
   kept_step y h =
       let count : q.bottom - y ≡ suc (q.bottom - (y + 1)) = omega arith in
       rw (count, add-one y)
 
-  kept-end : (y : ℕ) → q.bottom ≤ y → kept_moves keeps g q y ≡ []
+  kept-end : (y : ℕ) → q.bottom ≤ y → kept_moves (keeps q) g q y ≡ []
   unfolding moves_over
   kept-end y h = let count : q.bottom - y ≡ 0 = omega arith in rw count
 
-pub record CopyDue (keeps : ℕ → Bool) (g : Grid) (q : Span) (start : ℕ) (texture before after : List ℕ) (y : ℕ) : Type 0 where
-  pub from : q.top ≤ y
-  pub to : y ≤ q.bottom
+pub record Due (into : Bool) (g : Grid) (q : Span) (from before after : List ℕ) (y : ℕ) : Type 0 where
   pub long : length after ≡ length before
-  pub is : copied start texture (kept_moves keeps g q y) after ≡ copied start texture (kept_moves keeps g q q.top) before
+  pub is : moved into g.start from (kept_moves (keeps q) g q y) after ≡ moved into g.start from (kept_moves (keeps q) g q q.top) before
 
-module _ {keeps : ℕ → Bool} {g : Grid} {q : Span} {start : ℕ} {texture before : List ℕ} where
-  pub copy-first : q.top < q.bottom → CopyDue keeps g q start texture before before q.top
-  copy-first h = record { from = omega arith; to = omega arith; long = refl; is = refl }
+module _ {into : Bool} {g : Grid} {q : Span} {from before : List ℕ} where
+  pub due-first : Due into g q from before before q.top
+  due-first = record { long = refl; is = refl }
 
-  pub copy-next : {after then : List ℕ} {y : ℕ} → CopyDue keeps g q start texture before after y → y < q.bottom → length then ≡ length after
-      → then ≡ copied start texture (cond (keeps y) (row_moves g q y) []) after → CopyDue keeps g q start texture before then (y + 1)
-  copy-next {after} {then} {y} d h long e =
+  pub due-next : {after then : List ℕ} {y : ℕ} → Due into g q from before after y → y < q.bottom → length then ≡ length after
+      → then ≡ moved into g.start from (cond (keeps q y) (row_moves g q y) []) after → Due into g q from before then (y + 1)
+  due-next {after} {then} {y} d h long e =
       record {
-        from = omega (arith, d.from);
-        to = omega arith;
         long = long ∙ d.long;
         is =
-            ap (copied start texture (kept_moves keeps g q (y + 1))) e
-            ∙ sym (copied-append start texture (cond (keeps y) (row_moves g q y) []) (kept_moves keeps g q (y + 1)) after)
-            ∙ ap (λ (ms : List Move). copied start texture ms after) (sym (kept_step keeps g q y h))
+            ap (moved into g.start from (kept_moves (keeps q) g q (y + 1))) e
+            ∙ sym (moved-append into g.start from (cond (keeps q y) (row_moves g q y) []) (kept_moves (keeps q) g q (y + 1)) after)
+            ∙ ap (λ (ms : List Move). moved into g.start from ms after) (sym (kept_step g q y h))
             ∙ d.is;
       }
 
-  pub copy_done : {after : List ℕ} {y : ℕ} → CopyDue keeps g q start texture before after y → q.bottom ≤ y
-      → after ≡ copied start texture (kept_moves keeps g q q.top) before
-  unfolding copied
-  copy_done {after} {y} d h = ap (λ (ms : List Move). copied start texture ms after) (sym (kept-end keeps g q y h)) ∙ d.is
-
-pub record LoadDue (keeps : ℕ → Bool) (g : Grid) (q : Span) (start : ℕ) (memory before after : List ℕ) (y : ℕ) : Type 0 where
-  pub from : q.top ≤ y
-  pub to : y ≤ q.bottom
-  pub long : length after ≡ length before
-  pub is : loaded start memory (kept_moves keeps g q y) after ≡ loaded start memory (kept_moves keeps g q q.top) before
-
-module _ {keeps : ℕ → Bool} {g : Grid} {q : Span} {start : ℕ} {memory before : List ℕ} where
-  pub load-first : q.top < q.bottom → LoadDue keeps g q start memory before before q.top
-  load-first h = record { from = omega arith; to = omega arith; long = refl; is = refl }
-
-  pub load-next : {after then : List ℕ} {y : ℕ} → LoadDue keeps g q start memory before after y → y < q.bottom → length then ≡ length after
-      → then ≡ loaded start memory (cond (keeps y) (row_moves g q y) []) after → LoadDue keeps g q start memory before then (y + 1)
-  load-next {after} {then} {y} d h long e =
-      record {
-        from = omega (arith, d.from);
-        to = omega arith;
-        long = long ∙ d.long;
-        is =
-            ap (loaded start memory (kept_moves keeps g q (y + 1))) e
-            ∙ sym (loaded-append start memory (cond (keeps y) (row_moves g q y) []) (kept_moves keeps g q (y + 1)) after)
-            ∙ ap (λ (ms : List Move). loaded start memory ms after) (sym (kept_step keeps g q y h))
-            ∙ d.is;
-      }
-
-  pub load-done : {after : List ℕ} {y : ℕ} → LoadDue keeps g q start memory before after y → q.bottom ≤ y
-      → after ≡ loaded start memory (kept_moves keeps g q q.top) before
-  unfolding loaded
-  load-done {after} {y} d h = ap (λ (ms : List Move). loaded start memory ms after) (sym (kept-end keeps g q y h)) ∙ d.is
+  pub due-done : {after : List ℕ} {y : ℕ} → Due into g q from before after y → q.bottom ≤ y
+      → after ≡ moved into g.start from (kept_moves (keeps q) g q q.top) before
+  due-done {after} {y} d h =
+      moved-none into g.start from after ∙ ap (λ (ms : List Move). moved into g.start from ms after) (sym (kept-end g q y h)) ∙ d.is

@@ -1,16 +1,18 @@
 -- Parts of a row: one byte more, two parts that meet. Assumes nothing.
 use mathlib.Core.Path.{◌≡◌, refl, sym, ap, ◌∙◌}
-use mathlib.Core.Bool.{Bool, true, cond, ◌||◌}
-use mathlib.Core.List.{List}
+use mathlib.Core.Bool.{Bool, true, false, cond, ◌||◌}
+use mathlib.Core.List.{List, ◌++◌}
 use Prim.Native.Nat.{ℕ, ◌+◌, ◌-◌, ◌≤◌, ◌<◌}
 use native.Mathlib.Omega.{arith}
 use borrow.Author.Tests.{eqb-true, eqb-false}
 use lib.Dec.{eqb}
-use lib.ListN.{length, get_or, set, length-set}
-use lib.Seq.{get_or-set_same, get_or-set_other}
+use lib.ListN.{length, get_or, take, drop, set, length-set, length-append, length-drop}
+use lib.Seq.{get_or-set_same, get_or-set_other, length-take-le}
+use borrow.Rule.Slice.PartMut.{put_mid}
+use Rattle.std.proofs.lemmas.List.{get_or-append_right, get_or_append_left, get_or-take, get_or-drop}
 use Rattle.rdp_words.proofs.Tests.{by-test}
 use Rattle.rdp_pixels.specs.Overlay.{overlay, within}
-use Rattle.rdp_pixels.proofs.OverlayLaws.{within-true, within-is, within-false, within_same, within-joined, length-overlay, get_d-overlay-0, overlay-is-0, overlay-none, overlay-overlay, overlay-cong}
+use Rattle.rdp_pixels.proofs.OverlayLaws.{within-true, within-is, within-false, within_same, split, within-joined, length-overlay, get_d-overlay-0, overlay-is-0, overlay-none, overlay-overlay, overlay-cong}
 use Rattle.rdp_texels.specs.Texels.{in_row}
 use Rattle.rdp_texels.specs.Run.{part}
 use Rattle.rdp_texels.proofs.TurnLaws.{row-twice}
@@ -96,29 +98,61 @@ part-from turn_to turn_from s d k n from to =
     let same : s + k + (in_row turn_to i - (d + k)) ≡ s + (in_row turn_to i - d) = omega arith in
     same))
 
--- eight bytes stored one after the other
-module _ (turn_to turn_from : Bool) (s d : ℕ) (from to : List ℕ) (inside : (i : ℕ) → i < 8 → in_row turn_to (d + i) < length to) where
-  more : (k : ℕ) → k < 8 → {p v : ℕ} {l : List ℕ} → l ≡ part turn_to turn_from s d 0 k from to → p ≡ in_row turn_to (d + k)
-      → v ≡ get_or from (in_row turn_from (s + k)) 0 → set l p v ≡ part turn_to turn_from s d 0 (k + 1) from to
-  more k h e at value =
-      rw (e, at, value) (part-more turn_to turn_from s d from to 0 k (omega arith) (inside k h))
+-- n bytes that are put in the place of those from d on
+module _ (d n : ℕ) (to xs : List ℕ) (inside : d + n ≤ length to) (long : length xs ≡ n) where
+  abbrev put : List ℕ
+  put = take d to ++ (xs ++ drop n (drop d to))
 
-  pub part-eight : {p0 p1 p2 p3 p4 p5 p6 p7 v0 v1 v2 v3 v4 v5 v6 v7 : ℕ}
-      → p0 ≡ in_row turn_to (d + 0) → v0 ≡ get_or from (in_row turn_from (s + 0)) 0
-      → p1 ≡ in_row turn_to (d + 1) → v1 ≡ get_or from (in_row turn_from (s + 1)) 0
-      → p2 ≡ in_row turn_to (d + 2) → v2 ≡ get_or from (in_row turn_from (s + 2)) 0
-      → p3 ≡ in_row turn_to (d + 3) → v3 ≡ get_or from (in_row turn_from (s + 3)) 0
-      → p4 ≡ in_row turn_to (d + 4) → v4 ≡ get_or from (in_row turn_from (s + 4)) 0
-      → p5 ≡ in_row turn_to (d + 5) → v5 ≡ get_or from (in_row turn_from (s + 5)) 0
-      → p6 ≡ in_row turn_to (d + 6) → v6 ≡ get_or from (in_row turn_from (s + 6)) 0
-      → p7 ≡ in_row turn_to (d + 7) → v7 ≡ get_or from (in_row turn_from (s + 7)) 0
-      → set (set (set (set (set (set (set (set to p0 v0) p1 v1) p2 v2) p3 v3) p4 v4) p5 v5) p6 v6) p7 v7 ≡ part turn_to turn_from s d 0 8 from to
-  part-eight a0 b0 a1 b1 a2 b2 a3 b3 a4 b4 a5 b5 a6 b6 a7 b7 =
-      more 7 (omega arith) (more 6 (omega arith)
-      (more 5 (omega arith) (more 4 (omega arith)
-      (more 3 (omega arith) (more 2 (omega arith)
-      (more 1 (omega arith) (more 0 (omega arith)
-      (part_none turn_to turn_from s d from to 0 0 (omega arith)) a0 b0) a1 b1) a2 b2) a3 b3) a4 b4) a5 b5) a6 b6) a7 b7
+  before : length (take d to) ≡ d
+  before = length-take-le d to (omega arith)
+
+  length-put : length put ≡ length to
+  length-put = let rest : length (drop n (drop d to)) ≡ length to - d - n = simp length-drop in simp length-append (omega (arith, before, rest))
+
+  put-at : (i : ℕ) → get_or put i 0 ≡ cond (within (d + 0) (d + n) i) (get_or xs (i - d) 0) (get_or to i 0)
+  put-at i =
+      split d i
+      (λ from.
+      get_or-append_right (take d to) (xs ++ drop n (drop d to)) d i 0 before from
+      ∙ split (d + n) i
+      (λ past.
+      rw (within-false (d + 0) (d + n) i (λ _ y. omega arith))
+      (get_or-append_right xs (drop n (drop d to)) n (i - d) 0 long (omega arith)
+      ∙ get_or-drop n (drop d to) (i - d - n) 0
+      ∙ get_or-drop d to (n + (i - d - n)) 0
+      ∙ ap (λ (k : ℕ). get_or to k 0) (omega arith)))
+      (λ in'.
+      rw (within-true (d + 0) (d + n) i (omega arith) in')
+      (get_or_append_left xs (drop n (drop d to)) 0 (i - d) (omega arith))))
+      (λ before'.
+      rw (within-false (d + 0) (d + n) i (λ x _. omega arith))
+      (get_or_append_left (take d to) (xs ++ drop n (drop d to)) 0 i (omega (arith, before)) ∙ get_or-take d to i 0 before'))
+
+  pub placed : (turn_from : Bool) (s : ℕ) (from : List ℕ) → ((j : ℕ) → j < n → get_or xs j 0 ≡ get_or from (in_row turn_from (s + j)) 0)
+      → put ≡ part false turn_from s d 0 n from to
+  unfolding part
+  placed turn_from s from e =
+      overlay-is-0 (λ i. within (d + 0) (d + n) i) (λ i. get_or from (in_row turn_from (s + (i - d))) 0) to put length-put
+      (λ i l. put-at i
+      ∙ by-test (within (d + 0) (d + n) i)
+      (λ h. let w = within-is (d + 0) (d + n) i h in rw h (e (i - d) (omega arith)))
+      (λ h. rw h))
+
+-- a run of an even row is copied as it stands
+module _ (s d n : ℕ) (from to : List ℕ) (source : s + n ≤ length from) (target : d + n ≤ length to) {xs : List ℕ} (is : xs ≡ take (s + n - s) (drop s from)) where
+  pub copied-as : put_mid d (d + n - d) to xs ≡ part false false s d 0 n from to
+  copied-as =
+      let read : s + n - s ≡ n = omega arith in
+      let wrote : d + n - d ≡ n = omega arith in
+      let e : xs ≡ take n (drop s from) = is ∙ ap (λ (k : ℕ). take k (drop s from)) read in
+      rw wrote
+      (placed d n to xs target (ap length e ∙ length-take-le n (drop s from) (simp length-drop (omega arith))) false s from
+      (λ j h. ap (λ (x : List ℕ). get_or x j 0) e ∙ get_or-take n (drop s from) j 0 h ∙ get_or-drop s from j 0))
+
+  pub copied-even : (into odd : Bool) → odd ≡ false
+      → put_mid d (d + n - d) to xs ≡ part (cond into odd false) (cond into false odd) s d 0 n from to
+  copied-even true odd e = rw e copied-as
+  copied-even false odd e = rw e copied-as
 
 -- ---- in a loop: bytes a up to k are taken
 

@@ -1,15 +1,14 @@
 -- The moves of a row, folded in order, are one part of a row. Assumes nothing.
 use mathlib.Core.Path.{◌≡◌, refl, ap, ◌∙◌}
-use mathlib.Core.Bool.{Bool, false}
+use mathlib.Core.Bool.{Bool, true, false}
 use mathlib.Core.List.{List, [], ◌∷◌, ◌++◌}
 use Prim.Native.Nat.{ℕ, zero, suc, ◌+◌, ◌-◌, ◌*◌, ◌%◌, ◌≤◌, ◌<◌}
 use native.Mathlib.Nat.{add-zero}
 use native.Mathlib.Omega.{arith}
 use lib.ListN.{length, get_or, set}
-use Rattle.rdp_texels.specs.declared.Grid.{Grid}
 use Rattle.rdp_texels.specs.Texels.{Move, in_row, moves_over, load_one, loaded, copy_one, copied}
 use Rattle.rdp_texels.specs.Run.{part}
-use Rattle.rdp_texels.specs.Rows.{grid_address, grid_ahead, grid_odd, grid_move}
+use Rattle.rdp_texels.specs.Rows.{Grid, moved, grid_address, grid_ahead, grid_odd, grid_move}
 use Rattle.rdp_texels.proofs.TurnLaws.{row_next, row_below}
 use Rattle.rdp_texels.proofs.PartLaws.{part_none, part-more}
 
@@ -24,6 +23,16 @@ pub copied-append : (start : ℕ) (texture : List ℕ) (xs ys : List Move) (memo
 unfolding copied
 copied-append start texture [] ys memory = refl
 copied-append start texture (x ∷ xs) ys memory = copied-append start texture xs ys (copy_one start texture memory x)
+
+pub moved-append : (into : Bool) (start : ℕ) (from : List ℕ) (xs ys : List Move) (to : List ℕ)
+    → moved into start from (xs ++ ys) to ≡ moved into start from ys (moved into start from xs to)
+moved-append true = loaded-append
+moved-append false = copied-append
+
+pub moved-none : (into : Bool) (start : ℕ) (from to : List ℕ) → to ≡ moved into start from [] to
+unfolding loaded copied
+moved-none true start from to = refl
+moved-none false start from to = refl
 
 -- two bytes more
 module _ (turn_to turn_from : Bool) (s d : ℕ) (from to : List ℕ) where

@@ -1,9 +1,14 @@
 -- Bit 2 of a byte number turned over. Assumes nothing.
 use mathlib.Core.Path.{◌≡◌, refl}
-use mathlib.Core.Bool.{Bool, true, false, not}
+use mathlib.Core.Bool.{Bool, true, false, not, cond}
 use Prim.Native.Nat.{ℕ, ◌+◌, ◌*◌, ◌/◌, ◌%◌, ◌≤◌, ◌<◌}
 use native.Mathlib.Omega.{arith}
+use lib.Dec.{eqb}
 use Rattle.rdp_texels.specs.Texels.{turned, in_row}
+
+-- a const parameter that is a bool, by its bits
+abbrev pub flag : ℕ → Bool
+flag bits = not (eqb bits 0)
 
 pub turned-twice : (b : ℕ) → turned (turned b) ≡ b
 unfolding turned
@@ -66,10 +71,10 @@ module _ (d : ℕ) (whole : d % 8 ≡ 0) where
 turned-inside : (b n : ℕ) → n ≡ 4096 → b < n → turned b < n
 turned-inside b n e h = rw e (turned-below b 512 (rw e at h))
 
-pub inside-to : (into : Bool) (b n : ℕ) → (into ≡ true → n ≡ 4096) → b < n → in_row into b < n
-inside-to true b n e h = turned-inside b n (e refl) h
-inside-to false b n e h = h
+pub inside-to : (into : Bool) (b from to : ℕ) → cond into to from ≡ 4096 → b < to → in_row into b < to
+inside-to true b from to e h = turned-inside b to e h
+inside-to false b from to e h = h
 
-pub inside-from : (into : Bool) (b n : ℕ) → (into ≡ false → n ≡ 4096) → b < n → in_row (not into) b < n
-inside-from true b n e h = h
-inside-from false b n e h = turned-inside b n (e refl) h
+pub inside-from : (into : Bool) (b from to : ℕ) → cond into to from ≡ 4096 → b < from → in_row (not into) b < from
+inside-from true b from to e h = h
+inside-from false b from to e h = turned-inside b from e h

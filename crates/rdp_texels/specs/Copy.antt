@@ -15,7 +15,7 @@ abbrev pub whole_texels : ℤ → Bool
 whole_texels z = eqb (ahead_of z % 32) 0 && eqb (behind_of z % 32) 0
 
 -- "dsdx 0x1000, dtdy 0x0400, s and t .. in whole texels"
-unfoldable pub step_needs : TextureStep → Bool
+abbrev pub step_needs : TextureStep → Bool
 step_needs p = ((eqb (ahead_of p.dsdx) 0x1000 && eqb (ahead_of p.dtdy) 0x0400) && whole_texels p.s) && whole_texels p.t
 
 -- "the tile's upper left in whole texels"; it is held in quarters

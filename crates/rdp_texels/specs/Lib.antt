@@ -6,3 +6,4 @@ pub mod Run
 pub mod Written
 -- No public contract cites this.
 pub mod Rows
+pub mod Views

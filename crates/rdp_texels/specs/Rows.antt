@@ -3,11 +3,7 @@ use Rattle.std.specs.Prelude.{ℕ, ◌+◌, ◌-◌, ◌*◌, ◌/◌, ◌%◌, 
 use Rattle.rdp_pixels.specs.Kept.{line_kept, first_kept, end_kept, kept_from}
 use Rattle.rdp_command.specs.declared.LoadFields.{LoadFields}
 use Rattle.rdp_command.specs.declared.CopyFields.{CopyFields}
-use Rattle.rdp_texels.specs.declared.Grid.{Grid}
-use Rattle.rdp_texels.specs.declared.Span.{Span}
-use Rattle.rdp_texels.specs.declared.Step.{Step}
-use Rattle.rdp_command.specs.declared.TextureStep.{TextureStep}
-use Rattle.rdp_texels.specs.Texels.{Move, ahead_of, behind_of, moves_over}
+use Rattle.rdp_texels.specs.Texels.{Move, ahead_of, behind_of, moves_over, loaded, copied}
 use Rattle.rdp_texels.specs.Run.{part}
 
 -- ---- bytes in groups of eight
@@ -17,18 +13,35 @@ use Rattle.rdp_texels.specs.Run.{part}
 abbrev pub exchanged : ℕ → ℕ → ℕ → List ℕ → List ℕ → List ℕ
 exchanged s d n from to = part false true 0 d 0 n (drop s from) to
 
--- groups of bytes a up to b of a row are exchanged up to r
-pub record GroupsAre (s d a b : ℕ) (from before after : List ℕ) (r : ℕ) : Type 0 where
-  pub start : a ≤ r
-  pub end : r ≤ b
-  pub whole : (r - a) % 8 ≡ 0
-  pub taken : after ≡ exchanged (s + a) (d + a) (r - a) from before
+-- ---- moves into texture memory, or out of it
 
--- a row goes into texture memory, of 4,096 bytes, or comes out of it
-abbrev pub TurnsTexture : Bool → ℕ → ℕ → Type 0
-TurnsTexture into from to = (into ≡ true → to ≡ 4096) × (into ≡ false → from ≡ 4096)
+abbrev pub moved : Bool → ℕ → List ℕ → List Move → List ℕ → List ℕ
+moved true start from ms to = loaded start from ms to
+moved false start from ms to = copied start from ms to
 
 -- ---- a grid of texels: each column is 2 bytes on, each row `pitch` bytes of memory and `line` bytes of texture memory on
+
+-- memory address `address + y pitch + 2 x` in memory that starts at `start`, texture byte `ahead + y line + 2 x - behind`, turned where y + turn is odd
+pub record Grid : Type 0 where
+  pub address : ℕ
+  pub pitch : ℕ
+  pub start : ℕ
+  pub ahead : ℕ
+  pub line : ℕ
+  pub behind : ℕ
+  pub turn : ℕ
+
+-- columns from `left` up to `right`, and rows from `top` up to `bottom`, the ends not included; with `field` set, of these only the odd or the even ones
+pub record Span : Type 0 where
+  pub left : ℕ
+  pub right : ℕ
+  pub top : ℕ
+  pub bottom : ℕ
+  pub «field» : Bool
+  pub odd : Bool
+
+abbrev pub keeps : Span → ℕ → Bool
+keeps q y = line_kept q.«field» q.odd y
 
 abbrev pub grid_address : Grid → ℕ → ℕ → ℕ
 grid_address g y x = g.address + y * g.pitch + 2 * x
@@ -50,29 +63,32 @@ abbrev pub kept_moves : (ℕ → Bool) → Grid → Span → ℕ → List Move
 kept_moves keeps g q y = moves_over y (q.bottom - y) (λ y. cond (keeps y) (row_moves g q y) [])
 
 -- the grid of an image at an address, with a tile's texels from row `down` less `up` and column `right` less `left` on
-abbrev pub grid_of : ℕ → ℕ → ℕ → ℕ → ℕ → ℕ → ℕ → ℕ → Grid
-grid_of address width tmem line down right up left =
+abbrev pub grid_of : ℕ → ℕ → ℕ → ℕ → ℕ → ℕ → ℕ → ℕ → ℕ → Grid
+grid_of start address width tmem line down right up left =
     record {
       address = address;
       pitch = 2 * (width + 1);
+      start = start;
       ahead = 8 * tmem + (8 * (line * down) + 2 * right);
       line = 8 * line;
       behind = 8 * (line * up) + 2 * left;
       turn = down + up;
     }
 
-unfoldable pub load_grid : LoadFields → Grid
-load_grid l =
+abbrev pub load_grid : ℕ → LoadFields → Grid
+load_grid start l =
     let d = l.tile in
-    grid_of l.image.address l.image.width d.address d.line 0 0 (l.area.upper_left.t / 4) (l.area.upper_left.s / 4)
+    grid_of start l.image.address l.image.width d.address d.line 0 0 (l.area.upper_left.t / 4) (l.area.upper_left.s / 4)
 
-unfoldable pub load_span : LoadFields → Span
+abbrev pub load_span : LoadFields → Span
 load_span l =
     record {
       left = l.area.upper_left.s / 4;
       right = l.area.lower_right.s / 4 + 1;
       top = l.area.upper_left.t / 4;
       bottom = l.area.lower_right.t / 4 + 1;
+      «field» = false;
+      odd = false;
     }
 
 -- the rows and the columns that a copy rectangle's texel numbers begin below 0
@@ -82,17 +98,17 @@ rows_up c = behind_of c.rectangle.step.t / 32 + c.rectangle.upper_left.y / 4 + c
 abbrev pub columns_left : CopyFields → ℕ
 columns_left c = behind_of c.rectangle.step.s / 32 + c.rectangle.upper_left.x / 4 + c.tile_corner.s / 4
 
-unfoldable pub copy_grid : CopyFields → Grid
-copy_grid c =
+abbrev pub copy_grid : ℕ → CopyFields → Grid
+copy_grid start c =
     let d = c.tile in
-    grid_of c.image.address c.image.width d.address d.line
+    grid_of start c.image.address c.image.width d.address d.line
     (ahead_of c.rectangle.step.t / 32) (ahead_of c.rectangle.step.s / 32) (rows_up c) (columns_left c)
 
 -- the end of the rows before one that the scissor's field setting keeps
-unfoldable pub bottom_from : Bool → Bool → ℕ → ℕ
+abbrev pub bottom_from : Bool → Bool → ℕ → ℕ
 bottom_from «field» odd y = cond (line_kept «field» odd (y - 1)) y (y - 1)
 
-unfoldable pub copy_span : CopyFields → Span
+abbrev pub copy_span : CopyFields → Span
 copy_span c =
     let r = c.rectangle in
     let s = c.scissor in
@@ -101,6 +117,8 @@ copy_span c =
       right = end_kept r.lower_right.x s.lower_right.x;
       top = kept_from s.«field» s.odd (first_kept r.upper_left.y s.upper_left.y);
       bottom = bottom_from s.«field» s.odd (end_kept r.lower_right.y s.lower_right.y);
+      «field» = s.«field»;
+      odd = s.odd;
     }
 
 -- ---- refusals by the corners
@@ -113,25 +131,9 @@ abbrev pub lies : ℕ → ℕ → Span → ℕ → ℕ → Bool
 lies base stride q low size =
     leb low (base + q.top * stride + 2 * q.left) && leb (base + (q.bottom - 1) * stride + 2 * q.right) (low + size)
 
-unfoldable pub corners_refusal : Grid → Span → ℕ → ℕ → ℕ
-corners_refusal g q start len =
-    cond (span_some q) (cond (lies g.address g.pitch q start len) (cond (lies g.ahead g.line q g.behind 4096) 0 18) 12) 0
-
--- ---- bounds that keep every sum and product far from wrapping
-
-pub record SmallSpan (q : Span) : Type 0 where
-  pub left : q.left ≤ 16384
-  pub right : q.right ≤ 16384
-  pub top : q.top ≤ 16385
-  pub bottom : q.bottom ≤ 16384
-
-pub record SmallGrid (g : Grid) : Type 0 where
-  pub address : g.address ≤ 68719476736
-  pub pitch : g.pitch ≤ 131072
-  pub ahead : g.ahead ≤ 68719476736
-  pub line : g.line ≤ 524288
-  pub behind : g.behind ≤ 68719476736
-  pub turn : g.turn ≤ 65536
+abbrev pub corners_refusal : Grid → Span → ℕ → ℕ
+corners_refusal g q len =
+    cond (span_some q) (cond (lies g.address g.pitch q g.start len) (cond (lies g.ahead g.line q g.behind 4096) 0 18) 12) 0
 
 -- texels begin at even bytes
 pub record EvenGrid (g : Grid) : Type 0 where
@@ -139,32 +141,18 @@ pub record EvenGrid (g : Grid) : Type 0 where
   pub line : g.line % 2 ≡ 0
   pub behind : g.behind % 2 ≡ 0
 
--- ---- a rectangle's texture coordinates as natural numbers
-
-abbrev pub step_of : TextureStep → Step
-step_of p =
-    record {
-      right = ahead_of p.s;
-      left = behind_of p.s;
-      down = ahead_of p.t;
-      up = behind_of p.t;
-      dsdx = ahead_of p.dsdx;
-      dtdy = ahead_of p.dtdy;
-    }
-
-pub record SmallStep (p : Step) : Type 0 where
-  pub right : p.right ≤ 32768
-  pub left : p.left ≤ 32768
-  pub down : p.down ≤ 32768
-  pub up : p.up ≤ 32768
-
 -- ---- a grid of which every row fits
 
-pub record Ready (g : Grid) (q : Span) (start len : ℕ) : Type 0 where
+pub record Ready (into : Bool) (g : Grid) (q : Span) (from to : ℕ) : Type 0 where
+  pub size : cond into to from ≡ 4096
   pub columns : q.left < q.right
   pub rows : q.top < q.bottom
-  pub memory : lies g.address g.pitch q start len ≡ true
+  pub memory : lies g.address g.pitch q g.start (cond into from to) ≡ true
   pub texture : lies g.ahead g.line q g.behind 4096 ≡ true
-  pub grid : SmallGrid g
-  pub span : SmallSpan q
   pub even : EvenGrid g
+
+-- the first texel of a row is not before memory or texture memory
+pub record RowStarts (g : Grid) (q : Span) (y : ℕ) : Type 0 where
+  pub columns : q.left ≤ q.right
+  pub memory : g.start ≤ grid_address g y q.left
+  pub texture : g.behind ≤ grid_ahead g y q.left

@@ -1,8 +1,18 @@
-// A row of texels as bytes: an even row is copied as it stands, an odd one with the halves of each eight bytes of texture memory exchanged.
-ghost use Rattle.std.specs.Prelude.{false, not, cond, ◌≡◌, ◌+◌, ◌-◌, ◌%◌, ◌<◌, ◌≤◌, length};
+// A run of bytes: in an even row it is copied as it stands, in an odd one with the halves of each eight bytes of texture memory exchanged.
+ghost use Rattle.std.specs.Prelude.{false, not, cond, ◌≡◌, ◌+◌, ◌-◌, ◌*◌, ◌%◌, ◌<◌, ◌≤◌, ◌++◌, length, take, drop};
 ghost use Rattle.rdp_texels.specs.Run.{part};
-ghost use Rattle.rdp_texels.specs.Rows.{exchanged, GroupsAre, TurnsTexture};
+ghost use Rattle.rdp_texels.specs.Rows.{exchanged};
+ghost use Rattle.rdp_texels.specs.Views.{RunFits, run_moved};
 ghost use Rattle.rdp_texels.specs.Texels.{in_row};
+
+// A run of n bytes, from index s on to index d on, of a row of texture memory that may be odd. The functions below move it INTO texture memory, or out of it.
+#[derive(Clone, Copy)]
+pub struct Run {
+    pub s: usize,
+    pub d: usize,
+    pub n: usize,
+    pub odd: bool,
+}
 
 // A byte number, with its bit 2 turned over in an odd row of texture memory.
 fn turn(b: usize, odd: bool) -> usize
@@ -15,106 +25,67 @@ fn turn(b: usize, odd: bool) -> usize
     b
 }
 
-// Copies n bytes.
-pub fn copy_even(from: &[u8], s: usize, to: &mut [u8], d: usize, n: usize)
-    requires { (s + n ≤ length from.now) × (d + n ≤ length to.old) }
-    ensures { to.new ≡ part false false s d 0 n from.now to.old }
-{
-    let mut k: usize = 0;
-    while k < n {
-        to[d + k] = from[s + k];
-        k += 1;
-    }
-}
-
 // How many of the n bytes of a row stand before the first that starts eight bytes of texture memory; `at` is the first one's byte there.
 fn head(at: usize, n: usize) -> usize
     ensures { (result ≤ n) × ((result < n → (at + result) % 8 ≡ 0) × (result < 8)) }
 {
-    let short = (8 - at % 8) % 8;
-    if n < short { n } else { short }
+    n.min((8 - at % 8) % 8)
 }
 
-// Eight bytes whose halves exchange places. All are read before one is written, so that four of them move at a time.
-fn exchange_eight(from: &[u8], s: usize, to: &mut [u8], d: usize)
-    requires { (s + 8 ≤ length from.now) × (d + 8 ≤ length to.old) }
-    ensures { to.new ≡ exchanged s d 8 from.now to.old }
+// Eight bytes, whose halves exchange places where they are turned. All are read before one is written, so that more of them move at a time.
+pub fn move_eight(from: &[u8], to: &mut [u8], turned: bool)
+    requires { (length from.now ≡ 8) × (length to.old ≡ 8) }
+    ensures { to.new ≡ cond turned (drop 4 from.now ++ take 4 from.now) from.now }
 {
-    let a = from[s + 4];
-    let b = from[s + 5];
-    let c = from[s + 6];
-    let e = from[s + 7];
-    let f = from[s];
-    let g = from[s + 1];
-    let h = from[s + 2];
-    let i = from[s + 3];
-    to[d] = a;
-    to[d + 1] = b;
-    to[d + 2] = c;
-    to[d + 3] = e;
-    to[d + 4] = f;
-    to[d + 5] = g;
-    to[d + 6] = h;
-    to[d + 7] = i;
+    let low = [from[0], from[1], from[2], from[3]];
+    let high = [from[4], from[5], from[6], from[7]];
+    let first = if turned { high } else { low };
+    let second = if turned { low } else { high };
+    to[0..4].copy_from_slice(&first);
+    to[4..8].copy_from_slice(&second);
 }
 
-// Groups of eight bytes of a row from a on, as long as they end by b. It answers the byte reached.
-fn exchange_groups(from: &[u8], s: usize, to: &mut [u8], d: usize, a: usize, b: usize) -> usize
-    requires { (a ≤ b) × (s + b ≤ length from.now) × (d + b ≤ length to.old) }
-    ensures { GroupsAre s d a b from.now to.old to.new result }
+// Some eights of bytes, from index s on to index d on, whose halves exchange places.
+fn exchange_groups(from: &[u8], s: usize, to: &mut [u8], d: usize, groups: usize)
+    requires { (s + 8 * groups ≤ length from.now) × (d + 8 * groups ≤ length to.old) }
+    ensures { to.new ≡ exchanged s d (8 * groups) from.now to.old }
 {
-    let mut k = a;
-    while 8 <= b - k {
-        exchange_eight(from, s + k, to, d + k);
-        k += 8;
-    }
-    k
-}
-
-// Bytes a up to b of an odd row, one by one, into texture memory or out of it.
-fn move_turned(from: &[u8], s: usize, to: &mut [u8], d: usize, a: usize, b: usize, into: bool)
-    requires { (a ≤ b) × (s + b ≤ length from.now) × (d + b ≤ length to.old) × TurnsTexture into (length from.now) (length to.old) }
-    ensures { to.new ≡ part into (not into) s d a b from.now to.old }
-{
-    let mut k = a;
-    while k < b {
-        let at = turn(d + k, into);
-        to[at] = from[turn(s + k, !into)];
-        k += 1;
+    for i in 0..groups {
+        let k = 8 * i;
+        move_eight(&from[s + k..s + k + 8], &mut to[d + k..d + k + 8], true);
     }
 }
 
-// An odd row of n bytes, into texture memory or out of it. The first ones, up to where eight bytes of texture memory start, and the last ones go one by one.
-fn move_odd(from: &[u8], s: usize, to: &mut [u8], d: usize, first: usize, n: usize, into: bool)
-    requires first_le_n { (first ≤ n) × (first < n → (cond into d s + first) % 8 ≡ 0) }
-    requires n_in_bounds { (s + n ≤ length from.now) × (d + n ≤ length to.old) × TurnsTexture into (length from.now) (length to.old) }
-    ensures { to.new ≡ part into (not into) s d 0 n from.now to.old }
+// Bytes a up to b of an odd run, one by one.
+fn move_turned<const INTO: bool>(from: &[u8], to: &mut [u8], run: Run, a: usize, b: usize)
+    requires { RunFits INTO run (length from.now) (length to.old) × (a ≤ b) × (b ≤ run.n) }
+    ensures { to.new ≡ part INTO (not INTO) run.s run.d a b from.now to.old }
 {
-    move_turned(from, s, to, d, 0, first, into);
-    let last = exchange_groups(from, s, to, d, first, n);
-    move_turned(from, s, to, d, last, n, into);
+    for k in a..b {
+        to[turn(run.d + k, INTO)] = from[turn(run.s + k, !INTO)];
+    }
 }
 
-// A row of n bytes out of texture memory.
-pub fn copy_row(from: &[u8], s: usize, to: &mut [u8], d: usize, n: usize, odd: bool)
-    requires { (length from.now ≡ 4096) × (s + n ≤ 4096) × (d + n ≤ length to.old) }
-    ensures { to.new ≡ part false odd s d 0 n from.now to.old }
+// An odd run. Its first bytes, up to where eight bytes of texture memory start, and its last ones go one by one.
+fn move_odd<const INTO: bool>(from: &[u8], to: &mut [u8], run: Run, first: usize)
+    requires { RunFits INTO run (length from.now) (length to.old) × (first ≤ run.n) × (first < run.n → (cond INTO run.d run.s + first) % 8 ≡ 0) }
+    ensures { to.new ≡ part INTO (not INTO) run.s run.d 0 run.n from.now to.old }
 {
-    if odd {
-        move_odd(from, s, to, d, head(s, n), n, false);
+    let groups = (run.n - first) / 8;
+    move_turned::<INTO>(from, to, run, 0, first);
+    exchange_groups(from, run.s + first, to, run.d + first, groups);
+    move_turned::<INTO>(from, to, run, first + 8 * groups, run.n);
+}
+
+// Moves a run.
+pub fn move_run<const INTO: bool>(from: &[u8], to: &mut [u8], run: Run)
+    requires { RunFits INTO run (length from.now) (length to.old) }
+    ensures { to.new ≡ run_moved INTO run from.now to.old }
+{
+    if run.odd {
+        let at = if INTO { run.d } else { run.s };
+        move_odd::<INTO>(from, to, run, head(at, run.n));
         return;
     }
-    copy_even(from, s, to, d, n);
-}
-
-// A row of n bytes into texture memory.
-pub fn load_row(from: &[u8], s: usize, to: &mut [u8], d: usize, n: usize, odd: bool)
-    requires { (length to.old ≡ 4096) × (d + n ≤ 4096) × (s + n ≤ length from.now) }
-    ensures { to.new ≡ part odd false s d 0 n from.now to.old }
-{
-    if odd {
-        move_odd(from, s, to, d, head(d, n), n, true);
-        return;
-    }
-    copy_even(from, s, to, d, n);
+    to[run.d..run.d + run.n].copy_from_slice(&from[run.s..run.s + run.n]);
 }

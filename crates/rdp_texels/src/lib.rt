@@ -10,46 +10,19 @@ ghost use Rattle.rdp_texels.specs.Run.{run_texture};
 ghost use Rattle.rdp_texels.specs.Refusals.{sized, load_refusal, copy_refusal, load_texture, copy_memory};
 
 mod bytes;
+mod fields;
 mod grids;
 mod needs;
 mod rows;
 
+use bytes::Run;
+pub use bytes::move_eight;
+pub use grids::lies_in;
 use rdp_command::{CopyFields, LoadFields};
 use rdp_words::Ground;
 
 // The size of texture memory.
 pub const TEXTURE_BYTES: usize = 4096;
-
-// Texels by column x and row y: memory address `address + y pitch + 2 x`, texture byte `ahead + y line + 2 x - behind`, turned where y + turn is odd.
-#[derive(Clone, Copy)]
-pub struct Grid {
-    pub address: u64,
-    pub pitch: u64,
-    pub ahead: u64,
-    pub line: u64,
-    pub behind: u64,
-    pub turn: u64,
-}
-
-// Columns from `left` up to `right`, and rows from `top` up to `bottom`, the ends not included.
-#[derive(Clone, Copy)]
-pub struct Span {
-    pub left: u64,
-    pub right: u64,
-    pub top: u64,
-    pub bottom: u64,
-}
-
-// A rectangle's texture coordinates: `right` less `left`, `down` less `up`; and what dsdx and dtdy are above 0.
-#[derive(Clone, Copy)]
-pub struct Step {
-    pub right: u64,
-    pub left: u64,
-    pub down: u64,
-    pub up: u64,
-    pub dsdx: u64,
-    pub dtdy: u64,
-}
 
 // Whether a load's texture image and its tile's descriptor are set and 16-bit RGBA: else 17 refuses it.
 pub fn load_needs(load: LoadFields) -> bool
@@ -67,7 +40,7 @@ pub fn load_refusal(load: LoadFields, start: u64, len: usize) -> Result<(), Grou
     if !load_needs(load) {
         return Err(Ground::NotRgba16);
     }
-    grids::corners(grids::load_grid(load), grids::load_span(load), start, len)
+    fields::of_load(load, start).refusal(len)
 }
 
 // Loads n bytes of memory from index s on to byte d of texture memory on, which exchange the halves of each eight where the row is odd. Where texture
@@ -76,7 +49,8 @@ pub fn load_run(memory: &[u8], s: usize, texture: &mut [u8], d: usize, n: usize,
     ensures { texture.new ≡ run_texture s d n odd memory.now texture.old }
 {
     if grids::run_fits(memory.len(), s, texture.len(), d, n) {
-        bytes::load_row(memory, s, texture, d, n, odd);
+        let run = Run { s, d, n, odd };
+        bytes::move_run::<true>(memory, texture, run);
         return;
     }
 }
@@ -86,12 +60,7 @@ fn load_texels(memory: &[u8], start: u64, texture: &mut [u8], load: LoadFields)
     requires { (length texture.old ≡ 4096) × (load_refusal load start (length memory.now) ≡ 0) }
     ensures { texture.new ≡ loaded start memory.now (load_moves load) texture.old }
 {
-    let grid = grids::load_grid(load);
-    let span = grids::load_span(load);
-    if grids::is_some(span) {
-        rows::load_rows(memory, start, texture, grid, span);
-        return;
-    }
+    rows::move_texels::<true>(memory, texture, fields::of_load(load, start));
 }
 
 // Loads a tile out of memory that starts at address `start`. The refusals are 16, 17, 12 and 18, in this order; they leave texture memory as it was.
@@ -119,7 +88,7 @@ pub fn copy_refusal(copy: CopyFields, start: u64, len: usize) -> Result<(), Grou
     if !needs::copy_needs(copy) {
         return Err(Ground::NotRgba16);
     }
-    grids::corners(grids::copy_grid(copy), grids::copy_span(copy), start, len)
+    fields::of_copy(copy, start).refusal(len)
 }
 
 // Draws a texture rectangle of which no pixel is refused.
@@ -127,12 +96,7 @@ fn copy_pixels(texture: &[u8], memory: &mut [u8], start: u64, copy: CopyFields)
     requires { (length texture.now ≡ 4096) × (copy_refusal copy start (length memory.old) ≡ 0) }
     ensures { memory.new ≡ copied start texture.now (copy_moves copy) memory.old }
 {
-    let grid = grids::copy_grid(copy);
-    let span = grids::copy_span(copy);
-    if grids::is_some(span) {
-        rows::copy_rows(texture, memory, start, grid, span, copy.scissor);
-        return;
-    }
+    rows::move_texels::<false>(texture, memory, fields::of_copy(copy, start));
 }
 
 // Draws a texture rectangle in COPY mode into memory that starts at address `start`. The refusals are 16, 17, 12 and 18, in this order; they leave memory as

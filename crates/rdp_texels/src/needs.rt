@@ -1,9 +1,9 @@
 // Refusal 17: what a load and a copy rectangle need.
 ghost use Rattle.std.specs.Prelude.{◌≡◌};
 ghost use Rattle.rdp_texels.specs.Load.{rgba16};
-ghost use Rattle.rdp_texels.specs.Copy.{step_needs, corner_needs, tile_needs, mode_needs, copy_needs};
+ghost use Rattle.rdp_texels.specs.Copy.{whole_texels, step_needs, corner_needs, tile_needs, mode_needs, copy_needs};
 
-use crate::grids;
+use crate::fields;
 use rdp_command::{CopyFields, TexelCorner, TextureStep, TileDescriptor};
 
 pub fn is_rgba16(format: u8, size: u8) -> bool
@@ -12,12 +12,18 @@ pub fn is_rgba16(format: u8, size: u8) -> bool
     (format == 0) & (size == 2)
 }
 
+// A number of 32nds of a texel is whole.
+fn is_whole(z: i16) -> bool
+    ensures { result ≡ whole_texels z }
+{
+    (fields::ahead(z) % 32 == 0) & (fields::behind(z) % 32 == 0)
+}
+
 fn step_needs(step: TextureStep) -> bool
     ensures { result ≡ step_needs step }
 {
-    let p = grids::step_of(step);
-    (((p.dsdx == 0x1000) & (p.dtdy == 0x0400)) & ((p.right % 32 == 0) & (p.left % 32 == 0)))
-        & ((p.down % 32 == 0) & (p.up % 32 == 0))
+    let steps = (fields::ahead(step.dsdx) == 0x1000) & (fields::ahead(step.dtdy) == 0x0400);
+    (steps & is_whole(step.s)) & is_whole(step.t)
 }
 
 fn corner_needs(corner: TexelCorner) -> bool

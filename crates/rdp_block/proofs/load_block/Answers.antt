@@ -1,6 +1,6 @@
 -- `rdp_block::load_block` meets its contract. Assumes nothing.
 use Rattle.rdp_texels.proofs.GroundLaws.{refused, allowed}
-use Rattle.rdp_texels.proofs.ActLaws.{stays-unsized, stays-refused, moved}
+use Rattle.rdp_texels.proofs.ActLaws.{stays-unsized, stays-refused, all-moved}
 use Rattle.std.proofs.Common.{◌∙◌}
 use Rattle.rdp_block.specs.Block.{block_texture}
 use Rattle.rdp_block.proofs.load_block.Goals as goal
@@ -18,4 +18,4 @@ returns-in_err-block_refusal-clause-texture c =
 pub returns-clause-texture : goal.returns-clause-texture
 unfolding block_texture
 returns-clause-texture c =
-    c.load_texels.ensures ∙ moved _ _ _ _ c.if-texture-ne-TEXTURE_BYTES.false (allowed c.in_ok-block_refusal.was c.block_refusal.ensures)
+    c.load_texels.ensures ∙ all-moved _ _ _ _ c.if-texture-ne-TEXTURE_BYTES.false (allowed c.in_ok-block_refusal.was c.block_refusal.ensures)

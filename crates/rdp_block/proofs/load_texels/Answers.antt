@@ -1,14 +1,24 @@
 -- `rdp_block::load_texels` meets its contract. Assumes nothing.
-use lib.ListN.{length}
+use Rattle.std.proofs.Common.{length, ◌∙◌}
+use Rattle.rdp_block.specs.Views.{stripped}
 use Rattle.rdp_block.proofs.BlockLaws.{block-fits, block-loaded}
+use Rattle.rdp_block.proofs.StripLaws.{two-parts}
 use Rattle.rdp_block.proofs.load_texels.Goals as goal
 
-pub load_strip-requires : goal.load_strip-requires
-load_strip-requires c =
-    let q = c.strip_of.ensures in
-    (c.requires.0, block-fits c.args.load c.args.start (length c.args.memory.now) q.0 q.1 c.requires.1)
+pub load_words-first-requires : goal.load_words-first-requires
+load_words-first-requires c =
+    let s = c.args in
+    block-fits s.load s.start c.of_load-block.ensures (length s.memory.now) (length s.texture.now) c.requires.0 c.requires.1
+
+pub load_lines-requires : goal.load_lines-requires
+load_lines-requires c =
+    let s = c.args in
+    (block-fits s.load s.start c.of_load-block.ensures (length s.memory.now) _ (c.load_words-first.auto.texture ∙ c.requires.0) c.requires.1, c.load_words-first.ensures.0)
 
 pub returns : goal.returns
 returns c =
     let s = c.args in
-    block-loaded s.load s.start s.memory.now s.texture.now c.strip_of.ensures.0 c.load_strip.ensures
+    let first = c.load_words-first.ensures in
+    let b = stripped c.of_load-block.result in
+    block-loaded s.load s.start c.of_load-block.ensures s.memory.now s.texture.now
+    (two-parts b b.start s.memory.now s.texture.now c.load_words-first.result first.0 first.1 c.load_lines.ensures)

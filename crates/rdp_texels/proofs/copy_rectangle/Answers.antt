@@ -1,6 +1,6 @@
 -- `rdp_texels::copy_rectangle` meets its contract. Assumes nothing.
 use Rattle.rdp_texels.proofs.GroundLaws.{refused, allowed}
-use Rattle.rdp_texels.proofs.ActLaws.{stays-unsized, stays-refused, moved}
+use Rattle.rdp_texels.proofs.ActLaws.{stays-unsized, stays-refused, all-moved}
 use Rattle.std.proofs.Common.{◌∙◌}
 use Rattle.rdp_texels.specs.Refusals.{copy_memory}
 use Rattle.rdp_texels.proofs.copy_rectangle.Goals as goal
@@ -18,4 +18,4 @@ returns-in_err-copy_refusal-clause-memory c =
 pub returns-clause-memory : goal.returns-clause-memory
 unfolding copy_memory
 returns-clause-memory c =
-    c.copy_pixels.ensures ∙ moved _ _ _ _ c.if-texture-ne-TEXTURE_BYTES.false (allowed c.in_ok-copy_refusal.was c.copy_refusal.ensures)
+    c.copy_pixels.ensures ∙ all-moved _ _ _ _ c.if-texture-ne-TEXTURE_BYTES.false (allowed c.in_ok-copy_refusal.was c.copy_refusal.ensures)

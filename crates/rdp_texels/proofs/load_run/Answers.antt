@@ -1,17 +1,12 @@
 -- `rdp_texels::load_run` meets its contract. Assumes nothing.
-use mathlib.Core.Path.{sym, ◌∙◌}
-use Rattle.rdp_texels.proofs.ActLaws.{run-parts, run-loads, run-stays}
+use Rattle.std.proofs.Common.{sym, ◌∙◌}
+use Rattle.rdp_texels.proofs.ActLaws.{run-loads, run-stays}
 use Rattle.rdp_texels.proofs.load_run.Goals as goal
-
-pub load_row-requires : goal.load_row-requires
-load_row-requires c =
-    let a = c.args in
-    run-parts _ a.s _ a.d a.n (sym c.run_fits.ensures ∙ c.if-run_fits.true)
 
 pub returns-then-run_fits : goal.returns-then-run_fits
 returns-then-run_fits c =
     let a = c.args in
-    c.load_row.ensures ∙
+    c.move_run.ensures ∙
     run-loads a.s a.d a.n a.odd a.memory.now a.texture.now (sym c.run_fits.ensures ∙ c.if-run_fits.true)
 
 pub returns : goal.returns

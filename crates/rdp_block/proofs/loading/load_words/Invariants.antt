@@ -1,10 +1,8 @@
 -- `rdp_block::loading::load_words` meets its contract. The loop's invariant: what is still to come of the whole words gives what was promised. Assumes nothing.
-use Prim.Native.Nat.{◌-◌, ◌*◌, ◌≤◌}
+use Rattle.std.proofs.Common.{◌*◌}
+use Rattle.rdp_block.specs.Views.{stripped}
 use Rattle.rdp_block.proofs.StripLaws.{Due}
 use Rattle.rdp_block.proofs.loading.load_words.Given as goal
 
 abbrev pub invariant-loop-j : goal.invariant-loop-j
-invariant-loop-j l = (l.j ≤ l.words) × Due l.strip l.start 0 (4 * l.words) l.memory l.initial.texture l.texture (4 * l.j)
-
-abbrev pub decreases-loop-j : goal.decreases-loop-j
-decreases-loop-j l = l.words - l.j
+invariant-loop-j l = Due (stripped l.block) l.block.start 0 (4 * l.words) l.memory l.initial.texture l.texture (4 * l.j)

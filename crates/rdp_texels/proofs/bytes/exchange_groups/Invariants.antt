@@ -1,10 +1,7 @@
 -- `rdp_texels::bytes::exchange_groups` meets its contract. The invariant stands first. Assumes nothing.
-use Prim.Native.Nat.{◌-◌, ◌≤◌}
-use Rattle.rdp_texels.proofs.ExchangeLaws.{Exchanged}
+use Rattle.std.proofs.Common.{◌*◌, false, true, drop}
+use Rattle.rdp_texels.proofs.PartLaws.{Taken}
 use Rattle.rdp_texels.proofs.bytes.exchange_groups.Given as goal
 
-abbrev pub invariant-loop-k : goal.invariant-loop-k
-invariant-loop-k l = (l.k ≤ l.b) × Exchanged l.s l.d l.a l.k l.from l.initial.to l.to
-
-abbrev pub decreases-loop-k : goal.decreases-loop-k
-decreases-loop-k l = l.b - l.k
+abbrev pub invariant-loop-i : goal.invariant-loop-i
+invariant-loop-i l = Taken false true 0 l.d 0 (8 * l.i) (drop l.s l.from) l.initial.to l.to
