@@ -27,7 +27,7 @@ pub struct Untranslated {
 
 // What the next command must be: any, or a half-word of a texture rectangle. The second holds the value of the first.
 #[derive(Clone, Copy, Default)]
-pub enum Due {
+enum Due {
     #[default]
     Command,
     FirstHalf,
@@ -36,7 +36,7 @@ pub enum Due {
 
 // The high and the low word of the other modes, and what is due next.
 #[derive(Clone, Copy, Default)]
-pub struct Setting {
+struct Setting {
     pub high: u32,
     pub low: u32,
     pub due: Due,
@@ -44,7 +44,7 @@ pub struct Setting {
 
 // What a command does: a word is written, nothing but that it is read, a list is called, a list is gone to for good, the list ends.
 #[derive(Clone, Copy)]
-pub enum Action {
+enum Action {
     Write(u64),
     Pass,
     Call(usize),
@@ -55,7 +55,7 @@ pub enum Action {
 // A walk: the memory that it reads and the output that it writes, and how far it has come: the setting, the commands read and the words written, at most one
 // for each.
 #[derive(Drop)]
-pub struct Walker<'a> {
+struct Walker<'a> {
     pub memory: &'a [u8],
     pub out: &'a mut [u8],
     pub setting: Setting,
@@ -66,7 +66,7 @@ pub struct Walker<'a> {
 
 // Why a walk is refused, and the offset of the command.
 #[derive(Clone, Copy)]
-pub struct Refused {
+struct Refused {
     pub ground: Ground,
     pub place: usize,
 }
