@@ -4,7 +4,7 @@
     tools/drawings.py           writes the file stdout of each
     tools/drawings.py --check   says which of these files is not as it would write it
 
-The lists, and the memory that each is drawn into, are read from a program's calls. What is drawn follows documents 000, 01 and 02 (#106, #112), pixel by pixel;
+The lists, and the memory that each is drawn into, are read from a program's tables. What is drawn follows documents 000, 01 and 02 (#106, #112), pixel by pixel;
 nothing here is taken from crates/rdp_draw or the crates below it, so that a program's output and this file are independent.
 """
 import pathlib
@@ -280,11 +280,11 @@ def draw(data, memory, start, texture=bytes(4096)):
     return (0, end), bytes(drawn)
 
 
-# ---- The calls in a program's sources.
+# ---- The cases in a program's sources.
 
 def sources(crate):
     """The text of each module whose lists are drawn, in the order of main.rt."""
-    names = re.findall(r'(\w+)::show_\w+\(out\)', (crate / 'src' / 'main.rt').read_text())
+    names = re.findall(r'(\w+)::show_\w+\(page\)', (crate / 'src' / 'main.rt').read_text())
     return [(crate / 'src' / (name + '.rt')).read_text() for name in names]
 
 
@@ -306,20 +306,22 @@ def words_from(text, table):
     return found
 
 
-CALL = re.compile(r'(\w+)\(\s*out,\s*"([^"]*)",([^;]*)\)\?;')
-HELPER = re.compile(r'fn (\w+)\(\s*out: &mut impl Write,\s*name: &str((?:,\s*\w+: (?:u64|usize))+),?\s*\) -> io::Result<\(\)> \{\s*(\w+)\(\s*out,\s*name,([^;]*?)\)\s*\}')
+CASES = re.compile(r'(\w+)\(\s*page,\s*&\[((?:\s*\(\s*"[^"]*",[^()]*\),?)+)\s*\],?\s*\)')
+CASE = re.compile(r'\(\s*"([^"]*)",([^()]*)\)')
+HELPER = re.compile(r'fn (\w+)\(\s*page: &mut Page<impl Write>,\s*cases: &\[\(&str((?:, (?:u64|usize))+)\)\],?\s*\) -> io::Result<\(\)> \{\s*'
+                    r'for &\(name, ([^)]*)\) in cases \{\s*(\w+)\(\s*page,\s*name,([^;]*?)\)\?;\s*\}\s*Ok\(\(\)\)\s*\}')
 
 
 def helpers(crate):
-    """The functions that are one call with their numbers put in: the parameters, the function called, the text of its arguments."""
+    """The functions that make each case's list out of a few numbers: the parameters, the function called, the text of its arguments."""
     text = '\n'.join(path.read_text() for path in sorted((crate / 'src').glob('*.rt')))
-    found = [(name, (re.findall(r'(\w+):', parameters), function, arguments)) for name, parameters, function, arguments in HELPER.findall(text)]
+    found = [(name, (re.findall(r'\w+', parameters), function, arguments)) for name, _, parameters, function, arguments in HELPER.findall(text)]
     assert len(dict(found)) == len(found), 'two functions have one name'
     return dict(found)
 
 
 def written_out(function, arguments, known):
-    """A call without helpers."""
+    """A case without helpers."""
     while function in known:
         parameters, function, text = known[function]
         values = dict(zip(parameters, re.findall(r'\w+', arguments), strict=True))
@@ -328,10 +330,11 @@ def written_out(function, arguments, known):
 
 
 def cases(crate):
-    """Each call: its function, the name, the bytes of the list, and its numbers."""
+    """Each case: its function, the name, the bytes of the list, and its numbers."""
     table, known = constants(crate), helpers(crate)
     for text in sources(crate):
-        calls = CALL.findall(text)
+        text = re.sub(r'//.*', '', text)
+        calls = [(called, *case) for called, some in CASES.findall(text) for case in CASE.findall(some)]
         assert 2 * len(calls) == text.count('"')
         for called, name, given in calls:
             function, arguments = written_out(called, given, known)
@@ -356,27 +359,38 @@ def fletcher(data):
     return b << 32 | a
 
 
-# What a call says of the memory: its length, start, byte before and row.
+# What a case says of the memory, by the function that draws it or its table: its length, start, byte before and row.
+def drawing(length, start, row):
+    return length, start, BEFORE, row
+
+
+def picture():
+    return 64, 0, BEFORE, 16
+
+
 SHAPES = {
-    'drawn': lambda length, start, row: (length, start, BEFORE, row),
-    'drawn_long': lambda length, start: (length, start, BEFORE, 16),
-    'drawn_zeros': lambda _: (4, 0, BEFORE, 4),
-    'picture': lambda: (64, 0, BEFORE, 16),
-    'picture_on_zeros': lambda: (64, 0, 0, 16),
-    'after_fill': lambda: (64, 0, BEFORE, 16),
-    'after_fill_with_small_texture': lambda: (64, 0, BEFORE, 16),
+    'drawing': drawing,
+    'drawings': drawing,
+    'long_drawings': lambda length, start: (length, start, BEFORE, 16),
+    'drawings_of_zeros': lambda _: (4, 0, BEFORE, 4),
+    'picture': picture,
+    'pictures': picture,
+    'pictures_on_zeros': lambda: (64, 0, 0, 16),
+    'after_fill': picture,
+    'after_fills': picture,
+    'after_fills_with_small_texture': picture,
 }
 
 
 def printed(function, name, data, numbers):
-    """The answer for a call, and what it prints."""
+    """The answer for a case, and what it prints."""
     length, start, byte, row = SHAPES[function](*numbers)
-    if function == 'drawn_zeros':
+    if function == 'drawings_of_zeros':
         data = bytes(*numbers)
-    texture = bytes(4095 if function == 'after_fill_with_small_texture' else 4096)
+    texture = bytes(4095 if function == 'after_fills_with_small_texture' else 4096)
     answer, memory = draw(data, bytes([byte] * length), start, texture)
     line = f'\n{name}: {answer[0]} {answer[1]}'
-    if function == 'drawn_long':
+    if function == 'long_drawings':
         return answer, f'{line}, checksum {fletcher(memory):016x}{rows(memory[:16], 16)}{rows(memory[-16:], 16)}\n'
     return answer, f'{line}{rows(memory, row)}\n'
 

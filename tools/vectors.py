@@ -501,10 +501,10 @@ def counts():
 
 def vectors():
     """Each list of lists.rt: the comment above it, its words, and its length in bytes."""
-    text = (CRATE / 'src' / 'lists.rt').read_text()
-    calls = re.findall(r'(?:// (.*)\n\s*)?show_words\(\s*out,\s*&\[([^\]]*)\],\s*(\d+),?\s*\)\?;', text)
-    assert len(calls) == text.count('show_words(')
-    return [(comment, [int(word, 16) for word in re.findall(r'0x\w+', words)], int(length)) for comment, words, length in calls]
+    count, text = re.search(r'LISTS: \[\(&\[u64\], usize\); (\d+)\] = \[\n(.*)\];', (CRATE / 'src' / 'lists.rt').read_text(), re.S).groups()
+    lists = re.findall(r'(?:// (.*)\n\s*)?\(\s*&\[([^\]]*)\],\s*(\d+),?\s*\),\n', text)
+    assert len(lists) == int(count)
+    return [(comment, [int(word, 16) for word in re.findall(r'0x\w+', words)], int(length)) for comment, words, length in lists]
 
 
 def printed(words, length):

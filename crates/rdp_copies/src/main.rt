@@ -12,18 +12,22 @@ mod copies;
 mod refusals;
 mod show;
 
+use show::Page;
 use std::io;
 use std::io::{BufWriter, Write};
 
-fn show_all(out: &mut impl Write) -> io::Result<()> {
-    show::print(out, b"name: number place, and memory after drawing\n")?;
-    copies::show_copies(out)?;
-    refusals::show_refusals(out)?;
-    blocks::show_blocks(out)
+fn show_all(page: &mut Page<impl Write>) -> io::Result<()> {
+    writeln!(page.out, "name: number place, and memory after drawing")?;
+    copies::show_copies(page)?;
+    refusals::show_refusals(page)?;
+    blocks::show_blocks(page)
 }
 
 fn main(rt: HostRuntime) -> io::Result<()> {
-    let mut out = BufWriter::new(rt.alloc(), io::writer(&rt))?;
-    show_all(&mut out)?;
-    out.flush()
+    let mut page = Page {
+        out: BufWriter::new(rt.alloc(), io::writer(&rt))?,
+        alloc: rt.alloc(),
+    };
+    show_all(&mut page)?;
+    page.out.flush()
 }

@@ -16,22 +16,26 @@ mod scissors;
 mod shapes;
 mod show;
 
+use show::Page;
 use std::io;
 use std::io::{BufWriter, Write};
 
-fn show_all(out: &mut impl Write) -> io::Result<()> {
-    show::print(out, b"name: number place, and memory after drawing\n")?;
-    shapes::show_shapes(out)?;
-    scissors::show_scissors(out)?;
-    fields::show_fields(out)?;
-    registers::show_registers(out)?;
-    lent::show_lent(out)?;
-    refusals::show_refusals(out)?;
-    long::show_long(out)
+fn show_all(page: &mut Page<impl Write>) -> io::Result<()> {
+    writeln!(page.out, "name: number place, and memory after drawing")?;
+    shapes::show_shapes(page)?;
+    scissors::show_scissors(page)?;
+    fields::show_fields(page)?;
+    registers::show_registers(page)?;
+    lent::show_lent(page)?;
+    refusals::show_refusals(page)?;
+    long::show_long(page)
 }
 
 fn main(rt: HostRuntime) -> io::Result<()> {
-    let mut out = BufWriter::new(rt.alloc(), io::writer(&rt))?;
-    show_all(&mut out)?;
-    out.flush()
+    let mut page = Page {
+        out: BufWriter::new(rt.alloc(), io::writer(&rt))?,
+        alloc: rt.alloc(),
+    };
+    show_all(&mut page)?;
+    page.out.flush()
 }

@@ -1,188 +1,170 @@
-// A list, drawn into memory of which the bytes are printed.
-ghost use Rattle.std.specs.Prelude.{◌+◌, ◌<◌, ◌≤◌, length};
-
-use rdp_command::Answer;
+// Lists, drawn into memory of which the bytes are printed. A case is a name, the words of its list, and what the memory is.
+use rdp_words::Answer;
+use std::alloc::Global;
 use std::io;
 use std::io::Write;
 
-pub fn print(out: &mut impl Write, bytes: &[u8]) -> io::Result<()> {
-    out.write_all(bytes)
+// What is printed to, and what lists and memories are made of.
+#[derive(Drop)]
+pub struct Page<W> {
+    pub out: W,
+    pub alloc: Global,
 }
 
-// The first n bytes; all where there are fewer.
-fn front(bytes: &[u8], n: usize) -> &[u8] {
-    if n <= bytes.len() {
-        return &bytes[0..n];
-    }
-    bytes
+// Bytes in rows, each row on a line after the present one.
+fn print_rows(page: &mut Page<impl Write>, bytes: &[u8], row: usize) -> io::Result<()> {
+    let mut text = vec![in page.alloc; 0u8; bytes.len().saturating_mul(3)]?;
+    rdp_text::spell(bytes, row, &mut text);
+    page.out.write_all(&text)
 }
 
-// The last n bytes; all where there are fewer.
-fn back(bytes: &[u8], n: usize) -> &[u8] {
-    if n <= bytes.len() {
-        let from = bytes.len() - n;
-        return &bytes[from..];
-    }
-    bytes
-}
-
-fn print_text(out: &mut impl Write, bytes: &[u8], row: usize, text: &mut [u8]) -> io::Result<()> {
-    rdp_text::spell(bytes, row, text);
-    print(out, text)
-}
-
-// At most 512 bytes in rows, each row on a line after the present one.
-fn print_rows(out: &mut impl Write, bytes: &[u8], row: usize) -> io::Result<()> {
-    let mut text = [0u8; 1536];
-    if bytes.len() <= 512 {
-        print_text(out, bytes, row, &mut text[0..3 * bytes.len()])?;
-    }
-    Ok(())
-}
-
-// Four bytes as a number, most significant byte first.
-fn word_at(bytes: &[u8], at: usize) -> u64
-    requires { at + 4 ≤ length bytes.now }
-    ensures { result < 4294967296 }
-{
-    (bytes[at] as u64) * 0x100_0000
-        + (bytes[at + 1] as u64) * 0x1_0000
-        + (bytes[at + 2] as u64) * 0x100
-        + (bytes[at + 3] as u64)
+// A sum modulo 2^32 - 1.
+fn sum(a: u32, b: u32) -> u32 {
+    ((u64::from(a) + u64::from(b)) % 4294967295) as u32
 }
 
 // Fletcher's checksum of the whole words of four bytes, which tells their order too.
 fn checksum(bytes: &[u8]) -> u64 {
-    let mut a = 0u64;
-    let mut b = 0u64;
-    let mut i = 0;
-    while i < bytes.len() / 4 {
-        a = (a + word_at(bytes, 4 * i)) % 4294967295;
-        b = (b + a) % 4294967295;
-        i += 1;
+    let mut a = 0;
+    let mut b = 0;
+    for four in bytes.as_chunks::<4>().0 {
+        a = sum(a, u32::from_be_bytes(*four));
+        b = sum(b, a);
     }
-    b * 4294967296 + a
+    (u64::from(b) << 32) | u64::from(a)
 }
 
-fn print_answer(out: &mut impl Write, name: &str, answer: Answer) -> io::Result<()> {
-    write!(out, "\n{name}: {} {}", answer.number, answer.place)
+fn print_answer(page: &mut Page<impl Write>, name: &str, answer: Answer) -> io::Result<()> {
+    match answer {
+        Ok(count) => write!(page.out, "\n{name}: 0 {count}"),
+        Err(refusal) => {
+            write!(
+                page.out,
+                "\n{name}: {} {}",
+                u32::from(refusal.ground),
+                refusal.place
+            )
+        }
+    }
 }
 
-// The answer of drawing with texture memory of zeros.
-fn draw(list: &[u8], memory: &mut [u8], start: u64) -> Answer {
-    let mut texture = [0u8; 4096];
-    rdp_draw::draw(list, memory, start, &mut texture)
-}
-
-// Draws the list of words, which is laid into `list`.
-fn draw_list(
-    out: &mut impl Write,
+// Draws the list with texture memory of zeros.
+fn draw(
+    page: &mut Page<impl Write>,
     name: &str,
-    words: &[u64],
-    list: &mut [u8],
+    list: &[u8],
     memory: &mut [u8],
     start: u64,
 ) -> io::Result<()> {
-    rdp_text::lay(words, list);
-    print_answer(out, name, draw(list, memory, start))
+    let answer = rdp_draw::draw(list, memory, start, &mut [0u8; 4096]);
+    print_answer(page, name, answer)
 }
 
-// The same of at most 32 words.
+// Draws the list of words.
 fn draw_words(
-    out: &mut impl Write,
+    page: &mut Page<impl Write>,
     name: &str,
     words: &[u64],
     memory: &mut [u8],
     start: u64,
 ) -> io::Result<()> {
-    let mut list = [0u8; 256];
-    if words.len() <= 32 {
-        draw_list(
-            out,
-            name,
-            words,
-            &mut list[0..8 * words.len()],
-            memory,
-            start,
-        )?;
-    }
-    Ok(())
+    let mut list = vec![in page.alloc; 0u8; 8 * words.len()]?;
+    rdp_text::lay(words, &mut list);
+    draw(page, name, &list, memory, start)
 }
 
+// Draws a list into memory of `length` bytes `before` that starts at address `start`, and prints it in rows of `row` bytes.
 fn draw_in_rows(
-    out: &mut impl Write,
+    page: &mut Page<impl Write>,
     name: &str,
     words: &[u64],
-    memory: &mut [u8],
+    before: u8,
+    length: usize,
     start: u64,
     row: usize,
 ) -> io::Result<()> {
-    draw_words(out, name, words, memory, start)?;
-    print_rows(out, memory, row)?;
-    print(out, b"\n")
+    let mut memory = vec![in page.alloc; before; length]?;
+    draw_words(page, name, words, &mut memory, start)?;
+    print_rows(page, &memory, row)?;
+    writeln!(page.out)
 }
 
-// Draws a list into memory of `length` bytes, at most 512, that starts at address `start`, and prints it in rows of `row` bytes.
-pub fn drawn(
-    out: &mut impl Write,
+pub fn drawing(
+    page: &mut Page<impl Write>,
     name: &str,
     words: &[u64],
     length: usize,
     start: u64,
     row: usize,
 ) -> io::Result<()> {
-    let mut memory = [0x55u8; 512];
-    if length <= 512 {
-        draw_in_rows(out, name, words, &mut memory[0..length], start, row)?;
+    draw_in_rows(page, name, words, 0x55, length, start, row)
+}
+
+// Into four rows of 16 bytes from address 0 on.
+pub fn picture(page: &mut Page<impl Write>, name: &str, words: &[u64]) -> io::Result<()> {
+    drawing(page, name, words, 64, 0, 16)
+}
+
+// Cases with the length and the start of their memory, and the length of a row.
+pub fn drawings(
+    page: &mut Page<impl Write>,
+    cases: &[(&str, &[u64], usize, u64, usize)],
+) -> io::Result<()> {
+    for &(name, words, length, start, row) in cases {
+        drawing(page, name, words, length, start, row)?;
     }
     Ok(())
 }
 
-// The same into four rows of 16 bytes from address 0 on.
-pub fn picture(out: &mut impl Write, name: &str, words: &[u64]) -> io::Result<()> {
-    drawn(out, name, words, 64, 0, 16)
+pub fn pictures(page: &mut Page<impl Write>, cases: &[(&str, &[u64])]) -> io::Result<()> {
+    for &(name, words) in cases {
+        picture(page, name, words)?;
+    }
+    Ok(())
 }
 
-// The same into zeros.
-pub fn picture_on_zeros(out: &mut impl Write, name: &str, words: &[u64]) -> io::Result<()> {
-    let mut memory = [0u8; 64];
-    draw_in_rows(out, name, words, &mut memory, 0, 16)
+// The same on zeros.
+pub fn pictures_on_zeros(page: &mut Page<impl Write>, cases: &[(&str, &[u64])]) -> io::Result<()> {
+    for &(name, words) in cases {
+        draw_in_rows(page, name, words, 0, 64, 0, 16)?;
+    }
+    Ok(())
 }
 
-// Draws a list of `length` zeros, at most 32,769, into four bytes.
-pub fn drawn_zeros(out: &mut impl Write, name: &str, length: usize) -> io::Result<()> {
-    let list = [0u8; 32769];
-    let mut memory = [0x55u8; 4];
-    print_answer(out, name, draw(front(&list, length), &mut memory, 0))?;
-    print_rows(out, &memory, 4)?;
-    print(out, b"\n")
+// Lists of so many zeros, into four bytes.
+pub fn drawings_of_zeros(page: &mut Page<impl Write>, cases: &[(&str, usize)]) -> io::Result<()> {
+    for &(name, length) in cases {
+        let list = vec![in page.alloc; 0u8; length]?;
+        let mut memory = [0x55u8; 4];
+        draw(page, name, &list, &mut memory, 0)?;
+        print_rows(page, &memory, 4)?;
+        writeln!(page.out)?;
+    }
+    Ok(())
 }
 
 fn draw_long(
-    out: &mut impl Write,
-    name: &str,
-    words: &[u64],
-    memory: &mut [u8],
-    start: u64,
-) -> io::Result<()> {
-    draw_words(out, name, words, memory, start)?;
-    write!(out, ", checksum {:016x}", checksum(memory))?;
-    print_rows(out, front(memory, 16), 16)?;
-    print_rows(out, back(memory, 16), 16)?;
-    print(out, b"\n")
-}
-
-// Draws a list into memory of `length` bytes, at most 153,600: 320 by 240 pixels of 16 bits.
-pub fn drawn_long(
-    out: &mut impl Write,
+    page: &mut Page<impl Write>,
     name: &str,
     words: &[u64],
     length: usize,
     start: u64,
 ) -> io::Result<()> {
-    let mut memory = [0x55u8; 153600];
-    if length <= 153600 {
-        draw_long(out, name, words, &mut memory[0..length], start)?;
+    let mut memory = vec![in page.alloc; 0x55u8; length]?;
+    draw_words(page, name, words, &mut memory, start)?;
+    write!(page.out, ", checksum {:016x}", checksum(&memory))?;
+    print_rows(page, &memory[..length.min(16)], 16)?;
+    print_rows(page, &memory[length.saturating_sub(16)..], 16)?;
+    writeln!(page.out)
+}
+
+// Cases with the length and the start of their memory.
+pub fn long_drawings(
+    page: &mut Page<impl Write>,
+    cases: &[(&str, &[u64], usize, u64)],
+) -> io::Result<()> {
+    for &(name, words, length, start) in cases {
+        draw_long(page, name, words, length, start)?;
     }
     Ok(())
 }

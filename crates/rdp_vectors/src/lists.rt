@@ -1,55 +1,23 @@
-// The lists, as words and a length in bytes. tools/vectors.py reads them here, with the comment above each. Single bits and words with all bits set
-// are in bits.rt and main.rt.
-use crate::show::show_words;
-use std::io;
-use std::io::Write;
+// The lists, as words and a length in bytes: the words are cut there, or go on as zeros. tools/vectors.py reads them here, with the comment above each.
+// Single bits and words with all bits set are in bits.rt and main.rt.
 
-pub fn show_lists(out: &mut impl Write) -> io::Result<()> {
-    no_operations(out)?;
-    flat_triangles(out)?;
-    textured_triangle(out)?;
-    textured_triangle_with_depth(out)?;
-    shaded_triangle(out)?;
-    shaded_triangle_with_depth(out)?;
-    shaded_and_textured_triangle(out)?;
-    whole_triangle(out)?;
-    texture_rectangles(out)?;
-    syncs(out)?;
-    keys_and_convert(out)?;
-    scissor_and_depth(out)?;
-    other_modes(out)?;
-    loads(out)?;
-    tile_sizes(out)?;
-    tiles(out)?;
-    fills(out)?;
-    colors(out)?;
-    images(out)?;
-    refused_lists(out)?;
-    Ok(())
-}
-
-fn no_operations(out: &mut impl Write) -> io::Result<()> {
+pub static LISTS: [(&[u64], usize); 71] = [
     // 0x00: G_SPNOOP of document 003.
-    show_words(out, &[0x0000_0000_0000_0000], 8)?;
+    (&[0x0000_0000_0000_0000], 8),
     // 0x07: its example of G_QUAD; no operation to the RDP, its other bits unused.
-    show_words(out, &[0x0700_0204_0000_0406], 8)?;
+    (&[0x0700_0204_0000_0406], 8),
     // 0x10, all other bits set.
-    show_words(out, &[0xD0FF_FFFF_FFFF_FFFF], 8)?;
+    (&[0xD0FF_FFFF_FFFF_FFFF], 8),
     // 0x1E: its example of G_DL.
-    show_words(out, &[0xDE00_0000_0700_0A50], 8)?;
+    (&[0xDE00_0000_0700_0A50], 8),
     // 0x20: G_NOOP.
-    show_words(out, &[0xE000_0000_0000_0000], 8)?;
+    (&[0xE000_0000_0000_0000], 8),
     // 0x23: G_SetOtherMode_H, two-cycle mode.
-    show_words(out, &[0xE300_0A01_0010_0000], 8)?;
+    (&[0xE300_0A01_0010_0000], 8),
     // 0x31: G_RDPHALF_2, the steps of a texture rectangle.
-    show_words(out, &[0xF100_0000_0400_0400], 8)?;
-    Ok(())
-}
-
-fn flat_triangles(out: &mut impl Write) -> io::Result<()> {
+    (&[0xF100_0000_0400_0400], 8),
     // 0x08: slopes of -1.5, 1.25 and -0.25.
-    show_words(
-        out,
+    (
         &[
             0x0800_01E0_0140_00A0,
             0x0064_8000_3FFE_8000,
@@ -57,10 +25,9 @@ fn flat_triangles(out: &mut impl Write) -> io::Result<()> {
             0x00C8_4000_3FFF_C000,
         ],
         32,
-    )?;
+    ),
     // 0x09: every signed field at an end of its range or at -1.
-    show_words(
-        out,
+    (
         &[
             0x09BF_3FFF_1FFF_2000,
             0x0FFF_FFFF_3FFF_0001,
@@ -70,14 +37,9 @@ fn flat_triangles(out: &mut impl Write) -> io::Result<()> {
             0x8001_2345_0000_FFFF,
         ],
         48,
-    )?;
-    Ok(())
-}
-
-fn textured_triangle(out: &mut impl Write) -> io::Result<()> {
+    ),
     // 0x0A: every unused bit of the base set.
-    show_words(
-        out,
+    (
         &[
             0xCA6A_C123_F000_C064,
             0xF123_4567_E001_89AB,
@@ -93,14 +55,9 @@ fn textured_triangle(out: &mut impl Write) -> io::Result<()> {
             0x5555_AAAA_9999_6666,
         ],
         96,
-    )?;
-    Ok(())
-}
-
-fn textured_triangle_with_depth(out: &mut impl Write) -> io::Result<()> {
+    ),
     // 0x0B: the heights, two x and two slopes negative.
-    show_words(
-        out,
+    (
         &[
             0x0B84_3F9C_3F38_3E70,
             0x0FF6_1999_3FFD_6666,
@@ -118,14 +75,9 @@ fn textured_triangle_with_depth(out: &mut impl Write) -> io::Result<()> {
             0x8001_2345_0000_FFFF,
         ],
         112,
-    )?;
-    Ok(())
-}
-
-fn shaded_triangle(out: &mut impl Write) -> io::Result<()> {
+    ),
     // 0x0C: yl 8191, ym 0, yh -8192.
-    show_words(
-        out,
+    (
         &[
             0xCC39_1FFF_0000_2000,
             0x07FF_0000_1FFF_0000,
@@ -141,14 +93,9 @@ fn shaded_triangle(out: &mut impl Write) -> io::Result<()> {
             0xF0E1_D2C3_B4A5_9687,
         ],
         96,
-    )?;
-    Ok(())
-}
-
-fn shaded_triangle_with_depth(out: &mut impl Write) -> io::Result<()> {
+    ),
     // 0x0D: a triangle across the upper left corner of the screen.
-    show_words(
-        out,
+    (
         &[
             0x0D80_0050_0010_3FC0,
             0x0028_0000_3FFE_0000,
@@ -166,14 +113,9 @@ fn shaded_triangle_with_depth(out: &mut impl Write) -> io::Result<()> {
             0x8001_2345_0000_FFFF,
         ],
         112,
-    )?;
-    Ok(())
-}
-
-fn shaded_and_textured_triangle(out: &mut impl Write) -> io::Result<()> {
+    ),
     // 0x0E: alternating bits.
-    show_words(
-        out,
+    (
         &[
             0x0EAD_1555_2AAA_1555,
             0x0AAA_5555_2AAA_5555,
@@ -197,14 +139,9 @@ fn shaded_and_textured_triangle(out: &mut impl Write) -> io::Result<()> {
             0x5555_AAAA_9999_6666,
         ],
         160,
-    )?;
-    Ok(())
-}
-
-fn whole_triangle(out: &mut impl Write) -> io::Result<()> {
+    ),
     // 0x0F, with a Sync Full after it that is not read.
-    show_words(
-        out,
+    (
         &[
             0xCF92_0123_3456_2789,
             0x0BCD_EF01_2345_6789,
@@ -231,156 +168,106 @@ fn whole_triangle(out: &mut impl Write) -> io::Result<()> {
             0xE900_0000_0000_0000,
         ],
         184,
-    )?;
-    Ok(())
-}
-
-fn texture_rectangles(out: &mut impl Write) -> io::Result<()> {
+    ),
     // G_TEXRECT over a screen of 320 by 240, one texel a pixel.
-    show_words(out, &[0xE450_03C0_0000_0000, 0x0000_0000_0400_0400], 16)?;
+    (&[0xE450_03C0_0000_0000, 0x0000_0000_0400_0400], 16),
     // 0x24: every unused bit set; s, t, dsdx and dtdy negative.
-    show_words(out, &[0xE4AB_CDEF_FD12_3456, 0xFFE0_FFFF_FC00_8000], 16)?;
+    (&[0xE4AB_CDEF_FD12_3456, 0xFFE0_FFFF_FC00_8000], 16),
     // 0x24, with 7 bytes after it that are not read.
-    show_words(
-        out,
+    (
         &[
             0x24FF_F001_0300_2FFE,
             0x8000_7FFF_FFFF_0001,
             0xE900_0000_0000_0000,
         ],
         23,
-    )?;
+    ),
     // G_TEXRECTFLIP.
-    show_words(out, &[0xE50A_00C0_0105_0060, 0x0010_FFF0_0400_FC00], 16)?;
-    Ok(())
-}
-
-fn syncs(out: &mut impl Write) -> io::Result<()> {
+    (&[0xE50A_00C0_0105_0060, 0x0010_FFF0_0400_FC00], 16),
     // G_RDPLOADSYNC.
-    show_words(out, &[0xE600_0000_0000_0000], 8)?;
+    (&[0xE600_0000_0000_0000], 8),
     // G_RDPPIPESYNC.
-    show_words(out, &[0xE700_0000_0000_0000], 8)?;
+    (&[0xE700_0000_0000_0000], 8),
     // G_RDPTILESYNC.
-    show_words(out, &[0xE800_0000_0000_0000], 8)?;
+    (&[0xE800_0000_0000_0000], 8),
     // G_RDPFULLSYNC.
-    show_words(out, &[0xE900_0000_0000_0000], 8)?;
-    Ok(())
-}
-
-fn keys_and_convert(out: &mut impl Write) -> io::Result<()> {
+    (&[0xE900_0000_0000_0000], 8),
     // G_SETKEYGB.
-    show_words(out, &[0xEA1C_02D0_80FF_4020], 8)?;
+    (&[0xEA1C_02D0_80FF_4020], 8),
     // 0x2A.
-    show_words(out, &[0x2AFE_DCBA_9876_5432], 8)?;
+    (&[0x2AFE_DCBA_9876_5432], 8),
     // G_SETKEYR.
-    show_words(out, &[0xEB00_0000_01C0_80FF], 8)?;
+    (&[0xEB00_0000_01C0_80FF], 8),
     // G_SETCONVERT: 175, -43, -89, 222, 114, 42 in 9 bits. Document 01 reads them as unsigned.
-    show_words(out, &[0xEC15_FD5D_3B78_E42A], 8)?;
-    Ok(())
-}
-
-fn scissor_and_depth(out: &mut impl Write) -> io::Result<()> {
+    (&[0xEC15_FD5D_3B78_E42A], 8),
     // G_SETSCISSOR, 320 by 240.
-    show_words(out, &[0xED00_0000_0050_03C0], 8)?;
+    (&[0xED00_0000_0050_03C0], 8),
     // G_SETSCISSOR, odd lines.
-    show_words(out, &[0xED02_8034_034D_837C], 8)?;
+    (&[0xED02_8034_034D_837C], 8),
     // The scissor of document 01, 8 by 4.
-    show_words(out, &[0x2D00_0000_0002_0010], 8)?;
+    (&[0x2D00_0000_0002_0010], 8),
     // G_SETPRIMDEPTH. Document 01 reads both as unsigned.
-    show_words(out, &[0xEE00_0000_8000_FFFF], 8)?;
-    Ok(())
-}
-
-fn other_modes(out: &mut impl Write) -> io::Result<()> {
+    (&[0xEE00_0000_8000_FFFF], 8),
     // G_RDPSetOtherMode, two-cycle mode, perspective and bilinear filter.
-    show_words(out, &[0xEF18_2C0F_C811_2078], 8)?;
+    (&[0xEF18_2C0F_C811_2078], 8),
     // The modes of document 01: FILL.
-    show_words(out, &[0x2F30_0000_0000_0000], 8)?;
-    Ok(())
-}
-
-fn loads(out: &mut impl Write) -> io::Result<()> {
+    (&[0x2F30_0000_0000_0000], 8),
     // G_LOADTLUT, 256 colours.
-    show_words(out, &[0xF000_0000_073F_C000], 8)?;
+    (&[0xF000_0000_073F_C000], 8),
     // G_LOADBLOCK, the four examples of document 003.
-    show_words(out, &[0xF300_0000_077F_F100], 8)?;
-    show_words(out, &[0xF300_0000_077F_F080], 8)?;
-    show_words(out, &[0xF300_0000_073F_F100], 8)?;
-    show_words(out, &[0xF300_0000_07FF_F100], 8)?;
+    (&[0xF300_0000_077F_F100], 8),
+    (&[0xF300_0000_077F_F080], 8),
+    (&[0xF300_0000_073F_F100], 8),
+    (&[0xF300_0000_07FF_F100], 8),
     // G_LOADTILE.
-    show_words(out, &[0xF401_0020_0507_C0FC], 8)?;
-    Ok(())
-}
-
-fn tile_sizes(out: &mut impl Write) -> io::Result<()> {
+    (&[0xF401_0020_0507_C0FC], 8),
     // G_SETTILESIZE, the three examples of document 003.
-    show_words(out, &[0xF200_0000_0007_C07C], 8)?;
-    show_words(out, &[0xF200_0000_000F_C07C], 8)?;
-    show_words(out, &[0xF200_0000_0007_C0FC], 8)?;
-    Ok(())
-}
-
-fn tiles(out: &mut impl Write) -> io::Result<()> {
+    (&[0xF200_0000_0007_C07C], 8),
+    (&[0xF200_0000_000F_C07C], 8),
+    (&[0xF200_0000_0007_C0FC], 8),
     // G_SETTILE, the seven examples of document 003.
-    show_words(out, &[0xF510_0000_0700_0000], 8)?;
-    show_words(out, &[0xF570_0000_0700_0000], 8)?;
-    show_words(out, &[0xF510_1000_0701_4050], 8)?;
-    show_words(out, &[0xF510_2000_0701_4060], 8)?;
-    show_words(out, &[0xF570_1000_0001_4050], 8)?;
-    show_words(out, &[0xF500_0100_0100_0000], 8)?;
-    show_words(out, &[0xF540_0800_0009_8060], 8)?;
-    Ok(())
-}
-
-fn fills(out: &mut impl Write) -> io::Result<()> {
+    (&[0xF510_0000_0700_0000], 8),
+    (&[0xF570_0000_0700_0000], 8),
+    (&[0xF510_1000_0701_4050], 8),
+    (&[0xF510_2000_0701_4060], 8),
+    (&[0xF570_1000_0001_4050], 8),
+    (&[0xF500_0100_0100_0000], 8),
+    (&[0xF540_0800_0009_8060], 8),
     // G_FILLRECT, 320 by 240.
-    show_words(out, &[0xF64F_C3BC_0000_0000], 8)?;
+    (&[0xF64F_C3BC_0000_0000], 8),
     // R of document 01: pixels (1,1) to (2,2).
-    show_words(out, &[0x3600_8008_0000_4004], 8)?;
+    (&[0x3600_8008_0000_4004], 8),
     // G_SETFILLCOLOR.
-    show_words(out, &[0xF700_0000_0001_0001], 8)?;
+    (&[0xF700_0000_0001_0001], 8),
     // C of document 01.
-    show_words(out, &[0x3700_0000_F801_003F], 8)?;
+    (&[0x3700_0000_F801_003F], 8),
     // 0x37, every unused bit set, with 3 bytes after it that are not read.
-    show_words(out, &[0xF7FF_FFFF_89AB_CDEF, 0xFFFF_FF00_0000_0000], 11)?;
-    Ok(())
-}
-
-fn colors(out: &mut impl Write) -> io::Result<()> {
+    (&[0xF7FF_FFFF_89AB_CDEF, 0xFFFF_FF00_0000_0000], 11),
     // G_SETFOGCOLOR, the example of document 003.
-    show_words(out, &[0xF800_0000_00FF_00FF], 8)?;
+    (&[0xF800_0000_00FF_00FF], 8),
     // G_SETBLENDCOLOR.
-    show_words(out, &[0xF900_0000_00FF_00FF], 8)?;
+    (&[0xF900_0000_00FF_00FF], 8),
     // G_SETPRIMCOLOR.
-    show_words(out, &[0xFA00_8040_1234_5678], 8)?;
+    (&[0xFA00_8040_1234_5678], 8),
     // G_SETENVCOLOR, the example of document 003.
-    show_words(out, &[0xFB00_0000_FF00_008C], 8)?;
+    (&[0xFB00_0000_FF00_008C], 8),
     // G_SETCOMBINE, the two examples of document 003.
-    show_words(out, &[0xFC12_7FFF_FFFF_F838], 8)?;
-    show_words(out, &[0xFC12_1824_FF33_FFFF], 8)?;
-    Ok(())
-}
-
-fn images(out: &mut impl Write) -> io::Result<()> {
+    (&[0xFC12_7FFF_FFFF_F838], 8),
+    (&[0xFC12_1824_FF33_FFFF], 8),
     // G_SETTIMG, the example of document 003. Its segment is in unused bits.
-    show_words(out, &[0xFD10_0000_0400_0090], 8)?;
+    (&[0xFD10_0000_0400_0090], 8),
     // G_SETZIMG.
-    show_words(out, &[0xFE00_0000_0E02_5800], 8)?;
+    (&[0xFE00_0000_0E02_5800], 8),
     // G_SETCIMG, 16 bits, 320 wide.
-    show_words(out, &[0xFF10_013F_003D_A800], 8)?;
+    (&[0xFF10_013F_003D_A800], 8),
     // The colour image of document 01.
-    show_words(out, &[0x3F10_0007_0000_0000], 8)?;
-    Ok(())
-}
-
-fn refused_lists(out: &mut impl Write) -> io::Result<()> {
+    (&[0x3F10_0007_0000_0000], 8),
     // No bytes.
-    show_words(out, &[], 0)?;
+    (&[], 0),
     // 7 bytes.
-    show_words(out, &[0xE700_0000_0000_0000], 7)?;
+    (&[0xE700_0000_0000_0000], 7),
     // Triangles that are cut: 0x08 a byte short, 0x0F a word and a byte short.
-    show_words(
-        out,
+    (
         &[
             0x0800_01E0_0140_00A0,
             0x0064_8000_3FFE_8000,
@@ -388,11 +275,10 @@ fn refused_lists(out: &mut impl Write) -> io::Result<()> {
             0x00C8_4000_3FFF_C000,
         ],
         31,
-    )?;
-    show_words(out, &[0x0F00_01E0_0140_00A0], 168)?;
-    show_words(out, &[0x0F00_01E0_0140_00A0], 175)?;
+    ),
+    (&[0x0F00_01E0_0140_00A0], 168),
+    (&[0x0F00_01E0_0140_00A0], 175),
     // Texture rectangles that are cut.
-    show_words(out, &[0xE450_03C0_0000_0000], 8)?;
-    show_words(out, &[0xE550_03C0_0000_0000, 0x0000_0000_0400_0400], 15)?;
-    Ok(())
-}
+    (&[0xE450_03C0_0000_0000], 8),
+    (&[0xE550_03C0_0000_0000, 0x0000_0000_0400_0400], 15),
+];

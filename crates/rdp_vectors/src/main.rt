@@ -17,10 +17,17 @@ mod text;
 use std::io;
 use std::io::{BufWriter, Write};
 
+fn show_lists(out: &mut impl Write) -> io::Result<()> {
+    for (words, length) in &lists::LISTS {
+        show::show(out, show::front(&show::list_of(words), *length))?;
+    }
+    Ok(())
+}
+
 // A list for each command number, all other bits 0 and all other bits set, long enough for every command; then its single bits.
 fn show_every_number(out: &mut impl Write) -> io::Result<()> {
     for number in 0..64u8 {
-        show::show_words(out, &[(number as u64) << 56], 192)?;
+        show::show(out, &show::list_of(&[u64::from(number) << 56]))?;
         show::show_ones(out, number)?;
         bits::show_base(out, number)?;
     }
@@ -28,7 +35,7 @@ fn show_every_number(out: &mut impl Write) -> io::Result<()> {
 }
 
 fn show_all(out: &mut impl Write) -> io::Result<()> {
-    lists::show_lists(out)?;
+    show_lists(out)?;
     show_every_number(out)?;
     refusals::show_refusals(out)?;
     bits::show_heads(out)?;

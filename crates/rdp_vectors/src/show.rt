@@ -1,62 +1,21 @@
 // A list, decoded and encoded.
-use crate::text;
-use rdp_command::*;
+use crate::text::{Fields, Refused, Words};
+use rdp_words::{Answer, Refusal};
 use std::io;
 use std::io::Write;
 
-// Byte i of words, most significant byte first; 0 beyond them.
-fn byte_of(words: &[u64], i: usize) -> u8 {
-    let place = i / 8;
-    if place < words.len() {
-        let shift = 8 * (7 - i % 8);
-        return ((words[place] >> shift) % 256) as u8;
-    }
-    0
-}
-
-pub fn fill(words: &[u64], out: &mut [u8]) {
-    let mut i = 0;
-    while i < out.len() {
-        out[i] = byte_of(words, i);
-        i += 1;
-    }
-}
-
-// The first n of bytes; all where there are fewer.
-pub fn front(bytes: &[u8], n: usize) -> &[u8] {
-    if n <= bytes.len() {
-        return &bytes[0..n];
-    }
-    bytes
-}
-
-// The first n of numbers; all where there are fewer.
-pub fn front_numbers(numbers: &[u64], n: usize) -> &[u64] {
-    if n <= numbers.len() {
-        return &numbers[0..n];
-    }
-    numbers
-}
-
-fn same(a: &[u8], b: &[u8]) -> bool {
-    if a.len() != b.len() {
-        return false;
-    }
-    let mut i = 0;
-    while i < a.len() {
-        if a[i] != b[i] {
-            return false;
-        }
-        i += 1;
-    }
-    true
-}
-
-// Shows the list of the first length bytes of words.
-pub fn show_words(out: &mut impl Write, words: &[u64], length: usize) -> io::Result<()> {
+// Words as bytes, most significant byte first, and zeros after them.
+pub fn list_of(words: &[u64]) -> [u8; 192] {
     let mut list = [0u8; 192];
-    fill(words, &mut list);
-    show(out, front(&list, length))
+    for (bytes, word) in list.chunks_exact_mut(8).zip(words) {
+        bytes.copy_from_slice(&word.to_be_bytes());
+    }
+    list
+}
+
+// The first n of items; all where there are fewer.
+pub fn front<T>(items: &[T], n: usize) -> &[T] {
+    items.get(..n).unwrap_or(items)
 }
 
 // Shows the list of a command number with all other bits set.
@@ -66,74 +25,66 @@ pub fn show_ones(out: &mut impl Write, number: u8) -> io::Result<()> {
     show(out, &list)
 }
 
-// The fields of the first command of a list, and their count; or the refusal.
-pub fn fields_in(list: &[u8], numbers: &mut [u64]) -> Answer {
-    match rdp_command::decode(list) {
-        Decoded::Whole(command) => rdp_encode::fields(command, numbers),
-        Decoded::Refused(answer) => answer,
-    }
+// The fields of the first command of a list.
+pub fn fields_in<'a>(list: &[u8], numbers: &'a mut [u64; 37]) -> Result<&'a [u64], Refusal> {
+    let count = rdp_encode::fields(rdp_command::decode(list)?, numbers)?;
+    Ok(front(numbers, count as usize))
 }
 
 // Encodes the first command of a list.
-fn encode_again(list: &[u8], out: &mut [u8]) -> Answer {
-    match rdp_command::decode(list) {
-        Decoded::Whole(command) => rdp_encode::encode(command, rdp_words::suffix(list), out),
-        Decoded::Refused(answer) => answer,
-    }
+fn encode_again(list: &[u8], encoded: &mut [u8]) -> Answer {
+    rdp_encode::encode(rdp_command::decode(list)?, rdp_words::suffix(list), encoded)
 }
 
 // Encodes the command of a number and its fields.
-fn encode_made(number: u8, numbers: &[u64], suffix: &[u8], out: &mut [u8]) -> Answer {
-    match rdp_encode::from_fields(number as u32, numbers) {
-        Decoded::Whole(command) => rdp_encode::encode(command, suffix, out),
-        Decoded::Refused(answer) => answer,
-    }
+fn encode_made(number: u8, fields: &[u64], suffix: &[u8], encoded: &mut [u8]) -> Answer {
+    let command = rdp_encode::from_fields(u32::from(number), fields)?;
+    rdp_encode::encode(command, suffix, encoded)
 }
 
-fn show(out: &mut impl Write, list: &[u8]) -> io::Result<()> {
+// A line of a list.
+pub fn show(out: &mut impl Write, list: &[u8]) -> io::Result<()> {
     let mut numbers = [0u64; 37];
-    let read = fields_in(list, &mut numbers);
-    if read.number != 0 {
-        text::print(out, b"refused")?;
-        // A list that is refused has no suffix, so that this prints nothing.
-        text::words(out, rdp_words::suffix(list))?;
-        text::print(out, b" ")?;
-        return text::answer(out, read);
+    match fields_in(list, &mut numbers) {
+        Ok(fields) => show_fields(out, list, fields),
+        Err(refusal) => {
+            // A list that is refused has no suffix, so that its words print nothing.
+            writeln!(
+                out,
+                "refused{} {}",
+                Words(rdp_words::suffix(list)),
+                Refused(refusal)
+            )
+        }
     }
-    show_numbers(out, list, front_numbers(&numbers, read.place as usize))
 }
 
 // The number and the fields, the words with the one after them, and whether the fields give the words back. The output starts with all bits set: it
 // shows that unused bits are cleared and that what follows the command is left.
-fn show_numbers(out: &mut impl Write, list: &[u8], numbers: &[u64]) -> io::Result<()> {
-    let head = rdp_command::head_at(list, 0);
-    let number = head.number;
-    text::hex(out, number as u64, 2)?;
-    text::numbers(out, numbers)?;
+fn show_fields(out: &mut impl Write, list: &[u8], fields: &[u64]) -> io::Result<()> {
+    let number = rdp_command::head_at(list, 0).number;
+    write!(out, "{number:02x}{}", Fields(fields))?;
     let mut encoded = [255u8; 184];
-    let answer = encode_again(list, &mut encoded);
-    if answer.number != 0 {
-        text::print(out, b" refused ")?;
-        return text::answer(out, answer);
+    match encode_again(list, &mut encoded) {
+        Ok(count) => {
+            let words = Words(front(&encoded, 8 * (count as usize) + 8));
+            writeln!(
+                out,
+                " ={words} {}",
+                same_or_other(number, fields, rdp_words::suffix(list), &encoded)
+            )
+        }
+        Err(refusal) => writeln!(out, " refused {}", Refused(refusal)),
     }
-    text::print(out, b" =")?;
-    text::words(out, front(&encoded, 8 * (answer.place as usize) + 8))?;
-    show_same(out, number, numbers, rdp_words::suffix(list), &encoded)
 }
 
 // Whether the command of a number and its fields is encoded to the same bytes.
-fn show_same(
-    out: &mut impl Write,
-    number: u8,
-    numbers: &[u64],
-    suffix: &[u8],
-    encoded: &[u8],
-) -> io::Result<()> {
+fn same_or_other(number: u8, fields: &[u64], suffix: &[u8], encoded: &[u8]) -> &'static str {
     let mut again = [255u8; 184];
-    let answer = encode_made(number, numbers, suffix, &mut again);
-    if (answer.number == 0) & same(encoded, &again) {
-        text::print(out, b" same\n")
+    let answer = encode_made(number, fields, suffix, &mut again);
+    if answer.is_ok() && again.as_slice() == encoded {
+        "same"
     } else {
-        text::print(out, b" other\n")
+        "other"
     }
 }

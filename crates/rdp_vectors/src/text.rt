@@ -1,63 +1,64 @@
 // What is printed.
-use rdp_command::*;
-use std::io;
+use rdp_words::{Answer, Refusal};
 use std::io::Write;
+use std::{fmt, io};
 
-pub fn print(out: &mut impl Write, bytes: &[u8]) -> io::Result<()> {
-    out.write_all(bytes)
-}
+// The fields of a command, each after a space. No field has 64 bits, so one of 2^63 or more is a negative number in two's complement.
+#[derive(Clone, Copy)]
+pub struct Fields<'a>(pub &'a [u64]);
 
-// A number in hexadecimal, with at least width digits.
-pub fn hex(out: &mut impl Write, n: u64, width: usize) -> io::Result<()> {
-    write!(out, "{n:0width$x}")
-}
-
-// A field's number, after a space. No field has 64 bits, so one of 2^63 or more is a negative number in two's complement.
-pub fn number(out: &mut impl Write, n: u64) -> io::Result<()> {
-    if n < 0x8000_0000_0000_0000 {
-        write!(out, " {n}")
-    } else {
-        write!(out, " -{}", 0xFFFF_FFFF_FFFF_FFFF - n + 1)
+impl fmt::Display for Fields<'_> {
+    fn fmt<W: fmt::Write>(&self, f: &mut fmt::Formatter<W>) -> fmt::Result {
+        for n in self.0 {
+            write!(f, " {}", n.cast_signed())?;
+        }
+        Ok(())
     }
-}
-
-pub fn numbers(out: &mut impl Write, all: &[u64]) -> io::Result<()> {
-    for n in all {
-        number(out, *n)?;
-    }
-    Ok(())
 }
 
 // A comma, and the numbers that are not 0, each after its index.
-pub fn some(out: &mut impl Write, all: &[u64]) -> io::Result<()> {
-    print(out, b",")?;
-    for i in 0..all.len() {
-        if all[i] != 0 {
-            number(out, i as u64)?;
-            print(out, b":")?;
-            number(out, all[i])?;
+#[derive(Clone, Copy)]
+pub struct Indexed<'a>(pub &'a [u64]);
+
+impl fmt::Display for Indexed<'_> {
+    fn fmt<W: fmt::Write>(&self, f: &mut fmt::Formatter<W>) -> fmt::Result {
+        write!(f, ",")?;
+        for (i, n) in self.0.iter().enumerate() {
+            if *n != 0 {
+                write!(f, " {i}: {}", n.cast_signed())?;
+            }
         }
+        Ok(())
     }
-    Ok(())
 }
 
-// A word, after a space.
-pub fn word(out: &mut impl Write, w: u64) -> io::Result<()> {
-    print(out, b" ")?;
-    hex(out, w, 16)
-}
+// The whole words of bytes, each after a space.
+#[derive(Clone, Copy)]
+pub struct Words<'a>(pub &'a [u8]);
 
-// The whole words of bytes.
-pub fn words(out: &mut impl Write, bytes: &[u8]) -> io::Result<()> {
-    for place in 0..bytes.len() / 8 {
-        word(out, rdp_words::word_at(bytes, place))?;
+impl fmt::Display for Words<'_> {
+    fn fmt<W: fmt::Write>(&self, f: &mut fmt::Formatter<W>) -> fmt::Result {
+        for place in 0..self.0.len() / 8 {
+            write!(f, " {:016x}", rdp_words::word_at(self.0, place))?;
+        }
+        Ok(())
     }
-    Ok(())
 }
 
-// An answer on a line of its own.
-pub fn answer(out: &mut impl Write, a: Answer) -> io::Result<()> {
-    write!(out, "{}", a.number)?;
-    number(out, a.place as u64)?;
-    print(out, b"\n")
+// The number of the ground, and the place.
+#[derive(Clone, Copy)]
+pub struct Refused(pub Refusal);
+
+impl fmt::Display for Refused {
+    fn fmt<W: fmt::Write>(&self, f: &mut fmt::Formatter<W>) -> fmt::Result {
+        write!(f, "{} {}", u32::from(self.0.ground), self.0.place)
+    }
+}
+
+// An answer on a line of its own: 0 and the count, or the refusal.
+pub fn answer(out: &mut impl Write, answer: Answer) -> io::Result<()> {
+    match answer {
+        Ok(count) => writeln!(out, "0 {count}"),
+        Err(refusal) => writeln!(out, "{}", Refused(refusal)),
+    }
 }
