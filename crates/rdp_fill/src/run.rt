@@ -68,6 +68,7 @@ fn write_run<const N: usize>(run: &mut [u8], pattern: &[u8])
         0..=3 => copy(run, pattern),
         4..=7 => cover::<4>(run, pattern),
         8..=15 => cover::<8>(run, pattern),
+        16..=31 => cover::<16>(run, pattern),
         len => {
             let reached = blocks::<N>(run, pattern);
             match len - reached {
