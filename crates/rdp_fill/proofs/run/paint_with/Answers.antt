@@ -9,7 +9,7 @@ loop-row-init g c = runs_none _ _ _ _ _
 
 pub loop-row-preserved : goal.loop-row-preserved
 loop-row-preserved g c =
-    let r = c.args.runs in
+    let r = c.args.runs.now in
     let k = c.loop-row.row in
     let fits = run-fits r k (length c.args.memory.now) c.requires.fit c.loop-row-test.true in
     let inside : r.from + k * r.stride + r.size ≤ length c.loop-row.memory = omega arith in
@@ -23,5 +23,5 @@ loop-row-preserved g c =
 
 pub returns : goal.returns
 returns g c =
-    let all : c.args.runs.rows ≡ c.loop-row.row = omega arith in
+    let all : c.args.runs.now.rows ≡ c.loop-row.row = omega arith in
     rw all c.loop-row.invariant

@@ -7,4 +7,4 @@ use Rattle.rdp_fill.proofs.run.paint_with.Given as goal
 
 abbrev pub invariant-loop-row : goal.invariant-loop-row
 invariant-loop-row g l =
-    l.memory ≡ overlay (in_runs l.runs.from l.runs.size l.runs.stride l.row) (λ i. color_byte l.fn.color (l.runs.start + i)) 0 l.initial.memory
+    l.memory ≡ overlay (in_runs l.from l.size l.stride l.row) (λ i. color_byte l.fn.color (l.fn.runs.start + i)) 0 l.initial.memory
