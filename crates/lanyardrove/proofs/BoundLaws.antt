@@ -2,7 +2,7 @@
 use Prim.Native.Nat.{ℕ, ◌%◌, ◌^◌, ◌<◌, ◌≤◌, min}
 use mathlib.Core.Bool.{Bool, true, false, cond, not}
 use mathlib.Core.List.{List}
-use mathlib.Core.Path.{◌≡◌, refl, ◌∙◌, ap}
+use mathlib.Core.Path.{◌≡◌, refl}
 use native.Mathlib.Nat.{mod-lt}
 use native.Mathlib.Omega.{arith}
 use lib.Dec.{eqb, lit<}
@@ -20,7 +20,7 @@ use Rattle.rdp_encode.proofs.BoundLaws.{fields-decoded, fields-most, fields-plac
 use Rattle.rdp_hazards.specs.Hazards.{required_of}
 use Rattle.rdp_hazards.proofs.HazardLaws.{next_small, required-most}
 use Rattle.rdp_check.specs.Check.{check_refusals, check_of}
-use Rattle.rdp_repair.specs.declared.Repaired.{Repaired}
+use Rattle.rdp_repair.specs.Repair.{Repaired}
 use Rattle.rdp_index.specs.Index.{ask_of}
 use Rattle.rdp_draw.specs.Draw.{draw_answer}
 use Rattle.rdp_check.proofs.BoundLaws.{check_numbers, check-numbers, among_below, place-most}
@@ -30,9 +30,8 @@ use Rattle.rdp_draw.proofs.BoundLaws.{draw_numbers, draw-numbers, draw-place}
 use Rattle.rdp_view.specs.View.{Framebuffer}
 use Rattle.rdp_view.proofs.ViewLaws.{view-bounds}
 use Rattle.rdp_stream.proofs.StreamLaws.{Near, fed-near, closed-near, fed-told, closed-told}
-use Rattle.rdp_stream.specs.declared.Fed.{Fed}
-use Rattle.rdp_stream.specs.Records.{fed_of, closed_of}
-use Rattle.lanyardrove.specs.Replies.{Reply, reply, packed, unpacked, plain, step_reply, check_reply, repair_reply, draw_reply, view_reply, decoded_reply, decode_reply, made_reply, encode_reply, told_reply, Occurs, of_step, of_check, of_repair, of_afresh, of_draw, of_view, of_decode, of_encode, of_feed, of_close, lent_part, translate_reply, of_translate, ask_reply, of_build, of_ask, of_replace, compare_reply, of_compare, rest_reply, of_rest}
+use Rattle.rdp_stream.specs.Records.{Fed, fed_of, closed_of}
+use Rattle.lanyardrove.specs.Replies.{Reply, packed, unpacked, plain, step_reply, check_reply, repair_reply, draw_reply, view_reply, decoded_reply, decode_reply, made_reply, encode_reply, told_reply, Occurs, of_step, of_check, of_repair, of_afresh, of_draw, of_view, of_decode, of_encode, of_feed, of_close, lent_part, translate_reply, of_translate, ask_reply, of_build, of_ask, of_replace, compare_reply, of_compare, rest_reply, of_rest}
 use Rattle.f3dex2.proofs.BoundLaws.{answer-bounds}
 use Rattle.rdp_compare.specs.Part.{rest_start}
 use Rattle.rdp_compare.proofs.BoundLaws.{compare-bounds, rest-number}
@@ -164,13 +163,3 @@ small (of_rest first second room) = rest-small first second room
 -- and so the parts that are read back are the answer's, and the packed number is one of 64 bits
 pub replies-kept : {r : Reply} → Occurs r → (unpacked (packed r) ≡ r) × (packed r < 2 ^ 64)
 replies-kept {r} o = (unpacked-packed r (small o), packed-fits r (small o))
-
--- what is told of a call, by its number, its cycles and its place
-pub told :
-    (x y : Fed) (third : ℕ) → third ≡ cond (eqb x.answer.number 28) 0 x.after.waited → x ≡ y →
-    reply x.answer.number third x.answer.place ≡ told_reply y
-told x y third is e = ap (λ (t : ℕ). reply x.answer.number t x.answer.place) is ∙ ap told_reply e
-
--- what `pack` requires
-pub packs : (r : Reply) {s : Reply} → r ≡ s → Occurs s → (r.number < 2 ^ 8) × (r.third < 2 ^ 24)
-packs r e o = rw e ((small o).number, (small o).third)

@@ -20,6 +20,7 @@ use Rattle.rdp_view.specs.View.{Framebuffer, view_answer}
 use Rattle.rdp_stream.specs.Records.{fed_of, closed_of}
 use Rattle.rdp_stream.specs.declared.Stream.{Stream}
 use Rattle.rdp_stream.specs.Records.{Fed}
+use Rattle.lanyardrove.specs.declared.Packed.{Packed}
 use Rattle.f3dex2.specs.Translate.{translate_answer, translate_out}
 use Rattle.rdp_compare.specs.Entries.{compare_answer}
 use Rattle.rdp_compare.specs.Part.{rest_start}
@@ -69,10 +70,6 @@ abbrev pub close_reply : Stream → Reply
 close_reply r = told_reply (closed_of r)
 
 -- with the record after it
-pub record Packed : Type 0 where
-  pub after : Stream
-  pub answer : ℕ
-
 abbrev pub fed_packed : Stream → List ℕ → Packed
 fed_packed r portion = record { after = (fed_of r portion).after; answer = packed (feed_reply r portion) }
 

@@ -84,6 +84,38 @@ fn third_of_record(answer: Answer, waited: u32) -> u32
     }
 }
 
+// A record after a call, and the call's answer as one number.
+#[derive(Clone, Copy)]
+pub struct Packed {
+    pub after: Stream,
+    pub answer: u64,
+}
+
+// A portion fed to a record by value, since of a lent record nothing is known of the fields that are not read.
+fn feed_packed(before: Stream, portion: &[u8]) -> Packed
+    ensures { result ≡ fed_packed before portion.now }
+{
+    let fed = rdp_stream::feed_value(before, portion);
+    let after = fed.after;
+    let third = third_of_record(fed.answer, after.waited);
+    let answer = pack_answer(fed.answer, third);
+    Packed { after, answer }
+}
+
+// The closing of a record by value.
+fn close_packed(before: Stream) -> Packed
+    ensures { result ≡ closed_packed before }
+{
+    let closed = rdp_stream::close_value(before);
+    let left = closed.after;
+    let cycles = third_of_record(closed.answer, left.waited);
+    let answer = pack_answer(closed.answer, cycles);
+    Packed {
+        after: left,
+        answer,
+    }
+}
+
 // Takes a portion of a list into the caller's record, where it stands: 0 and the words of the commands accepted so far, or the refusal that the record
 // remembers from then on, 1, or 4 to 9 or 19 at a command; 28 at 0 where the record is damaged. The third number is the cycles that the commands accepted
 // have waited.
@@ -91,8 +123,9 @@ fn third_of_record(answer: Answer, waited: u32) -> u32
 pub extern "C" fn lanyardrove_stream_feed(lent: &mut Stream, portion: &[u8]) -> u64
     ensures { (result ≡ (fed_packed lent.old portion.now).answer) × (lent.new ≡ (fed_packed lent.old portion.now).after) }
 {
-    let answer = rdp_stream::feed(lent, portion);
-    pack_answer(answer, third_of_record(answer, lent.waited))
+    let both = feed_packed(*lent, portion);
+    *lent = both.after;
+    both.answer
 }
 
 // Closes the list of the caller's record: 0 and its words, or the refusal that the record remembers, 2, 3 or an earlier one; 28 at 0 where the record is
@@ -101,8 +134,9 @@ pub extern "C" fn lanyardrove_stream_feed(lent: &mut Stream, portion: &[u8]) -> 
 pub extern "C" fn lanyardrove_stream_close(lent: &mut Stream) -> u64
     ensures { (result ≡ (closed_packed lent.old).answer) × (lent.new ≡ (closed_packed lent.old).after) }
 {
-    let answer = rdp_stream::close(lent);
-    pack_answer(answer, third_of_record(answer, lent.waited))
+    let both = close_packed(*lent);
+    *lent = both.after;
+    both.answer
 }
 
 // What a sync adds to its code where it is missing.

@@ -1,0 +1,28 @@
+-- `lanyardrove::feed_packed` meets its contract: the answer is packed, and the record is handed on. Assumes nothing.
+use Rattle.std.proofs.Common.{◌≡◌, ◌<◌, ◌^◌, cond, length, ap, ◌∙◌, rules}
+use Rattle.std.specs.Prelude.{eqb}
+use Rattle.rdp_stream.specs.Records.{Fed, fed_of}
+use Rattle.lanyardrove.specs.Replies.{told_reply, of_feed}
+use Rattle.lanyardrove.proofs.BoundLaws.{small}
+use Rattle.lanyardrove.proofs.ReplyLaws.{told-of}
+use Rattle.lanyardrove.proofs.feed_packed.Goals.{After-third_of_record-third}
+use Rattle.lanyardrove.proofs.feed_packed.Goals as goal
+
+-- the third number, by the record after the call
+third : (c : After-third_of_record-third) → c.third_of_record-third.result ≡ (told_reply (fed_of c.args.before c.args.portion.now)).third
+third c = c.third_of_record-third.ensures ∙ ap (λ (x : Fed). cond (eqb x.answer.number 28) 0 x.after.waited) c.feed_value-fed.ensures
+
+pub pack_answer-answer-requires : goal.pack_answer-answer-requires
+pack_answer-answer-requires c =
+    let r = c.args.before in
+    let long : length r.held ≡ 176 = search (rules, c.well_formed.0.1.1.1.0) in
+    let near : r.place < 2 ^ 32 = search (rules, c.well_formed.0.1.1.1.1.1.1.1.0) in
+    rw (third c) (small (of_feed r long near c.args.portion.now)).third
+
+pub returns : goal.returns
+returns c =
+    let e = c.feed_value-fed.ensures in
+    λ i. record {
+      after = (e i).after;
+      answer = (c.pack_answer-answer.ensures ∙ told-of (third (goal.at.returns c).After-third_of_record-third) e) i;
+    }
