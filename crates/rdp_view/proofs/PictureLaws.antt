@@ -1,8 +1,5 @@
 -- The second repair leaves the picture as it is: the other commands are the same, and a sync is no act and leaves the registers. Assumes nothing.
-use Prim.Native.Nat.{ℕ, ◌*◌}
-use mathlib.Core.List.{List, [], ◌∷◌}
-use mathlib.Core.Path.{◌≡◌, sym, ap, ap₂, ◌∙◌}
-use lib.ListN.{take}
+use Rattle.std.proofs.Common.{ℕ, ◌*◌, List, [], ◌∷◌, ◌≡◌, sym, ap, ap₂, ◌∙◌, take}
 use Rattle.rdp_words.specs.Lengths.{first_number}
 use Rattle.rdp_command.specs.Decode.{decode_of}
 use Rattle.rdp_check.specs.Commands.{commands_of}
@@ -10,7 +7,7 @@ use Rattle.rdp_check.specs.Registers.{no_registers, after_decoded}
 use Rattle.rdp_check.specs.Check.{outcome_of}
 use Rattle.rdp_check.specs.declared.Registers.{Registers}
 use Rattle.rdp_repair.specs.Afresh.{others, LeastAfresh, AfreshIs}
-use Rattle.rdp_repair.specs.declared.Repaired.{Repaired}
+use Rattle.rdp_repair.specs.Repair.{Repaired}
 use Rattle.rdp_repair.proofs.AfreshLaws.{SyncCase, sync, other, sync-case, is-sync, others-none, others-drop, others_keep, sync-registers}
 use Rattle.rdp_draw.specs.Draw.{Act, Memories, act_of_decoded}
 use Rattle.rdp_draw.proofs.ActLaws.{with_alone, acts_among, sync-silent, same_number, same-memories}

@@ -1,21 +1,10 @@
 -- The viewer's refusals, and its answers. Assumes nothing.
-use mathlib.Core.Path.{◌≡◌, ap, ◌∙◌}
-use mathlib.Core.Bool.{true, false, ◌||◌}
-use mathlib.Core.List.{List}
-use Prim.Native.Nat.{ℕ, ◌+◌, ◌*◌, ◌-◌, ◌<◌, ◌≤◌}
-use native.Mathlib.Nat.{mul-le-mul}
-use native.Mathlib.Omega.{arith}
-use borrow.Author.Tests.{lt-ltb, le-ltb, ltb-true, ltb-false, ne_eqb}
-use lib.Dec.{eqb, ltb, lit≤}
-use lib.ListN.{length, take, drop, length-drop}
-use lib.Seq.{take_all}
+use Rattle.std.proofs.Common.{◌≡◌, ap, ◌∙◌, true, false, ◌||◌, List, ℕ, ◌*◌, ◌-◌, ◌<◌, ◌≤◌, mul-le-mul, arith, lt-ltb, le-ltb, ltb-false, ne_eqb, eqb, ltb, lit≤, length, take, drop, length-drop, take_all}
 use Rattle.rdp_words.specs.Words.{overwrite}
 use Rattle.rdp_words.proofs.Tests.{by-test, neither}
 use Rattle.rdp_words.specs.Grounds.{Answer}
 use Rattle.rdp_command.specs.Decode.{answer}
 use Rattle.rdp_view.specs.View.{pixel_bytes, pixels, unfit, unviewable, image_outside, Framebuffer, pixel_count, view_grounds, view_answer, view_out}
-use Rattle.rdp_view.specs.Steps.{Enough}
-use Rattle.rdp_view.proofs.PixelLaws.{enough}
 
 -- ---- 27
 
@@ -34,40 +23,19 @@ area-most width height w h = mul-le-mul w h
 
 -- ---- 12
 
-module _ (start len address bytes : ℕ) where
-  pub before-start : address < start → true ≡ image_outside start len address bytes
-  before-start h = rw (lt-ltb _ _ h)
+-- the same image's bytes
+pub same-outside : (start len : ℕ) {a a' n n' s s' : ℕ} → a ≡ a' → n ≡ n' → s ≡ s'
+    → image_outside start len a (n * pixel_bytes s) ≡ image_outside start len a' (n' * pixel_bytes s')
+same-outside start len ea en es = λ i. image_outside start len (ea i) (en i * pixel_bytes (es i))
 
-  module _ (after : start ≤ address) where
-    pub too_long : len < bytes → true ≡ image_outside start len address bytes
-    too_long h =
-        let past : start + len < address + bytes = omega arith in
-        rw (le-ltb _ _ after, lt-ltb _ _ past)
-
-    pub by-distance : bytes ≤ len → ltb (len - bytes) (address - start) ≡ image_outside start len address bytes
-    by-distance h =
-        by-test (ltb (len - bytes) (address - start))
-        (λ t.
-        let past : start + len < address + bytes = omega (arith, ltb-true (len - bytes) (address - start) t) in
-        rw (t, le-ltb _ _ after, lt-ltb _ _ past))
-        (λ f.
-        let inside : address + bytes ≤ start + len = omega (arith, ltb-false (len - bytes) (address - start) f) in
-        rw (f, le-ltb _ _ after, le-ltb _ _ inside))
-
-  -- where it is inside, so is what the pixels are read from
-  module _ (f : image_outside start len address bytes ≡ false) where
-    pub inside-start : start ≤ address
-    inside-start = ltb-false address start (neither (ltb address start) (ltb (start + len) (address + bytes)) f).0
-
-    within : address + bytes ≤ start + len
-    within = ltb-false (start + len) (address + bytes) (neither (ltb address start) (ltb (start + len) (address + bytes)) f).1
-
-    pub inside-end : address - start + bytes ≤ len
-    inside-end = omega (arith, inside-start, within)
-
--- the part of memory from an index on
-pub from-part : (a : ℕ) (xs : List ℕ) → take (length xs - a) (drop a xs) ≡ drop a xs
-from-part a xs = take_all (length xs - a) (drop a xs) (omega (arith, length-drop a xs))
+-- the same pixels, out of memory from an index on
+pub same-pixels : (memory out : List ℕ) (start : ℕ) {a a' n n' s s' from : ℕ} → a ≡ a' → n ≡ n' → s ≡ s' → from ≡ a - start
+    → overwrite (pixels s n (take (length memory - from) (drop from memory))) out ≡ overwrite (pixels s' n' (drop (a' - start) memory)) out
+same-pixels memory out start {from = from} ea en es place =
+    let part : take (length memory - from) (drop from memory) ≡ drop from memory =
+    take_all (length memory - from) (drop from memory) (omega (arith, length-drop from memory)) in
+    let there : from ≡ _ - start = place ∙ ap (λ (x : ℕ). x - start) ea in
+    λ i. overwrite (pixels (es i) (en i) ((part ∙ ap (λ (x : ℕ). drop x memory) there) i)) out
 
 -- ---- the answers
 
@@ -110,9 +78,6 @@ module _ (memory : List ℕ) (start : ℕ) (i : Framebuffer) (out : List ℕ) wh
           Replies (answer 0 needed) out'
       unfolding view_grounds view_out
       viewed h out' is = record { answers = rw (fit, inside, le-ltb _ _ h); leaves = rw (fit, inside, le-ltb _ _ h) is }
-
-      pub pixels-there : Enough i.size (pixel_count i) (drop (i.address - start) memory)
-      pixels-there = enough i.size (pixel_count i) (drop (i.address - start) memory) (omega (arith, inside-end start len i.address bytes inside, length-drop (i.address - start) memory))
 
 -- ---- how large the parts of an answer are
 

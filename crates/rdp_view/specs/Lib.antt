@@ -1,3 +1,3 @@
 pub mod View
 pub mod Picture
-pub mod Steps
+pub mod Sizes

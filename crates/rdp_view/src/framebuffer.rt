@@ -1,6 +1,57 @@
-// What refuses an image: its sides and size, and its place in memory.
-ghost use Rattle.std.specs.Prelude.{◌≡◌, ◌*◌, ◌≤◌};
+// An image in memory, and what refuses it: its sides and size, and its place in memory.
+ghost use Rattle.std.specs.Prelude.{◌≡◌, ◌*◌, ◌-◌, ◌≤◌, true, false, MatchOption, MatchResult};
+ghost use Rattle.rdp_view.specs.Sizes.{size_number, no_size};
 ghost use Rattle.rdp_view.specs.View.{pixel_bytes, unfit, unviewable, image_outside};
+
+// The sizes of pixels that are shown, by their bits.
+#[derive(Clone, Copy)]
+pub enum PixelSize {
+    Eight,
+    Sixteen,
+    ThirtyTwo,
+}
+
+// Of a number that is no such size.
+#[derive(Clone, Copy)]
+pub struct NoSize;
+
+impl TryFrom<u32> for PixelSize {
+    type Error = NoSize;
+
+    ghost try_from_gives = { λ number result. MatchResult result (λ s. size_number s ≡ number) (λ _. no_size number ≡ true) };
+
+    fn try_from(number: u32) -> Result<PixelSize, NoSize> {
+        match number {
+            1 => Ok(PixelSize::Eight),
+            2 => Ok(PixelSize::Sixteen),
+            3 => Ok(PixelSize::ThirtyTwo),
+            _ => Err(NoSize),
+        }
+    }
+}
+
+impl PixelSize {
+    // The bytes of a pixel.
+    pub fn bytes(self) -> usize
+        ensures { (result ≡ pixel_bytes (size_number self)) × (result ≤ 4) }
+    {
+        match self {
+            PixelSize::Eight => 1,
+            PixelSize::Sixteen => 2,
+            PixelSize::ThirtyTwo => 4,
+        }
+    }
+}
+
+// An image with sides of 1 to 1,024 pixels.
+#[derive(Clone, Copy)]
+pub struct Framebuffer {
+    pub address: u64,
+    // The pixels of all rows.
+    pub count: usize,
+    pub size: PixelSize,
+    ghost few: { count ≤ 0x100000 },
+}
 
 // A width or height that is 0 or above 1,024.
 fn is_unfit(side: u32) -> bool
@@ -9,44 +60,34 @@ fn is_unfit(side: u32) -> bool
     (side == 0) | (1024 < side)
 }
 
-// 27: width, height or size number is none.
-pub fn is_unviewable(width: u32, height: u32, size: u32) -> bool
-    ensures { result ≡ unviewable width height size }
-{
-    (is_unfit(width) | is_unfit(height)) | ((size == 0) | (3 < size))
-}
+impl Framebuffer {
+    // None where the width, the height or the size number is none: 27.
+    pub fn of(address: u64, width: u32, height: u32, size: u32) -> Option<Framebuffer>
+        ensures { MatchOption result (unviewable width height size ≡ true)
+            (λ f. (unviewable width height size ≡ false) × (f.address ≡ address) × (f.count ≡ width * height) × (size_number f.size ≡ size)) }
+    {
+        if is_unfit(width) | is_unfit(height) {
+            return None;
+        }
+        let size = PixelSize::try_from(size).ok()?;
+        Some(Framebuffer {
+            address,
+            count: width as usize * height as usize,
+            size,
+        })
+    }
 
-// The pixels of an image.
-pub fn pixel_count(width: u32, height: u32) -> usize
-    requires { (width ≤ 1024) × (height ≤ 1024) }
-    ensures { (result ≡ width * height) × (result ≤ 0x100000) }
-{
-    width as usize * height as usize
-}
-
-// The bytes of so many pixels.
-pub fn image_bytes(count: usize, size: u32) -> usize
-    requires { count ≤ 0x100000 }
-    ensures { result ≡ count * pixel_bytes size }
-{
-    if size == 1 {
-        return count;
+    // The index of its first byte in memory of `len` bytes that starts at address `start`; None where its bytes are not all in memory: 12. No sum of addresses
+    // is made, which could be too large.
+    pub fn index_in(self, start: u64, len: usize) -> Option<usize>
+        ensures { MatchOption result (image_outside start len self.address (self.count * pixel_bytes (size_number self.size)) ≡ true)
+            (λ i. (image_outside start len self.address (self.count * pixel_bytes (size_number self.size)) ≡ false) × (i ≡ self.address - start)) }
+    {
+        let from = self.address.checked_sub(start)?;
+        let room = len.checked_sub(self.count * self.size.bytes())?;
+        if (room as u64) < from {
+            return None;
+        }
+        Some(from as usize)
     }
-    if size == 2 {
-        return count * 2;
-    }
-    count * 4
-}
-
-// 12: the bytes of the image are not all in memory. No sum of addresses is made, which could be too large.
-pub fn is_outside(start: u64, len: usize, address: u64, bytes: usize) -> bool
-    ensures { result ≡ image_outside start len address bytes }
-{
-    if address < start {
-        return true;
-    }
-    if len < bytes {
-        return true;
-    }
-    ((len - bytes) as u64) < address - start
 }

@@ -1,8 +1,10 @@
 // Pixels of 8, 16 and 32 bits as red, green, blue and alpha.
-ghost use Rattle.std.specs.Prelude.{◌≡◌, ◌+◌, ◌*◌, ◌<◌, ◌≤◌, length, drop};
+ghost use Rattle.std.specs.Prelude.{◌≡◌, ◌+◌, ◌*◌, ◌<◌, ◌≤◌, length, take};
 ghost use Rattle.rdp_words.specs.Words.{overwrite};
+ghost use Rattle.rdp_view.specs.Sizes.{size_number};
 ghost use Rattle.rdp_view.specs.View.{pixel_bytes, channel, of_sixteen, rgba, pixels};
-ghost use Rattle.rdp_view.specs.Steps.{Enough};
+
+use crate::framebuffer::PixelSize;
 
 // A five-bit channel as eight bits.
 fn wide(v: u8) -> u8
@@ -22,50 +24,38 @@ fn of_sixteen(high: u8, low: u8) -> [u8; 4]
     [red, green, blue, low % 2 * 255]
 }
 
-// The pixel that begins at an index.
-fn pixel_at(image: &[u8], at: usize, size: u32) -> [u8; 4]
-    requires { at + pixel_bytes size ≤ length image.now }
-    ensures { result ≡ rgba size (drop at image.now) }
+// The pixel that bytes begin with.
+#[tactic(auto, unfolding(crate::specs::View::rgba))]
+fn first_pixel(image: &[u8], size: PixelSize) -> [u8; 4]
+    requires { pixel_bytes (size_number size) ≤ length image.now }
+    ensures { result ≡ rgba (size_number size) image.now }
 {
-    let first = image[at];
-    if size == 1 {
-        return [first, first, first, 255];
+    match size {
+        PixelSize::Eight => [image[0], image[0], image[0], 255],
+        PixelSize::Sixteen => of_sixteen(image[0], image[1]),
+        PixelSize::ThirtyTwo => [image[0], image[1], image[2], image[3]],
     }
-    let second = image[at + 1];
-    if size == 2 {
-        return of_sixteen(first, second);
-    }
-    [first, second, image[at + 2], image[at + 3]]
 }
 
-// The bytes of a pixel.
-fn pixel_bytes(size: u32) -> usize
-    ensures { result ≡ pixel_bytes size }
+// Writes a pixel. The method `copy_from_slice` compares the two addresses, which takes longer.
+fn put(part: &mut [u8], pixel: [u8; 4])
+    requires { length part.old ≡ 4 }
+    ensures { part.new ≡ take 4 pixel }
 {
-    if size == 1 {
-        return 1;
+    for (i, byte) in part.iter_mut().enumerate() {
+        *byte = pixel[i];
     }
-    if size == 2 {
-        return 2;
-    }
-    4
 }
 
 // Writes so many pixels of an image to the front of the output.
-pub fn write(image: &[u8], size: u32, count: usize, out: &mut [u8])
-    requires { Enough size count image.now × (4 * count ≤ length out.old) }
-    ensures { out.new ≡ overwrite (pixels size count image.now) out.old }
+pub fn write(image: &[u8], size: PixelSize, count: usize, out: &mut [u8])
+    requires { (count * pixel_bytes (size_number size) ≤ length image.now) × (4 * count ≤ length out.old) }
+    ensures { out.new ≡ overwrite (pixels (size_number size) count image.now) out.old }
 {
-    let step = pixel_bytes(size);
-    let mut left = count;
-    let mut at: usize = 0;
-    let mut to: usize = 0;
-    while 0 < left {
-        let pixel = pixel_at(image, at, size);
-        let end = to + 4;
-        rdp_words::copy(&mut out[to..end], &pixel);
-        at += step;
-        to = end;
-        left -= 1;
+    let step = size.bytes();
+    for k in 0..count {
+        let pixel = first_pixel(&image[step * k..], size);
+        let to = 4 * k;
+        put(&mut out[to..to + 4], pixel);
     }
 }

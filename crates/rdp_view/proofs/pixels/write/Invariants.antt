@@ -1,9 +1,9 @@
--- `rdp_view::pixels::write` meets its contract: what is written and what is due make the whole. Assumes nothing.
-use Rattle.rdp_view.proofs.PixelLaws.{Viewing}
+-- After k turns the first k pixels are written. Assumes nothing.
+use Rattle.std.proofs.Common.{◌≡◌}
+use Rattle.rdp_words.specs.Words.{overwrite}
+use Rattle.rdp_view.specs.Sizes.{size_number}
+use Rattle.rdp_view.specs.View.{pixels}
 use Rattle.rdp_view.proofs.pixels.write.Given as goal
 
-abbrev pub invariant-loop-left : goal.invariant-loop-left
-invariant-loop-left l = Viewing l.size l.count l.step l.image l.initial.out l.out l.left l.at l.to
-
-abbrev pub decreases-loop-left : goal.decreases-loop-left
-decreases-loop-left l = l.left
+abbrev pub invariant-loop-k : goal.invariant-loop-k
+invariant-loop-k l = l.out ≡ overwrite (pixels (size_number l.size) l.k l.image) l.initial.out
