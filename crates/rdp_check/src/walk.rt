@@ -94,7 +94,7 @@ pub struct Caused {
     pub cause: usize,
 }
 
-// 7, 8 or 9 where a sync is required: 1 Load, 2 Tile, 3 Pipe, as the table has it.
+// 7, 8 or 9 where a sync is required: 1 Load, 2 Tile, 3 Pipe, since the table of document 01 has numbers.
 fn missing(required: u8) -> Option<Ground>
     requires { required ≤ 3 }
     ensures { number_if result ≡ missing required }
@@ -276,6 +276,7 @@ fn walk(table: &StepTable, list: &[u8], words: usize, view: View, strict: bool) 
     let mut watched = watched_of(rest);
     let clear = clear_below(strict);
     let mut at: usize = 0;
+    // No range has a command's own length as its step, and `Commands` ends at a cut command where this loop answers 3 with what is carried there.
     while at < words {
         let head = rdp_command::head_at(list, at);
         let number = head.number;
@@ -340,7 +341,8 @@ fn unjudged(ground: Ground, place: usize, words: usize) -> Refused
     }
 }
 
-// The first refusal of a list that may have so many words, with its cause: 1 and 2 of the list, then those of its commands.
+// The first refusal of a list that may have so many words, with its cause: 1 and 2 of the list, then those of its commands. `strict` is a flag and no closure:
+// one walk serves both checks, and a closure would be called at each command.
 pub fn check_within(list: &[u8], most: usize, strict: bool) -> Result<Accepted, Refused>
     requires { most ≤ 4096 }
     ensures { checked_in list.now result ≡ checked list.now (outcome_within most (refusals_by strict) list.now) }

@@ -1,4 +1,6 @@
 // The step of the hazards as a table: sixteen hazard states by sixty-four command numbers.
+ghost use Rattle.rdp_hazards.specs.Hazards.{Agrees};
+
 use crate::StepTable;
 
 // At 16 * number + hazards: the next hazards, 16 where a sync is missing, and 32 times the sync required. Each line names its number.
@@ -69,6 +71,8 @@ const STEP: [u8; 1024] = [
     0, 113, 2, 115, 4, 117, 6, 119, 8, 121, 10, 123, 12, 125, 14, 127, // 0x3F
 ];
 
-pub fn step_table() -> StepTable {
+pub fn step_table() -> StepTable
+    ensures { Agrees result.entries }
+{
     StepTable { entries: STEP }
 }
