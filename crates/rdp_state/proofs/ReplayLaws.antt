@@ -1,11 +1,10 @@
 -- The registers after the commands of a list, as the loop of the replay meets them and as the outcome has them. Assumes nothing.
-use Rattle.std.proofs.Common.{Bool, not, ◌||◌, List, [], ◌∷◌, ◌≡◌, refl, sym, ap, ◌∙◌, ℕ, zero, suc, ◌+◌, ◌*◌, ◌-◌, ◌/◌, ◌%◌, ◌≤◌, ◌<◌, le_refl, arith, lt-ltb, le-ltb, T, eqb, ltb, length, drop, replicate, Result, Ok, Err}
-use Rattle.rdp_words.specs.Words.{word_at, number_in}
+use Rattle.std.proofs.Common.{Bool, not, ◌||◌, List, [], ◌∷◌, ◌≡◌, refl, sym, ap, ◌∙◌, ℕ, zero, suc, ◌+◌, ◌*◌, ◌%◌, ◌≤◌, ◌<◌, le_refl, arith, lt-ltb, le-ltb, T, eqb, ltb, length, replicate, Result, Ok, Err}
+use Rattle.rdp_words.specs.Words.{word_at}
 use Rattle.rdp_words.specs.Kinds.{words_of}
 use Rattle.rdp_words.specs.Lengths.{first_number}
 use Rattle.rdp_words.proofs.Tests.{by-test, false_of}
-use Rattle.rdp_words.proofs.KindLaws.{words-most}
-use Rattle.rdp_check.specs.Commands.{commands_of, rest_of}
+use Rattle.rdp_check.specs.Commands.{commands_of, rest_of, words_in}
 use Rattle.rdp_check.specs.Registers.{no_registers}
 use Rattle.rdp_check.specs.Check.{State, start, after_command, Refusals, own_refusals, sync_refusals, check_refusals, refusal_at, Judgement, settle, judge, judge_list, outcome_within, checked_in, check_of}
 use Rattle.rdp_state.specs.RegisterWords.{words_after, registers_in}
@@ -15,9 +14,8 @@ use Rattle.rdp_check.specs.declared.Registers.{Registers}
 use Rattle.rdp_check.specs.declared.Accepted.{Accepted}
 use Rattle.rdp_check.specs.declared.Refused.{Refused}
 use Rattle.rdp_words.specs.Grounds.{Answer}
-use Rattle.rdp_words.proofs.PlaceLaws.{number_small, some_words}
-use Rattle.rdp_check.proofs.ListLaws.{commands-at, command-number, command-word, commands-past}
-use Rattle.rdp_check.proofs.JoinLaws.{command-some}
+use Rattle.rdp_words.proofs.PlaceLaws.{number_small}
+use Rattle.rdp_check.proofs.JoinLaws.{command-some, words_inside}
 use Rattle.rdp_check.proofs.AppendLaws.{judge-from}
 use Rattle.rdp_check.proofs.OrderLaws.{all_give}
 use Rattle.rdp_check.proofs.FirstLaws.{judge-gives}
@@ -25,81 +23,53 @@ use Rattle.rdp_state.proofs.RegisterLaws.{none-set, registers-up-to}
 
 -- ---- the loop
 
--- what holds at the head of the loop: the words after what is left are those after the list, and so are the cycles waited
-pub record Replayed (list : List ℕ) (end words : ℕ) (before : List ℕ) (waits : ℕ) (file : List ℕ) (waited at : ℕ) : Type 0 where
-  pub count : words ≡ length list / 8
-  pub within : at ≤ words
-  pub same : words_up_to end at file (commands_of (drop (8 * at) list)) ≡ words_up_to end 0 before (commands_of list)
-  pub sums : waited_up_to end at waited (commands_of (drop (8 * at) list)) ≡ waited_up_to end 0 waits (commands_of list)
+-- what holds at the head of the loop: the words after the commands that are left are those after the list, and so are the cycles waited
+pub record Replayed (list : List ℕ) (end : ℕ) (before : List ℕ) (waits : ℕ) (rest file : List ℕ) (waited at : ℕ) : Type 0 where
+  pub within : at + words_in (commands_of rest) ≡ words_in (commands_of list)
+  pub same : words_up_to end at file (commands_of rest) ≡ words_up_to end 0 before (commands_of list)
+  pub sums : waited_up_to end at waited (commands_of rest) ≡ waited_up_to end 0 waits (commands_of list)
 
 -- what the loop leaves
 abbrev Leaves : List ℕ → ℕ → List ℕ → ℕ → List ℕ → ℕ → Type 0
 Leaves list end before waits file waited =
     (file ≡ words_up_to end 0 before (commands_of list)) × (waited ≡ waited_up_to end 0 waits (commands_of list))
 
-pub first :
-    (list : List ℕ) (end words : ℕ) (file : List ℕ) (waits : ℕ) → words ≡ length list / 8 → Replayed list end words file waits file waits 0
-first list end words file waits e = record { count = e; within = omega arith; same = refl; sums = refl }
+pub first : (list : List ℕ) (end : ℕ) (file : List ℕ) (waits : ℕ) → Replayed list end file waits list file waits 0
+first list end file waits = record { within = omega arith; same = refl; sums = refl }
 
 pub still : {A : Type 0} (after : A → List ℕ → A) (end at : ℕ) (a : A) (cs : List (List ℕ)) → end ≤ at → up_to after end at a cs ≡ a
 unfolding up_to
 still after end at a [] h = refl
 still after end at a (c ∷ cs) h = rw (le-ltb _ _ h)
 
-module _ {list : List ℕ} {end words : ℕ} {before : List ℕ} {waits : ℕ} {file : List ℕ} {waited at : ℕ} (v : Replayed list end words before waits file waited at) where
+module _ {list : List ℕ} {end : ℕ} {before : List ℕ} {waits : ℕ} {rest file : List ℕ} {waited at : ℕ} (v : Replayed list end before waits rest file waited at) where
   pub ended : end ≤ at → Leaves list end before waits file waited
-  ended h = (
-    sym (still storing end at file (commands_of (drop (8 * at) list)) h) ∙ v.same,
-    sym (still adding end at waited (commands_of (drop (8 * at) list)) h) ∙ v.sums,
-  )
+  ended h = (sym (still storing end at file (commands_of rest) h) ∙ v.same, sym (still adding end at waited (commands_of rest) h) ∙ v.sums)
 
-  -- a turn at a command with a number
-  module _ (more : at < end) (n : ℕ) (is : n ≡ number_in (word_at list at)) (count : ℕ) (long : count ≡ words_of n) where
-    pub few : count ≤ 22
-    few = rw (long, is) (words-most _ (number_small (word_at list at)))
+  pub past : commands_of rest ≡ [] → Leaves list end before waits file waited
+  unfolding up_to
+  past none = (ap (words_up_to end at file) (sym none) ∙ v.same, ap (waited_up_to end at waited) (sym none) ∙ v.sums)
 
-    low : n % 64 ≡ n
-    low = let h : n < 64 = rw is (number_small (word_at list at)) in omega arith
+  -- a turn at a command
+  module _ (c rest' : List ℕ) (steps : commands_of rest ≡ c ∷ commands_of rest') where
+    all-words : at + (words_of (first_number c) + words_in (commands_of rest')) ≡ words_in (commands_of list)
+    all-words = ap (λ (cs : List (List ℕ)). at + words_in cs) (sym steps) ∙ v.within
 
-    pub past : words < at + count → Leaves list end before waits file waited
-    unfolding up_to
-    past h =
-        let short : length list / 8 < at + words_of n = omega (arith, v.count) in
-        (rw (← v.same, commands-past list at n is short), rw (← v.sums, commands-past list at n is short))
+    pub few : at + words_of (first_number c) ≤ length list
+    few = omega (arith, all-words, words_inside list)
 
-    pub falls : at + count ≤ words → words - (at + count) < words - at
-    falls h = omega (arith, some_words list at n is)
+    low : first_number c % 64 ≡ first_number c
+    low = let h : first_number c < 64 = number_small (word_at c 0) in omega arith
 
     pub again :
-        at + count ≤ words → (w : ℕ) → w ≡ word_at list at → (file' : List ℕ) → file' ≡ words_after file (n % 64) w → (waited' : ℕ) →
-        waited' ≡ waited_after waited n → Replayed list end words before waits file' waited' (at + count)
+        at < end → (file' : List ℕ) → file' ≡ words_after file (first_number c % 64) (word_at c 0) → (waited' : ℕ) →
+        waited' ≡ waited_after waited (first_number c) → Replayed list end before waits rest' file' waited' (at + words_of (first_number c))
     unfolding up_to
-    again h w is-w file' is-file waited' is-waited =
-        let inside : at + words_of n ≤ length list / 8 = omega (arith, v.count) in
+    again more file' is-file waited' is-waited =
         record {
-          count = v.count;
-          within = h;
-          same =
-              rw (
-                ← v.same,
-                is-file,
-                low,
-                is-w,
-                long,
-                commands-at list at n is inside,
-                lt-ltb _ _ more,
-                command-number list at n is inside,
-                command-word list at n is inside,
-              );
-          sums =
-              rw (
-                ← v.sums,
-                is-waited,
-                long,
-                commands-at list at n is inside,
-                lt-ltb _ _ more,
-                command-number list at n is inside,
-              );
+          within = omega (arith, all-words);
+          same = rw (← v.same, is-file, low, steps, lt-ltb _ _ more);
+          sums = rw (← v.sums, is-waited, steps, lt-ltb _ _ more);
         }
 
 -- ---- the registers after the loop

@@ -71,27 +71,24 @@ fn wait_of(number: u8) -> u32
     }
 }
 
-// What the commands of a list that begin before a place leave. A `while`: a turn goes on by its command's words, and an iterator of commands costs two of some
-// fifty instructions a command more.
+// What the commands of a list that begin before a place leave.
 pub fn replay_from(file: [u64; 32], before: u32, list: &[u8], end: usize) -> Replay
     ensures { (result.words ≡ words_up_to end 0 file (commands_of list.now)) × (result.waited ≡ waited_up_to end 0 before (commands_of list.now)) }
 {
-    let words = list.len() / 8;
-    let mut q = file;
+    let mut words = file;
     let mut waited = before;
     let mut at: usize = 0;
-    while at < end {
-        let head = rdp_command::head_at(list, at);
-        let number = head.number;
-        let next = at + rdp_words::words_of(number);
-        if words < next {
-            return Replay { words: q, waited };
+    for command in Commands(list) {
+        if end <= at {
+            return Replay { words, waited };
         }
-        crate::store(&mut q, number, rdp_words::word_at(list, at));
+        let word = rdp_words::word_at(command, 0);
+        let number = rdp_words::number_in(word);
+        crate::store(&mut words, number, word);
         waited = waited.wrapping_add(wait_of(number));
-        at = next;
+        at += rdp_words::words_of(number);
     }
-    Replay { words: q, waited }
+    Replay { words, waited }
 }
 
 // The words of the registers but the tiles.
