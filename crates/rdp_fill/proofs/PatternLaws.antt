@@ -1,8 +1,8 @@
 -- Patterns of bytes that hold a colour, and what is written with them. Assumes nothing.
 use Rattle.std.proofs.Common.{◌≡◌, refl, ap, ◌∙◌, ℕ, zero, suc, ◌+◌, ◌-◌, ◌*◌, ◌/◌, ◌%◌, ◌^◌, ◌≤◌, ◌<◌, List, [], ◌∷◌, ◌++◌, length, get_or, take, drop, arith}
 use Rattle.std.proofs.Math.ListN.{get_or-append, length-drop}
-use Rattle.std.proofs.Math.Seq.{length-take-le, take_all}
-use Rattle.std.proofs.lemmas.List.{get_or-take, get_or-drop, get_or-append_right}
+use Rattle.std.proofs.Math.Seq.{length-take-le}
+use Rattle.std.proofs.lemmas.List.{take_rest, get_or-take, get_or-drop, get_or-append_right}
 use Rattle.std.proofs.Math.Numerals.{add-one}
 use Rattle.std.proofs.Math.Nat.{div-one, suc-mul, mul_comm, mul_assoc, mul-le-mul_right, div-mul-le_self, lt-div-mul-add}
 use Rattle.rdp_pixels.proofs.OverlayLaws.{split}
@@ -16,10 +16,7 @@ color-same color a b e = ap (λ (k : ℕ). color / 2 ^ (24 - 8 * k) % 256) e
 
 -- ---- parts of a list
 
--- the bytes from an index on, and the length of a part
-pub tail : (xs : List ℕ) (q : ℕ) → take (length xs - q) (drop q xs) ≡ drop q xs
-tail xs q = take_all (length xs - q) (drop q xs) (omega (arith, length-drop q xs))
-
+-- the length of a part
 pub part-size : (a e : ℕ) (m : List ℕ) → e ≤ length m → length (take (e - a) (drop a m)) ≡ e - a
 part-size a e m h = length-take-le (e - a) (drop a m) (omega (arith, length-drop a m))
 
@@ -45,7 +42,7 @@ holds-less m h l = record { byte = λ k i. h.byte k (omega arith) }
 pub holds-tail : {color at : ℕ} (pattern : List ℕ) (q : ℕ) → Holds color at pattern (length pattern)
     → Holds color (at + q) (take (length pattern - q) (drop q pattern)) (length (take (length pattern - q) (drop q pattern)))
 holds-tail {color} {at} pattern q h =
-    rw tail
+    rw take_rest
     (record {
       byte =
           λ k i.

@@ -1,5 +1,5 @@
 // The bytes of a fill's kept pixels, as runs.
-ghost use Rattle.std.specs.Prelude.{◌≡◌, ◌+◌, ◌*◌, ◌-◌, ◌≤◌};
+ghost use Rattle.std.specs.Prelude.{◌≡◌, ◌+◌, ◌*◌, ◌-◌, ◌<◌, ◌≤◌};
 ghost use Rattle.rdp_fill.specs.Fill.{bytes_per_pixel};
 ghost use Rattle.rdp_fill.specs.Runs.{runs_from, area_empty, area_inside, area_of, kept_rows, run_bytes, stride_of};
 
@@ -84,14 +84,6 @@ fn pixel_address(address: u32, width: u16, size: u8, x: u64, y: u64) -> u64
     address as u64 + bytes_of(y * across + x, size)
 }
 
-// The bytes from the first run's start to the last run's end, where so many runs follow the first.
-fn extent(later: u64, stride: u64, size: u64) -> u64
-    requires { (later ≤ 16384) × ((stride ≤ 1048576) × (size ≤ 65536)) }
-    ensures { (result ≡ later * stride + size) × (result ≤ 17179934720) }
-{
-    later * stride + size
-}
-
 impl Area {
     // The kept pixels of a fill as runs of bytes, a run for each kept row.
     pub fn of(fill: FillFields) -> Area
@@ -116,6 +108,14 @@ impl Area {
         (self.size == 0) | (self.rows == 0)
     }
 
+    // The bytes from the first run's start to the last run's end.
+    fn extent(&self) -> u64
+        requires { 0 < self.now.rows }
+        ensures { (result ≡ (self.now.rows - 1) * self.now.stride + self.now.size) × (result ≤ 17179934720) }
+    {
+        (self.rows - 1) * self.stride + self.size
+    }
+
     // Whether every run lies in `len` bytes of memory that starts at address `start`. Nothing is added to `start`, which could wrap.
     pub fn is_inside(&self, start: u64, len: usize) -> bool
         ensures { result ≡ area_inside self.now start len }
@@ -126,7 +126,7 @@ impl Area {
         if self.first < start {
             return false;
         }
-        self.first - start + extent(self.rows - 1, self.stride, self.size) <= len as u64
+        self.first - start + self.extent() <= len as u64
     }
 
     // The runs by the indices of memory that starts at an address.

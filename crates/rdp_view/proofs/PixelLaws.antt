@@ -1,7 +1,8 @@
 -- Pixels as four bytes each: by the size number, and so many of them one after the other. Assumes nothing.
-use Rattle.std.proofs.Common.{◌≡◌, refl, sym, ap, ◌∙◌, List, ◌++◌, append_assoc, append-nil, ℕ, zero, suc, ◌+◌, ◌-◌, ◌*◌, eqb, length, take, drop, length-append, length-drop, add-one, mul_comm, arith}
+use Rattle.std.proofs.Common.{◌≡◌, refl, sym, ap, ◌∙◌, List, ◌++◌, append_assoc, append-nil, ℕ, zero, suc, ◌+◌, ◌-◌, ◌*◌, eqb, length, take, drop, length-append, add-one, mul_comm, arith}
 use Rattle.std.proofs.Math.Nat.{zero-mul, suc-mul}
 use Rattle.std.proofs.Math.Seq.{drop-drop, take_all}
+use Rattle.std.proofs.lemmas.List.{take_rest}
 use Rattle.rdp_words.specs.Words.{overwrite, pasted}
 use Rattle.rdp_words.proofs.Tests.{by-test}
 use Rattle.rdp_words.proofs.OverwriteLaws.{pasted-after}
@@ -36,13 +37,11 @@ pub pixel-written : (size b k n : ℕ) (image before out part : List ℕ) → b 
     → take (4 * k) out ++ (part ++ drop n (drop (4 * k) out)) ≡ overwrite (pixels size (k + 1) image) before
 unfolding pasted overwrite
 pixel-written size b k n image before out part bytes done is four =
-    let rest : List ℕ = drop (b * k) image in
-    let left : take (length image - b * k) rest ≡ rest = take_all (length image - b * k) rest (omega (arith, length-drop (b * k) image)) in
     let place : b * k ≡ k * pixel_bytes size = mul_comm b k ∙ ap (λ (x : ℕ). k * x) bytes in
     let pixel : List ℕ = rgba size (drop (k * pixel_bytes size) image) in
     let whole : part ≡ pixel =
     is
-    ∙ ap (λ (l : List ℕ). take 4 (rgba size l)) (left ∙ ap (λ (x : ℕ). drop x image) place)
+    ∙ ap (λ (l : List ℕ). take 4 (rgba size l)) (take_rest image (b * k) ∙ ap (λ (x : ℕ). drop x image) place)
     ∙ take_all 4 pixel (omega (arith, length-rgba size (drop (k * pixel_bytes size) image))) in
     let size-is : n ≡ length pixel = four ∙ sym (length-rgba size (drop (k * pixel_bytes size) image)) in
     rw (whole, size-is)

@@ -1,5 +1,6 @@
 -- The viewer's refusals, and its answers. Assumes nothing.
-use Rattle.std.proofs.Common.{◌≡◌, ap, ◌∙◌, true, false, ◌||◌, List, ℕ, ◌*◌, ◌-◌, ◌<◌, ◌≤◌, mul-le-mul, arith, lt-ltb, le-ltb, ltb-false, ne_eqb, eqb, ltb, lit≤, length, take, drop, length-drop, take_all}
+use Rattle.std.proofs.Common.{◌≡◌, ap, ◌∙◌, true, false, ◌||◌, List, ℕ, ◌*◌, ◌-◌, ◌<◌, ◌≤◌, mul-le-mul, arith, lt-ltb, le-ltb, ltb-false, ne_eqb, eqb, ltb, lit≤, length, take, drop}
+use Rattle.std.proofs.lemmas.List.{take_rest}
 use Rattle.rdp_words.specs.Words.{overwrite}
 use Rattle.rdp_words.proofs.Tests.{by-test, neither}
 use Rattle.rdp_words.specs.Grounds.{Answer}
@@ -32,10 +33,8 @@ same-outside start len ea en es = λ i. image_outside start len (ea i) (en i * p
 pub same-pixels : (memory out : List ℕ) (start : ℕ) {a a' n n' s s' from : ℕ} → a ≡ a' → n ≡ n' → s ≡ s' → from ≡ a - start
     → overwrite (pixels s n (take (length memory - from) (drop from memory))) out ≡ overwrite (pixels s' n' (drop (a' - start) memory)) out
 same-pixels memory out start {from = from} ea en es place =
-    let part : take (length memory - from) (drop from memory) ≡ drop from memory =
-    take_all (length memory - from) (drop from memory) (omega (arith, length-drop from memory)) in
     let there : from ≡ _ - start = place ∙ ap (λ (x : ℕ). x - start) ea in
-    λ i. overwrite (pixels (es i) (en i) ((part ∙ ap (λ (x : ℕ). drop x memory) there) i)) out
+    λ i. overwrite (pixels (es i) (en i) ((take_rest memory from ∙ ap (λ (x : ℕ). drop x memory) there) i)) out
 
 -- ---- the answers
 

@@ -80,8 +80,8 @@ impl Framebuffer {
     // The index of its first byte in memory of `len` bytes that starts at address `start`; None where its bytes are not all in memory: 12. No sum of addresses
     // is made, which could be too large.
     pub fn index_in(self, start: u64, len: usize) -> Option<usize>
-        ensures { MatchOption result (image_outside start len self.address (self.count * pixel_bytes (size_number self.size)) ≡ true)
-            (λ i. (image_outside start len self.address (self.count * pixel_bytes (size_number self.size)) ≡ false) × (i ≡ self.address - start)) }
+        ensures { let outside = image_outside start len self.address (self.count * pixel_bytes (size_number self.size)) in
+            MatchOption result (outside ≡ true) (λ i. (outside ≡ false) × (i ≡ self.address - start)) }
     {
         let from = self.address.checked_sub(start)?;
         let room = len.checked_sub(self.count * self.size.bytes())?;

@@ -1,6 +1,6 @@
 -- Each way by the law of the tests that led there. Assumes nothing.
-use Rattle.std.proofs.Common.{◌≡◌, sym, ◌∙◌, false}
-use Rattle.rdp_fill.specs.Runs.{area_empty}
+use Rattle.std.proofs.Common.{◌≡◌, sym, ap, ◌∙◌}
+use Rattle.rdp_fill.specs.Runs.{Area}
 use Rattle.rdp_fill.proofs.InsideLaws.{inside-empty, inside-early, inside-late}
 use Rattle.rdp_fill.proofs.areas.Area.is_inside.Goals as goal
 
@@ -17,6 +17,6 @@ returns-then-self-start c =
 pub returns : goal.returns
 returns c =
     let s = c.args in
-    let some : area_empty s.self.now ≡ false = sym c.is_empty.ensures ∙ c.if-is_empty.false in
-    rw (← c.self.view_is)
-    (inside-late _ s.start s.len (rw (← c.self.view_is) at some) c.if-self-start.false _ c.extent.ensures.0)
+    let first : c.self.inside.first ≡ s.self.now.first = ap (λ (a : Area). a.first) c.self.view_is in
+    rw first
+    (inside-late s.self.now s.start s.len (sym c.is_empty.ensures ∙ c.if-is_empty.false) (rw first at c.if-self-start.false) _ c.extent.ensures.0)
