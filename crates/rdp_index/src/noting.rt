@@ -75,6 +75,7 @@ pub fn index_into(list: &[u8], made: &mut [u32]) -> Answer
 }
 
 // A number of entries, or 14 where there is room for fewer.
+#[tactic(auto, unfolding(crate::specs::Index::room_answer))]
 pub fn fitting(room: usize, count: u32) -> Answer
     ensures { answered result ≡ room_answer room (answer 0 count) }
 {

@@ -18,8 +18,8 @@ use Rattle.rdp_repair.proofs.TabulateLaws.{noted_more}
 use Rattle.rdp_repair.proofs.WriteLaws.{applied-next}
 
 -- a list has at most a command a word
-pub few-commands : (list : List ℕ) → 8 * length (commands_of list) ≤ length list
-few-commands list = omega (arith, count-joined (commands_of list) (parsed list).alone, words_inside list)
+pub few_commands : (list : List ℕ) → 8 * length (commands_of list) ≤ length list
+few_commands list = omega (arith, count-joined (commands_of list) (parsed list).alone, words_inside list)
 
 -- ---- noting the numbers
 

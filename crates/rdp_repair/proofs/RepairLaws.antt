@@ -27,7 +27,7 @@ use Rattle.rdp_repair.proofs.ForwardLaws.{options-plan, work-below}
 use Rattle.rdp_check.proofs.JoinLaws.{words_inside}
 use Rattle.rdp_check.proofs.OrderLaws.{all_give}
 use Rattle.rdp_check.proofs.FirstLaws.{own-numbered, judge-first, outcome-gives}
-use Rattle.rdp_repair.proofs.PassLaws.{few-commands}
+use Rattle.rdp_repair.proofs.PassLaws.{few_commands}
 use Rattle.rdp_repair.proofs.RepairedLaws.{Sound, sound, inserts-most, length-repaired, repaired-most, least-repair, least-unique}
 use Rattle.rdp_repair.proofs.LeastLaws.{length-plan}
 use Rattle.rdp_repair.proofs.AfreshLaws.{least-afresh, afresh-unique}
@@ -112,7 +112,7 @@ pub list-short : (list : List ℕ) → (judged list).number ≡ 0 → length lis
 list-short list e = (sound repair_refusals own-numbered list e).short
 
 pub commands-few : (list : List ℕ) → (judged list).number ≡ 0 → length (commands_of list) ≤ 2048
-commands-few list e = omega (arith, few-commands list, list-short list e)
+commands-few list e = omega (arith, few_commands list, list-short list e)
 
 -- at most a sync a command, and the words of the list
 pub words-few :
@@ -124,7 +124,7 @@ words-few afresh list short =
       inserts-most p,
       length-plan (noted_of afresh (commands_of list)) 0,
       noted-long afresh (commands_of list),
-      few-commands list,
+      few_commands list,
       kept-most afresh (commands_of list),
       words_inside list,
     )

@@ -15,6 +15,7 @@ use rdp_hazards::{SYNC_LOAD, SYNC_PIPE, SYNC_TILE, StepTable, Sync, table};
 use rdp_words::{Ground, Refusal};
 
 // How many commands a list has.
+#[tactic(auto, using(crate::proofs::PassLaws::few_commands))]
 fn count_commands(list: &[u8]) -> usize
     ensures { result ≡ length (commands_of list.now) }
 {
@@ -23,6 +24,7 @@ fn count_commands(list: &[u8]) -> usize
 
 // Refuses by 13 where there is room for fewer commands than the list has. It has no more of them than words, so they are counted only where the words
 // do not tell.
+#[tactic(auto, using(crate::proofs::PassLaws::few_commands))]
 fn test_room(list: &[u8], room: usize) -> Result<(), Refusal>
     requires { length list.now ≤ 16384 }
     ensures { let count = length (commands_of list.now) in
@@ -154,6 +156,7 @@ impl<'a> Basis<'a> {
     }
 
     // The number to plan with: a no operation's for a command that is left out.
+    #[tactic(auto, unfolding(crate::specs::Work::noted_number))]
     fn noted_number(self, number: u8) -> u8
         ensures { result ≡ noted_number self.entry.afresh number }
     {
@@ -164,6 +167,7 @@ impl<'a> Basis<'a> {
     }
 
     // How many of a command's words are kept.
+    #[tactic(auto, unfolding(crate::specs::Work::kept_words))]
     fn kept_words(self, number: u8) -> usize
         ensures { result ≡ kept_words self.entry.afresh number }
     {
@@ -174,6 +178,7 @@ impl<'a> Basis<'a> {
     }
 
     // What is kept of a command: its bytes, or none of them.
+    #[tactic(auto, unfolding(crate::specs::Work::kept_of))]
     fn kept(self, command: &'a [u8]) -> &'a [u8]
         ensures { result.now ≡ kept_of self.entry.afresh command.now }
     {

@@ -4,7 +4,6 @@ use Rattle.std.proofs.lemmas.Result.{err_from_is_err_and}
 use Rattle.rdp_index.proofs.ReadLaws.{ask-none, ask-high, ask-read}
 use Rattle.rdp_index.proofs.SizeLaws.{size_none, size-ask}
 use Rattle.rdp_words.proofs.GroundLaws.{refused-number}
-use borrow.Author.Rules.{rules}
 use Rattle.rdp_index.proofs.ask.Goals as goal
 
 pub returns-in_err-size_answer : goal.returns-in_err-size_answer
@@ -24,11 +23,6 @@ returns-then-hazards-ge16 c =
     let a = c.args in
     let s = size_none a.list.now _ c.in_ok-size_answer.ensures refl in
     ask-high a.list.now a.entries.now a.place s.short s.words _ c.in-Some.ensures.0 c.if-hazards-ge16.true
-
-pub read_on-requires : goal.read_on-requires
-read_on-requires c =
-    let s = size_none c.args.list.now _ c.in_ok-size_answer.ensures refl in
-    search (rules, s.short, s.words)
 
 pub returns : goal.returns
 returns c =

@@ -1,16 +1,8 @@
 -- `rdp_index::replace` meets its contract, by those of what it calls: the new list has as many entries as the old one. Assumes nothing.
 use Rattle.std.proofs.Common.{refl, ap, ◌∙◌, arith}
-use Rattle.std.proofs.lemmas.Result.{err_from_is_err_and}
 use Rattle.rdp_index.specs.Index.{index_answer}
-use Rattle.rdp_index.proofs.ReplaceLaws.{replaced, new-whole, replace-refused, replace-done}
-use Rattle.rdp_words.proofs.GroundLaws.{refused-number}
+use Rattle.rdp_index.proofs.ReplaceLaws.{replaced, new-whole}
 use Rattle.rdp_index.proofs.replace.Goals as goal
-
-pub returns-in_err-taken : goal.returns-in_err-taken
-returns-in_err-taken c =
-    let a = c.before.before.args in
-    let p = err_from_is_err_and c.from_residual.result c.from_residual.ensures.1 in
-    rw (p.1, p.2) (replace-refused a.list.now a.entries.now a.place a.new.now _ c.in_err-taken.ensures (refused-number _))
 
 pub put_command-requires : goal.put_command-requires
 put_command-requires c =
@@ -25,8 +17,3 @@ renew-requires c =
       ap (λ l. (index_answer l).number) c.put_command.ensures ∙ n.0,
       omega (arith, ap (λ l. (index_answer l).place) c.put_command.ensures, n.1, f.room),
     )
-
-pub returns : goal.returns
-returns c =
-    let a = c.before.before.before.args in
-    replace-done a.list.now a.entries.now a.place a.new.now _ c.in_ok-taken.ensures refl _ _ c.put_command.ensures c.renew.ensures

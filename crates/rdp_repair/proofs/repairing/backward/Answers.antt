@@ -1,9 +1,5 @@
 -- `rdp_repair::repairing::backward` meets its contract: the choices stand from command i on, and the totals are those from i on. Assumes nothing.
-use mathlib.Core.Path.{◌≡◌, refl, sym, ap, ◌∙◌}
-use mathlib.Core.List.{List}
-use Prim.Native.Nat.{ℕ, suc, ◌+◌, ◌*◌, ◌-◌, ◌<◌, ◌≤◌}
-use native.Mathlib.Omega.{arith}
-use lib.ListN.{length, get_or, drop}
+use Rattle.std.proofs.Common.{ℕ, List, ◌≡◌, suc, ◌+◌, ◌*◌, ◌-◌, ◌<◌, ◌≤◌, length, get_or, drop, refl, sym, ap, ◌∙◌, arith}
 use Rattle.rdp_words.proofs.OverwriteLaws.{part-copied}
 use Rattle.rdp_repair.specs.Best.{best}
 use Rattle.rdp_repair.specs.Work.{tabulate, noted_in}
@@ -32,10 +28,10 @@ module _ (c : In-loop-i) where
   in-range = omega arith
 
   is-now : c.loop-i.work ≡ back_to first-work count (suc index)
-  is-now = c.loop-i.invariant.1 ∙ ap (back_to first-work count) same
+  is-now = c.loop-i.invariant.0 ∙ ap (back_to first-work count) same
 
   are-totals : c.loop-i.totals ≡ tabulate 16 (best (drop (suc index) (noted_in first-work count)))
-  are-totals = c.loop-i.invariant.2 ∙ ap (λ (k : ℕ). tabulate 16 (best (drop k (noted_in first-work count)))) same
+  are-totals = c.loop-i.invariant.1 ∙ ap (λ (k : ℕ). tabulate 16 (best (drop k (noted_in first-work count)))) same
 
   length-now : length c.loop-i.work ≡ length first-work
   length-now = ap length is-now ∙ length_back first-work count room (suc index) (omega (arith, in-range))
@@ -48,12 +44,7 @@ unfolding best tabulate
 loop-i-init c =
     let work : List ℕ = c.args.work.now in
     let n : ℕ = c.args.commands in
-    (omega arith, sym (back_start work n c.requires.1), sym (ap (λ (ns : List ℕ). tabulate 16 (best ns)) (no-numbers-left work n c.requires.1)))
-
-pub bounds-work-at : goal.bounds-work-at
-bounds-work-at c =
-    let there = (goal.at.bounds-work-at c).In-loop-i in
-    omega (arith, length-now there, room there)
+    (sym (back_start work n c.requires.1), sym (ap (λ (ns : List ℕ). tabulate 16 (best ns)) (no-numbers-left work n c.requires.1)))
 
 pub row_before-row-requires : goal.row_before-row-requires
 row_before-row-requires c =
@@ -62,19 +53,10 @@ row_before-row-requires c =
       totals-bounded (first-work there) (count there) (room there) (index there) (in-range there) _ (is-now there) _ (are-totals there) _ refl c.requires.0,
     )
 
-pub slice_bounds-copy-end : goal.slice_bounds-copy-end
-slice_bounds-copy-end c =
-    let there = (goal.at.slice_bounds-copy-end c).In-loop-i in
-    omega (arith, length-now there, room there)
-
-pub slice_bounds-copy-end-in-loop-i : goal.slice_bounds-copy-end-in-loop-i
-slice_bounds-copy-end-in-loop-i c = sym (sixteen (goal.at.slice_bounds-copy-end-in-loop-i c).After-row_before-row)
-
 pub loop-i-preserved : goal.loop-i-preserved
 loop-i-preserved c =
     let there = (goal.at.loop-i-preserved c).In-loop-i in
     let at : ℕ = 16 * index there in (
-      omega arith,
       part-copied c.row_before-row.result.choices c.loop-i.work c.copy.new.out at (at + 16) (omega (arith, sixteen (goal.at.loop-i-preserved c).After-row_before-row))
           (omega (arith, length-now there, room there)) c.copy.ensures ∙
           turn-work (first-work there) (count there) (room there) (index there) (in-range there) _ (is-now there) _ (are-totals there) _ refl _ c.row_before-row.ensures.choices-are,
@@ -86,6 +68,6 @@ unfolding tabulate
 returns c =
     let end : c.loop-i.i ≡ 0 = omega arith in
     record {
-      least = ap (λ (l : List ℕ). get_or l 0 0) (rw end at c.loop-i.invariant.2);
-      choices = rw end at c.loop-i.invariant.1 ∙ back_end c.args.work.now c.args.commands c.requires.1;
+      least = ap (λ (l : List ℕ). get_or l 0 0) (rw end at c.loop-i.invariant.1);
+      choices = rw end at c.loop-i.invariant.0 ∙ back_end c.args.work.now c.args.commands c.requires.1;
     }

@@ -1,6 +1,5 @@
 -- `rdp_repair::repairing::count_inserts` meets its contract: what is counted and what is left to count make the whole. Assumes nothing.
 use Rattle.std.proofs.Common.{◌≡◌, ◌+◌, ◌*◌, ◌-◌, ◌/◌, min, get_or, drop, ap, ◌∙◌, arith}
-use native.Mathlib.Nat.{zero-add, sub-zero}
 use mir.Val.{bool_byte}
 use Rattle.rdp_repair.proofs.ForwardLaws.{inserts-at, inserts-end}
 use Rattle.rdp_repair.proofs.WriteLaws.{sync-counted}
@@ -12,12 +11,6 @@ counted : (c : After-is_some) → bool_byte c.is_some.result ≡ min (get_or c.a
 counted c =
     let small = c.requires.1 (16 * c.loop-i.i + c.loop-i.hazards) (omega (arith, c.loop-i.invariant.0)) in
     ap bool_byte c.is_some.ensures ∙ sync-counted c.sync_in-sync.result ∙ ap (λ k. min k 1) (c.sync_in-sync.ensures small)
-
-pub loop-i-init : goal.loop-i-init
-loop-i-init c = (omega arith, omega arith, simp (zero-add, sub-zero))
-
-pub overflow_add-count : goal.overflow_add-count
-overflow_add-count c = omega (arith, counted (goal.at.overflow_add-count c).After-is_some)
 
 pub loop-i-preserved : goal.loop-i-preserved
 loop-i-preserved c =

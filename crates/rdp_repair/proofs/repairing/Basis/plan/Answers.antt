@@ -10,7 +10,7 @@ use Rattle.rdp_repair.specs.Best.{plan}
 use Rattle.rdp_repair.specs.Work.{noted_of, NotedIs, Below, work_of, options_in, inserts_of}
 use Rattle.rdp_repair.specs.declared.repairing.Noted.{Noted}
 use Rattle.rdp_words.specs.Words.{overwrite}
-use Rattle.rdp_repair.proofs.PassLaws.{few-commands}
+use Rattle.rdp_repair.proofs.PassLaws.{few_commands}
 use Rattle.rdp_repair.proofs.RepairLaws.{words-few, noted-below, cycles-are, choices-are, choices-below, plan-held}
 use Rattle.rdp_repair.proofs.repairing.Basis.plan.Goals.{After-backward-cycles}
 use Rattle.rdp_repair.proofs.repairing.Basis.plan.Goals as goal
@@ -51,12 +51,9 @@ module _ (b : After-backward-cycles) where
   inserts-are inserts e =
       e ∙ ap (λ (k : ℕ). inserts_of (options_in k held 0)) noted.counted ∙ ap inserts_of (plan-held afresh list work held held-is)
 
-pub note_numbers-noted-requires : goal.note_numbers-noted-requires
-note_numbers-noted-requires c = c.requires.1
-
 pub backward-cycles-requires : goal.backward-cycles-requires
 backward-cycles-requires c = (
-  omega (arith, c.note_numbers-noted.ensures.counted, few-commands c.args.self.list.now, c.requires.0),
+  omega (arith, c.note_numbers-noted.ensures.counted, few_commands c.args.self.list.now, c.requires.0),
   omega (arith, c.note_numbers-noted.ensures.counted, c.requires.1, c.note_numbers-noted.auto.work),
   noted-below c.args.self.afresh c.args.self.list.now c.args.work.now _ _ c.note_numbers-noted.ensures,
 )

@@ -32,7 +32,3 @@ returns-in_err-test_room c =
     rw (p.1, p.2)
     (subst (λ (a : Answer). Repairs (basis_of c.args.self.afresh list) list work out (repair_answer a.number a.place 0) work out) (sym e.1)
     (refused-work _ list work out (clean (goal.at.returns-in_err-test_room c).In_ok-check_for_repair) _ refl (omega (arith, e.0))))
-
-pub repair_whole-requires : goal.repair_whole-requires
-repair_whole-requires c =
-    (clean (goal.at.repair_whole-requires c).In_ok-check_for_repair, omega (arith, c.in_ok-test_room.ensures))

@@ -61,14 +61,8 @@ module _ (p : After-plan-planned) where
 pub plan-planned-requires : goal.plan-planned-requires
 plan-planned-requires c = (list-short c.args.self.list.now c.requires.0, c.requires.1)
 
-pub overflow_mul-used : goal.overflow_mul-used
-overflow_mul-used c = omega (arith, few (goal.at.overflow_mul-used c).After-plan-planned)
-
 pub overflow_cast-words : goal.overflow_cast-words
 overflow_cast-words c = omega (arith, (needed (goal.at.overflow_cast-words c).After-plan-planned).1)
-
-pub clear-requires : goal.clear-requires
-clear-requires c = omega (arith, room (goal.at.clear-requires c).After-plan-planned)
 
 pub returns-then-out-needed : goal.returns-then-out-needed
 returns-then-out-needed c =
@@ -83,9 +77,6 @@ write-requires c =
       choices-below (afresh there) (list there) (work there) (held there) c.plan-planned.ensures.choices,
       omega (arith, ap length (due-is there), (needed there).0, c.if-out-needed.false),
     )
-
-pub clear-requires-2 : goal.clear-requires-2
-clear-requires-2 c = omega (arith, room (goal.at.clear-requires-2 c).After-plan-planned)
 
 pub returns : goal.returns
 returns c =

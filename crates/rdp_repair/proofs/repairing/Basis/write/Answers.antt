@@ -1,7 +1,7 @@
 -- `rdp_repair::repairing::Basis::write` meets its contract: what is written and what is due make the whole. Assumes nothing.
-use Rattle.std.proofs.Common.{◌≡◌, ◌+◌, ◌*◌, ◌/◌, get_or, sym, arith}
+use Rattle.std.proofs.Common.{◌≡◌, ◌+◌, ◌*◌, ◌/◌, get_or, sym}
 use Rattle.rdp_hazards.specs.Hazards.{code_in}
-use Rattle.rdp_repair.proofs.PassLaws.{Writing, writing-first, writing-next, all-written, choice-there, choice-small, turn-fits}
+use Rattle.rdp_repair.proofs.PassLaws.{Writing, writing-first, writing-next, all-written, choice-small, turn-fits}
 use Rattle.rdp_repair.proofs.repairing.Basis.write.Goals.{After-kept}
 use Rattle.rdp_repair.proofs.repairing.Basis.write.Goals as goal
 
@@ -18,12 +18,6 @@ loop-i-init c =
     let p = c.requires in
     rw (c.into_iter-i-iterator.ensures.into_iter_gives, c.enumerate-i-items.ensures.source, c.enumerate-i-items.ensures.count)
     (writing-first _ _ _ _ p.0 p.1 p.2)
-
-pub bounds-work-i : goal.bounds-work-i
-bounds-work-i c =
-    let s = c.in-Some.ensures.steps in
-    let w = c.loop-i.invariant in
-    omega (arith, choice-there w _ _ s.0, w.choices, s.1)
 
 pub write_command-to-requires : goal.write_command-to-requires
 write_command-to-requires c =
