@@ -1,13 +1,7 @@
 -- The entries of a list, as the loop of building notes them. Assumes nothing.
-use mathlib.Core.Path.{◌≡◌, refl, sym, ap, ◌∙◌}
-use mathlib.Core.List.{List, [], ◌∷◌, ◌++◌, append-nil}
-use Prim.Native.Nat.{ℕ, zero, suc, ◌+◌, ◌*◌, ◌-◌, ◌/◌, ◌%◌, ◌≤◌, ◌<◌}
-use native.Mathlib.Nat.{suc-ne-zero}
-use native.Mathlib.Omega.{arith}
-use borrow.Author.Tests.{le-ltb, lt-ltb, eq-eqb, ne_eqb, ltb-true, ltb-false, eqb-true, eqb-false}
-use lib.Dec.{eqb, ltb}
-use lib.ListN.{length, take, set, length-set}
-use lib.Seq.{drop-cons, take-suc-set, append_snoc, length-take-le}
+use Rattle.std.proofs.Common.{◌≡◌, refl, sym, ap, ◌∙◌, List, [], ◌∷◌, ◌++◌, append-nil, ℕ, zero, suc, ◌+◌, ◌*◌, ◌-◌, ◌/◌, ◌%◌, ◌≤◌, ◌<◌, suc-ne-zero, arith, le-ltb, lt-ltb, eq-eqb, ne_eqb, ltb-true, ltb-false, eqb-true, eqb, ltb, length, take, set, length-set, drop-cons, take-suc-set, length-take-le}
+use borrow.Author.Tests.{eqb-false}
+use Rattle.std.proofs.Math.Seq.{append_snoc}
 use Rattle.rdp_words.specs.Words.{overwrite}
 use Rattle.rdp_words.specs.Kinds.{words_of}
 use Rattle.rdp_words.specs.Lengths.{first_number}

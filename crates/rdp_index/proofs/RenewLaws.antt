@@ -1,14 +1,8 @@
 -- The entries after a replacement: those up to the command's own are kept, the later ones are those built from the new list, and where the entries were
 -- built from the old list all of them are those of the new one. Assumes nothing.
-use mathlib.Core.Path.{◌≡◌, refl, sym, ap, ◌∙◌, subst}
-use mathlib.Core.List.{List, [], ◌∷◌, ◌++◌, append_assoc}
-use Prim.Native.Nat.{ℕ, zero, suc, ◌+◌, ◌*◌, ◌-◌, ◌/◌, ◌≤◌, ◌<◌}
-use native.Mathlib.Nat.{lt_of_not-le}
-use native.Mathlib.Decide.{dec_le}
-use native.Mathlib.Omega.{arith}
-use borrow.Author.Tests.{le-leb, lt-leb}
-use lib.ListN.{length, get_or, take, drop, length-append}
-use lib.Seq.{take_at, drop_at, get_or-append-add}
+use Rattle.std.proofs.Common.{◌≡◌, refl, sym, ap, ◌∙◌, subst, List, [], ◌∷◌, ◌++◌, append_assoc, ℕ, zero, suc, ◌+◌, ◌*◌, ◌-◌, ◌/◌, ◌≤◌, ◌<◌, lt_of_not-le, arith, le-leb, length, get_or, take, drop, length-append, take_at, drop_at, get_or-append-add}
+use Rattle.std.proofs.Math.Decide.{dec_le}
+use borrow.Author.Tests.{lt-leb}
 use Rattle.rdp_command.specs.Decode.{answer}
 use Rattle.rdp_words.specs.Words.{overwrite, pasted}
 use Rattle.rdp_words.specs.Kinds.{words_of}

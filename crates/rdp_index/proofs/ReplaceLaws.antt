@@ -1,16 +1,9 @@
 -- Replacing a command: the refusals, the new list and the later entries. Assumes nothing.
-use mathlib.Core.Path.{◌≡◌, refl, sym, ap, ◌∙◌, subst}
-use mathlib.Core.Bool.{Bool, true, false, not}
-use mathlib.Core.List.{List, [], ◌∷◌, ◌++◌, nil≢cons, head-eq_of_cons-eq}
-use Prim.Native.Nat.{ℕ, ◌+◌, ◌*◌, ◌-◌, ◌/◌, ◌%◌, ◌≤◌}
-use native.Mathlib.Nat.{le_refl, suc-ne-zero}
-use native.Mathlib.Omega.{arith}
-use borrow.Author.Tests.{le-ltb, eq-eqb, ne_eqb, ltb-false, eqb-true, eqb-false, not-false}
-use lib.Dec.{eqb, ltb}
-use lib.ListN.{length, take, drop, length-append, length-drop}
+use Rattle.std.proofs.Common.{◌≡◌, refl, sym, ap, ◌∙◌, subst, Bool, true, false, not, List, [], ◌∷◌, ◌++◌, ℕ, ◌+◌, ◌*◌, ◌-◌, ◌/◌, ◌%◌, ◌≤◌, le_refl, suc-ne-zero, arith, le-ltb, eq-eqb, ne_eqb, ltb-false, eqb-true, eqb, ltb, length, take, drop, length-append, length-drop, take_at, drop_at, length-take-le}
+use mathlib.Core.List.{nil≢cons, head-eq_of_cons-eq}
+use borrow.Author.Tests.{eqb-false, not-false}
 use borrow.Rule.Slice.PartMut.{put_mid}
 use Rattle.std.proofs.lemmas.Slice.{between_is}
-use lib.Seq.{take_at, drop_at, length-take-le}
 use Rattle.rdp_words.specs.Words.{word_at, number_in, overwrite, pasted}
 use Rattle.rdp_words.specs.Kinds.{words_of}
 use Rattle.rdp_words.specs.Lengths.{first_number, whole_words}

@@ -1,11 +1,6 @@
 -- Refusals 1 and 2 of a list, as building and a question call for them. Assumes nothing.
-use mathlib.Core.Path.{◌≡◌, refl, sym, ap, ◌∙◌}
-use mathlib.Core.List.{List}
-use Prim.Native.Nat.{ℕ, ◌/◌, ◌%◌, ◌≤◌, ◌<◌}
-use native.Mathlib.Nat.{suc-ne-zero}
-use borrow.Author.Tests.{ltb-true, ltb-false, eqb-true, eqb-false}
-use lib.Dec.{eqb, ltb}
-use lib.ListN.{length}
+use Rattle.std.proofs.Common.{◌≡◌, refl, sym, ap, ◌∙◌, List, ℕ, ◌/◌, ◌%◌, ◌≤◌, ◌<◌, suc-ne-zero, ltb-true, ltb-false, eqb-true, eqb, ltb, length}
+use borrow.Author.Tests.{eqb-false}
 use Rattle.rdp_words.proofs.Tests.{by-test}
 use Rattle.rdp_words.specs.Grounds.{Answer}
 use Rattle.rdp_command.specs.Decode.{answer}

@@ -1,5 +1,5 @@
 -- `rdp_index::asking::read_on` meets its contract. The loop's invariant: reading on from here gives the answer. Assumes nothing.
-use mathlib.Core.Path.{◌∙◌}
+use Rattle.std.proofs.Common.{◌∙◌}
 use Rattle.rdp_words.proofs.PlaceLaws.{number_small}
 use Rattle.rdp_hazards.proofs.HazardLaws.{next-read}
 use Rattle.rdp_index.proofs.ReadLaws.{first, ended, outside, cut, found, again}

@@ -1,10 +1,5 @@
 -- `rdp_index::replacing::put_command` meets its contract, by that of the copy. Assumes nothing.
-use mathlib.Core.Path.{◌≡◌, ap, ◌∙◌}
-use mathlib.Core.List.{List}
-use Prim.Native.Nat.{ℕ, ◌+◌, ◌*◌, ◌-◌}
-use native.Mathlib.Omega.{arith}
-use lib.ListN.{length, take}
-use lib.Seq.{length-take-le}
+use Rattle.std.proofs.Common.{◌≡◌, ap, ◌∙◌, List, ℕ, ◌+◌, ◌*◌, ◌-◌, arith, length, take, length-take-le}
 use Rattle.rdp_words.specs.Words.{pasted}
 use Rattle.rdp_words.proofs.OverwriteLaws.{part-copied}
 use Rattle.rdp_index.proofs.replacing.put_command.Goals as goal
