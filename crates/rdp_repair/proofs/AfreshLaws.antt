@@ -1,13 +1,5 @@
 -- The list without its syncs: its first repair waits least of all lists with its commands, whatever syncs these have. Assumes nothing.
-use mathlib.Core.Path.{◌≡◌, refl, sym, ap, ap₂, ◌∙◌, subst}
-use mathlib.Core.Bool.{true, false, ◌||◌, true≢false}
-use mathlib.Core.List.{List, [], ◌∷◌, map}
-use mathlib.Core.Logic.{⊎_elim}
-use Prim.Native.Nat.{ℕ, ◌+◌, ◌*◌, ◌≤◌}
-use native.Mathlib.Omega.{arith}
-use lib.Dec.{eqb}
-use lib.ListN.{length}
-use borrow.Author.Tests.{eqb-true}
+use Rattle.std.proofs.Common.{◌≡◌, refl, sym, ap, ap₂, ◌∙◌, subst, true, false, ◌||◌, true≢false, List, [], ◌∷◌, map, ⊎_elim, ℕ, ◌+◌, ◌*◌, ◌≤◌, arith, eqb, length, eqb-true}
 use Rattle.rdp_words.specs.Words.{bare_word}
 use Rattle.rdp_words.specs.Lengths.{first_number}
 use Rattle.rdp_words.proofs.Tests.{by-test}

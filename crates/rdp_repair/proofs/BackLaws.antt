@@ -1,10 +1,7 @@
 -- The backward pass: what one step of it leaves. Assumes nothing.
-use mathlib.Core.Path.{◌≡◌, refl, sym, ap, ap₂, ◌∙◌, subst}
-use mathlib.Core.List.{List, [], ◌∷◌, ◌++◌, append_assoc}
-use Prim.Native.Nat.{ℕ, suc, ◌+◌, ◌*◌, ◌<◌, ◌≤◌}
-use native.Mathlib.Omega.{arith}
-use lib.ListN.{length, get_or, take, drop, length-append, length-take, length-drop, get_or-append, take-append-drop}
-use lib.Seq.{drop-cons, take-append-le, take-take, drop_at, drop-length, get_or-take}
+use Rattle.std.proofs.Common.{◌≡◌, refl, sym, ap, ap₂, ◌∙◌, subst, List, [], ◌∷◌, ◌++◌, append_assoc, ℕ, suc, ◌+◌, ◌*◌, ◌<◌, ◌≤◌, arith, length, get_or, take, drop, length-append, length-take, length-drop, take-append-drop, drop-cons, take-take, drop_at, get_or-take}
+use Rattle.std.proofs.Math.ListN.{get_or-append}
+use Rattle.std.proofs.Math.Seq.{take-append-le, drop-length}
 use Rattle.rdp_words.specs.Words.{overwrite, pasted}
 use Rattle.rdp_words.proofs.OverwriteLaws.{overwrite-is, pasted-is}
 use Rattle.rdp_hazards.specs.Hazards.{next_of}

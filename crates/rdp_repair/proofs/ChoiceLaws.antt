@@ -1,13 +1,8 @@
 -- `chosen` is an option that serves, costs no more than any that serves, and is the first of those that cost least.
 -- Assumes nothing.
-use mathlib.Core.Path.{◌≡◌, refl, ap, ◌∙◌, subst}
-use mathlib.Core.Bool.{Bool, true, false, cond}
-use Prim.Native.Nat.{ℕ, zero, suc, ◌<◌, ◌≤◌}
-use native.Mathlib.Nat.{lt_of_not-le, le_refl}
-use native.Mathlib.Decide.{dec_le}
-use native.Mathlib.Omega.{arith}
-use lib.Dec.{eqb, leb}
-use borrow.Author.Tests.{eqb-true, eqb-false, leb-true, leb-false}
+use Rattle.std.proofs.Common.{◌≡◌, refl, ap, ◌∙◌, subst, Bool, true, false, cond, ℕ, zero, suc, ◌<◌, ◌≤◌, lt_of_not-le, le_refl, arith, eqb, leb, eqb-true, leb-true, leb-false}
+use Rattle.std.proofs.Math.Decide.{dec_le}
+use borrow.Author.Tests.{eqb-false}
 use Rattle.rdp_hazards.specs.Hazards.{required_of}
 use Rattle.rdp_repair.specs.Plan.{wait_of, sync_at}
 use Rattle.rdp_repair.specs.Best.{Choice, cleared_by, total_with, choice_of, prefer, chosen}

@@ -1,11 +1,5 @@
 -- Commands that are left out: planned as no operations they have nothing before them, so the plan is that of the commands that remain. Assumes nothing.
-use mathlib.Core.Path.{◌≡◌, refl, sym, ap, ap₂, ◌∙◌}
-use mathlib.Core.Bool.{Bool, true, false, cond}
-use mathlib.Core.List.{List, [], ◌∷◌, ◌++◌}
-use Prim.Native.Nat.{ℕ, zero, suc, ◌+◌, ◌*◌, ◌<◌, ◌≤◌, min}
-use native.Mathlib.Omega.{arith}
-use lib.Dec.{eqb, eqb→eq}
-use lib.ListN.{length}
+use Rattle.std.proofs.Common.{◌≡◌, refl, sym, ap, ap₂, ◌∙◌, Bool, true, false, cond, List, [], ◌∷◌, ◌++◌, ℕ, zero, suc, ◌+◌, ◌*◌, ◌<◌, ◌≤◌, min, arith, eqb, eqb→eq, length}
 use Rattle.rdp_words.specs.Kinds.{kind_of}
 use Rattle.rdp_words.specs.Lengths.{first_number}
 use Rattle.rdp_words.proofs.Tests.{below, by-test}

@@ -1,12 +1,7 @@
 -- The forward passes: the plan that the work buffer holds. Assumes nothing.
-use mathlib.Core.Path.{◌≡◌, refl, sym, ap, ap₂, ◌∙◌, subst}
-use mathlib.Core.List.{List, [], ◌∷◌, ◌++◌, append_assoc}
-use Prim.Native.Nat.{ℕ, suc, ◌+◌, ◌*◌, ◌/◌, ◌%◌, ◌-◌, min, ◌<◌}
-use native.Mathlib.Nat.{lt_of_not-le}
-use native.Mathlib.Decide.{dec_le}
-use native.Mathlib.Omega.{arith}
-use lib.ListN.{length, get_or, drop, get_or-append}
-use lib.Seq.{drop-drop, drop_at, get_or-drop}
+use Rattle.std.proofs.Common.{◌≡◌, refl, sym, ap, ap₂, ◌∙◌, subst, List, [], ◌∷◌, ◌++◌, append_assoc, ℕ, suc, ◌+◌, ◌*◌, ◌/◌, ◌%◌, ◌-◌, min, ◌<◌, lt_of_not-le, arith, length, get_or, drop, drop-drop, drop_at, get_or-drop}
+use Rattle.std.proofs.Math.Decide.{dec_le}
+use Rattle.std.proofs.Math.ListN.{get_or-append}
 use Rattle.rdp_repair.specs.Best.{Choice, chosen, best, plan}
 use Rattle.rdp_repair.specs.Work.{packed_choice, choices_of, work_of, options_in, inserts_of, Below}
 use Rattle.rdp_repair.proofs.ChoiceLaws.{option-small, next-hazards-small}

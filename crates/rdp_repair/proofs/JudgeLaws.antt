@@ -1,11 +1,6 @@
 -- The judgement of commands by structural recursion, what 7 to 9 add to it, and what inserted syncs do to it. Assumes nothing.
-use mathlib.Core.Path.{◌≡◌, refl, sym, ap, ◌∙◌, subst}
-use mathlib.Core.Bool.{false, ◌||◌}
-use mathlib.Core.List.{List, [], ◌∷◌}
-use Prim.Native.Nat.{ℕ, zero, suc, ◌+◌}
-use native.Mathlib.Omega.{arith}
+use Rattle.std.proofs.Common.{◌≡◌, refl, sym, ap, ◌∙◌, subst, false, ◌||◌, List, [], ◌∷◌, ℕ, zero, suc, ◌+◌, arith, eqb}
 use borrow.Author.Tests.{eqb-false}
-use lib.Dec.{eqb}
 use Rattle.rdp_words.proofs.Tests.{false_of}
 use Rattle.rdp_words.specs.Words.{word_at}
 use Rattle.rdp_words.specs.Kinds.{words_of}

@@ -1,12 +1,8 @@
 -- The planned list is made by inserting, passes, and costs least; its plan is the first of those that cost least.
 -- Assumes nothing.
-use mathlib.Core.Path.{◌≡◌, refl, sym, ap, ◌∙◌, subst}
-use mathlib.Core.List.{List, [], ◌∷◌, map}
-use Prim.Native.Nat.{ℕ, zero, suc, ◌+◌, ◌≤◌}
-use native.Mathlib.Nat.{lt_of_not-le}
-use native.Mathlib.Decide.{dec_le}
-use native.Mathlib.Omega.{arith}
-use lib.ListN.{length, length-map}
+use Rattle.std.proofs.Common.{◌≡◌, refl, sym, ap, ◌∙◌, subst, List, [], ◌∷◌, map, ℕ, zero, suc, ◌+◌, ◌≤◌, lt_of_not-le, arith, length}
+use Rattle.std.proofs.Math.Decide.{dec_le}
+use Rattle.std.proofs.Math.ListN.{length-map}
 use Rattle.rdp_words.specs.Lengths.{first_number}
 use Rattle.rdp_hazards.specs.Hazards.{next_of, required_of}
 use Rattle.rdp_repair.specs.Inserted.{Inserted, end, keep, insert}

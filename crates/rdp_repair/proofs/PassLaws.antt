@@ -1,11 +1,6 @@
 -- The loops over a list of whole commands: what holds at their heads, and what a turn does. Assumes nothing.
-use mathlib.Core.Path.{◌≡◌, refl, sym, ap, ◌∙◌}
-use mathlib.Core.Bool.{Bool}
-use mathlib.Core.List.{List, [], ◌∷◌, ◌++◌, append-nil, append_assoc}
-use Prim.Native.Nat.{ℕ, ◌+◌, ◌*◌, ◌/◌, ◌%◌, ◌<◌, ◌≤◌}
-use native.Mathlib.Omega.{arith}
-use lib.ListN.{length, get_or, drop, set, length-append, length-set}
-use lib.Seq.{append_snoc, drop-set-lt}
+use Rattle.std.proofs.Common.{◌≡◌, refl, sym, ap, ◌∙◌, Bool, List, [], ◌∷◌, ◌++◌, append-nil, append_assoc, ℕ, ◌+◌, ◌*◌, ◌/◌, ◌%◌, ◌<◌, ◌≤◌, arith, length, get_or, drop, set, length-append, length-set, drop-set-lt}
+use Rattle.std.proofs.Math.Seq.{append_snoc}
 use Rattle.rdp_words.specs.Lengths.{first_number}
 use Rattle.rdp_words.specs.Words.{overwrite, pasted, WrittenIs}
 use Rattle.rdp_words.proofs.OverwriteLaws.{overwrite-none, length-overwrite, pasted-after}

@@ -1,12 +1,5 @@
 -- The least rank is the rank of the choice: ranks compare as the totals do, and by the option where they are equal. Assumes nothing.
-use mathlib.Core.Path.{◌≡◌, sym, ap, ◌∙◌}
-use mathlib.Core.Bool.{cond}
-use mathlib.Core.List.{List}
-use Prim.Native.Nat.{ℕ, suc, ◌+◌, ◌*◌, ◌/◌, ◌%◌, min, ◌<◌, ◌≤◌}
-use native.Mathlib.Omega.{arith}
-use lib.Dec.{eqb, leb}
-use lib.ListN.{get_or}
-use borrow.Author.Tests.{eq-eqb, eqb-true, leb-true, leb-false}
+use Rattle.std.proofs.Common.{◌≡◌, sym, ap, ◌∙◌, cond, List, ℕ, suc, ◌+◌, ◌*◌, ◌/◌, ◌%◌, min, ◌<◌, ◌≤◌, arith, eqb, leb, get_or, eq-eqb, eqb-true, leb-true, leb-false}
 use Rattle.rdp_words.proofs.Tests.{by-test}
 use Rattle.rdp_hazards.specs.Hazards.{next_of, required_of, entry_of}
 use Rattle.rdp_repair.specs.Plan.{wait_of}

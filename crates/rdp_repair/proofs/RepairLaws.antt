@@ -1,13 +1,8 @@
 -- What the passes of the repair give together: the work buffer from pass to pass, and the answers. Assumes nothing.
-use mathlib.Core.Path.{◌≡◌, refl, sym, ap, ap₂, ◌∙◌, subst}
-use mathlib.Core.Bool.{Bool, not}
-use mathlib.Core.List.{List, [], ◌∷◌, ◌++◌}
-use Prim.Native.Nat.{ℕ, zero, suc, ◌+◌, ◌*◌, ◌/◌, ◌<◌, ◌≤◌}
-use native.Mathlib.Omega.{arith}
-use lib.Dec.{T, eqb}
-use lib.ListN.{length, get_or, take, drop, replicate, length-map, length-replicate}
+use Rattle.std.proofs.Common.{◌≡◌, refl, sym, ap, ap₂, ◌∙◌, subst, Bool, not, List, [], ◌∷◌, ◌++◌, ℕ, zero, suc, ◌+◌, ◌*◌, ◌/◌, ◌<◌, ◌≤◌, arith, T, eqb, length, get_or, take, drop, replicate, eqb-true, lt-ltb, le-ltb, ne_eqb}
+use Rattle.std.proofs.Math.ListN.{length-map, length-replicate}
 use Rattle.rdp_words.proofs.OverwriteLaws.{overwrite-is, take-overwrite, overwrite-twice}
-use borrow.Author.Tests.{eqb-true, eqb-false, lt-ltb, le-ltb, ne_eqb}
+use borrow.Author.Tests.{eqb-false}
 use Rattle.rdp_words.specs.Words.{word_at, overwrite}
 use Rattle.rdp_words.specs.Lengths.{first_number}
 use Rattle.rdp_check.specs.Commands.{commands_of, rest_of, joined}

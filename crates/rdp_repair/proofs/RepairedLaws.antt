@@ -1,12 +1,6 @@
 -- The repaired list is a least repair of the given one, and a list that passes is repaired into itself. Assumes nothing.
-use mathlib.Core.Path.{◌≡◌, refl, sym, ap, ◌∙◌, subst}
-use mathlib.Core.List.{List, [], ◌∷◌}
-use Prim.Native.Nat.{ℕ, zero, suc, ◌+◌, ◌*◌, ◌%◌, min, ◌≤◌}
-use native.Mathlib.Nat.{le_antisymm}
-use native.Mathlib.Omega.{arith}
-use lib.Dec.{eqb, ltb}
-use lib.ListN.{length, length-append, length-map}
-use borrow.Author.Tests.{le-ltb, ltb-false, eq-eqb, eqb-true}
+use Rattle.std.proofs.Common.{◌≡◌, refl, sym, ap, ◌∙◌, subst, List, [], ◌∷◌, ℕ, zero, suc, ◌+◌, ◌*◌, ◌%◌, min, ◌≤◌, le_antisymm, arith, eqb, ltb, length, length-append, le-ltb, ltb-false, eq-eqb, eqb-true}
+use Rattle.std.proofs.Math.ListN.{length-map}
 use Rattle.rdp_words.specs.Lengths.{first_number}
 use Rattle.rdp_words.proofs.Tests.{by-test}
 use Rattle.rdp_check.specs.Commands.{commands_of, rest_of, joined}

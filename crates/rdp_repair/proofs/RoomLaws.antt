@@ -1,13 +1,6 @@
 -- The repair's answer is the first of its refusals in their order, and 0 where none holds. Assumes nothing.
-use mathlib.Core.Bool.{cond}
-use mathlib.Core.List.{List}
-use mathlib.Core.Logic.{inl, inr, ⊎_elim}
-use mathlib.Core.Path.{◌≡◌, refl, ap, subst, ◌∙◌}
-use Prim.Native.Nat.{ℕ, ◌*◌, ◌/◌}
-use native.Mathlib.Nat.{suc-ne-zero}
-use borrow.Author.Tests.{ne_eqb, eqb-true, eqb-false, lt-ltb, ltb-true}
-use lib.Dec.{eqb, ltb}
-use lib.ListN.{length}
+use Rattle.std.proofs.Common.{cond, List, inl, inr, ⊎_elim, ◌≡◌, refl, ap, subst, ◌∙◌, ℕ, ◌*◌, ◌/◌, suc-ne-zero, ne_eqb, eqb-true, lt-ltb, ltb-true, eqb, ltb, length}
+use borrow.Author.Tests.{eqb-false}
 use Rattle.rdp_words.specs.Grounds.{Answer}
 use Rattle.rdp_command.specs.Decode.{answer}
 use Rattle.rdp_repair.specs.Repair.{Repaired}

@@ -1,11 +1,6 @@
 -- What the repair uses of the synchronisation rule: with no hazard nothing is required, a sync requires nothing and clears its hazards, and two syncs
 -- clear what the longer clears. Assumes nothing.
-use mathlib.Core.Bool.{false}
-use mathlib.Core.Path.{◌≡◌, refl, sym, ap, ◌∙◌}
-use Prim.Native.Nat.{ℕ, zero, suc, max, ◌%◌, ◌≤◌}
-use native.Mathlib.Nat.{mod-lt}
-use native.Mathlib.Omega.{arith}
-use lib.Dec.{eqb, eqb→eq, lit<}
+use Rattle.std.proofs.Common.{false, ◌≡◌, refl, sym, ap, ◌∙◌, ℕ, zero, suc, max, ◌%◌, ◌≤◌, mod-lt, arith, eqb, eqb→eq, lit<}
 use Rattle.rdp_words.specs.Kinds.{Kind, is_draw, is_unassigned, no_operation, unassigned, triangle, texture_rectangle, fill_rectangle, sync_load, sync_tile, sync_pipe, sync_full, load, set_tile, attribute, free, kind_of}
 use Rattle.rdp_words.specs.Lengths.{first_number}
 use Rattle.rdp_command.specs.declared.Command.{Command}

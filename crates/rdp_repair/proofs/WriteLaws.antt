@@ -1,11 +1,7 @@
 -- An option's word, and what one command adds to the output. Assumes nothing.
-use mathlib.Core.Path.{◌≡◌, refl, ap, ◌∙◌}
+use Rattle.std.proofs.Common.{◌≡◌, refl, ap, ◌∙◌, Option, Some, None, min, List, [], ◌∷◌, ◌++◌, ℕ, zero, suc, ◌+◌, ◌*◌, ◌/◌, ◌%◌, length, get_or, drop}
 use mir.Val.{bool_byte}
-use Rattle.std.proofs.Common.{Option, Some, None, min}
 use Rattle.std.specs.Option.{is_some}
-use mathlib.Core.List.{List, [], ◌∷◌, ◌++◌}
-use Prim.Native.Nat.{ℕ, zero, suc, ◌+◌, ◌*◌, ◌/◌, ◌%◌}
-use lib.ListN.{length, get_or, drop}
 use Rattle.rdp_check.specs.Commands.{joined}
 use Rattle.rdp_words.specs.Words.{bare_word}
 use Rattle.rdp_hazards.specs.declared.Sync as declared

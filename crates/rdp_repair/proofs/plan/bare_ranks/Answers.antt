@@ -1,8 +1,5 @@
 -- `rdp_repair::plan::bare_ranks` meets its contract: after m turns the first m ranks stand. Assumes nothing.
-use mathlib.Core.Path.{◌≡◌, ◌∙◌}
-use Prim.Native.Nat.{ℕ}
-use native.Mathlib.Omega.{arith}
-use lib.ListN.{length, get_or, length-set}
+use Rattle.std.proofs.Common.{◌≡◌, ◌∙◌, ℕ, arith, length, get_or, length-set}
 use Rattle.rdp_repair.specs.Work.{bare_rank}
 use Rattle.rdp_repair.proofs.RankLaws.{bare-is}
 use Rattle.rdp_repair.proofs.TabulateLaws.{holds_more, holds-all}

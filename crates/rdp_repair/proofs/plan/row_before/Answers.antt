@@ -1,8 +1,5 @@
 -- `rdp_repair::plan::row_before` meets its contract: after m turns the first m totals and choices stand. Assumes nothing.
-use mathlib.Core.Path.{◌≡◌, sym, ap, ◌∙◌, subst}
-use Prim.Native.Nat.{ℕ, ◌/◌, ◌%◌, min, ◌<◌}
-use native.Mathlib.Omega.{arith}
-use lib.ListN.{get_or}
+use Rattle.std.proofs.Common.{◌≡◌, sym, ap, ◌∙◌, subst, ℕ, ◌/◌, ◌%◌, min, ◌<◌, arith, get_or}
 use Rattle.rdp_repair.specs.Best.{chosen}
 use Rattle.rdp_repair.specs.Work.{packed_choice, totals_of, choices_of, Bounded}
 use Rattle.rdp_repair.proofs.RankLaws.{rank_of, least-held, total_of, choice-of, bare-most}

@@ -1,7 +1,5 @@
 -- `rdp_repair::plan::synced_rank` meets its contract: the calls nest as the definition does. Assumes nothing.
-use mathlib.Core.Path.{◌∙◌}
-use Prim.Native.Nat.{◌+◌, min}
-use lib.ListN.{get_or}
+use Rattle.std.proofs.Common.{◌∙◌, ◌+◌, min, get_or}
 use Rattle.rdp_repair.specs.Plan.{sync_at, wait_of}
 use Rattle.rdp_repair.specs.Work.{option_rank, synced_rank}
 use Rattle.rdp_repair.proofs.plan.synced_rank.Goals as goal

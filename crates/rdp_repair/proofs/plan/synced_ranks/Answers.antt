@@ -1,5 +1,5 @@
 -- `rdp_repair::plan::synced_ranks` meets its contract, by that of `synced_rank`. Assumes nothing.
-use mathlib.Core.List.{[], ◌∷◌}
+use Rattle.std.proofs.Common.{[], ◌∷◌}
 use Rattle.rdp_repair.specs.Work.{tabulate}
 use Rattle.rdp_repair.proofs.plan.synced_ranks.Goals as goal
 

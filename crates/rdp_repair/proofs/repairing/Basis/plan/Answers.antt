@@ -1,10 +1,5 @@
 -- `rdp_repair::repairing::Basis::plan` meets its contract: the passes one after the other, by `RepairLaws`. Assumes nothing.
-use mathlib.Core.Path.{◌≡◌, sym, ap, ap₂, ◌∙◌, subst}
-use mathlib.Core.Bool.{Bool}
-use mathlib.Core.List.{List}
-use Prim.Native.Nat.{ℕ, ◌+◌, ◌*◌}
-use native.Mathlib.Omega.{arith}
-use lib.ListN.{length}
+use Rattle.std.proofs.Common.{◌≡◌, sym, ap, ap₂, ◌∙◌, subst, Bool, List, ℕ, ◌+◌, ◌*◌, arith, length}
 use Rattle.rdp_check.specs.Commands.{commands_of}
 use Rattle.rdp_repair.specs.Best.{plan}
 use Rattle.rdp_repair.specs.Work.{noted_of, NotedIs, Below, work_of, options_in, inserts_of}

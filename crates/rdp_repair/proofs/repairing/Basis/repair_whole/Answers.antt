@@ -1,10 +1,5 @@
 -- `rdp_repair::repairing::Basis::repair_whole` meets its contract: the plan, the output and the cleared work buffer, by `RepairLaws`. Assumes nothing.
-use mathlib.Core.Path.{◌≡◌, ap, ◌∙◌}
-use mathlib.Core.Bool.{Bool}
-use mathlib.Core.List.{List}
-use Prim.Native.Nat.{ℕ, ◌*◌, ◌≤◌}
-use native.Mathlib.Omega.{arith}
-use lib.ListN.{length, replicate}
+use Rattle.std.proofs.Common.{◌≡◌, ap, ◌∙◌, Bool, List, ℕ, ◌*◌, ◌≤◌, arith, length, replicate}
 use Rattle.rdp_words.specs.Words.{overwrite}
 use Rattle.rdp_check.specs.Commands.{commands_of}
 use Rattle.rdp_repair.specs.Best.{repaired_bytes, least_cycles}
