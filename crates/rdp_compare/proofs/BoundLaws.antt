@@ -48,7 +48,7 @@ compare-bounds first second room =
     by-test (eqb (both_answer first second).number 0)
     (λ t.
     let z = eqb-true _ _ t in
-    let few = entries-few second (first-sound first second refl z) in
+    let few = entries-few first second (first-sound first second refl z) in
     by-test (ltb room (length (pair_entries first second))) (λ u. rw (no_room first second room refl z refl (ltb-true _ _ u)) (omega arith, few))
     (λ u. rw (enough first second room refl z refl (ltb-false _ _ u)) (omega arith, few)))
     (λ f.

@@ -1,109 +1,57 @@
 -- Grounds 1 to 3 of a list as the code finds them, and the answer of the comparison by them. Assumes nothing.
-use Prim.Native.Nat.{ℕ, ◌+◌, ◌*◌, ◌-◌, ◌/◌, ◌%◌, ◌<◌, ◌≤◌}
-use mathlib.Core.Bool.{Bool, true, false, cond, not}
+use Prim.Native.Nat.{ℕ, ◌+◌, ◌*◌, ◌/◌, ◌%◌, ◌<◌, ◌≤◌}
+use mathlib.Core.Bool.{true, false, cond, not}
 use mathlib.Core.List.{List, [], ◌∷◌, ◌++◌, append_assoc}
 use mathlib.Core.Path.{◌≡◌, refl, sym, ap, subst, ◌∙◌}
 use native.Mathlib.Nat.{suc-ne-zero}
 use native.Mathlib.Omega.{arith}
 use borrow.Author.Tests.{lt-ltb, le-ltb, eq-eqb, ne_eqb, ltb-false, eqb-true, eqb-false}
 use lib.Dec.{eqb, ltb}
-use lib.ListN.{length, drop, length-drop, drop_of_length-le}
-use Rattle.rdp_words.specs.Words.{word_at, number_in, overwrite}
+use lib.ListN.{length}
+use Rattle.std.specs.List.{sum_by}
+use Rattle.std.proofs.lemmas.List.Sums.{sum_by-cons}
+use Rattle.rdp_words.specs.Words.{overwrite}
 use Rattle.rdp_words.specs.Kinds.{words_of}
 use Rattle.rdp_words.specs.Lengths.{first_number}
 use Rattle.rdp_words.specs.Grounds.{Answer}
 use Rattle.rdp_command.specs.Decode.{answer}
 use Rattle.rdp_words.proofs.Tests.{by-test}
-use Rattle.rdp_words.proofs.PlaceLaws.{some_words}
-use Rattle.rdp_check.specs.Commands.{commands_from, rest_from, commands_of, rest_of, words_in}
+use Rattle.rdp_check.specs.Commands.{commands_of, rest_of, words_in}
 use Rattle.rdp_check.specs.Order.{Ground, ground, first_of}
 use Rattle.rdp_check.specs.Check.{State, start, after_command, no_refusals}
 use Rattle.rdp_check.specs.Refusals.{is_some, command_grounds, grounds_of}
-use Rattle.rdp_check.proofs.ListLaws.{commands-at, command-number, rest_at, commands-past, rest-past}
+use Rattle.rdp_check.proofs.JoinLaws.{AllAlone, length-split}
 use Rattle.rdp_compare.specs.Entries.{pair_entries, decode_grounds, room_grounds, compare_answer, entries_after}
-use Rattle.std.specs.Prelude.{Ok}
-use Rattle.rdp_compare.specs.Part.{RestStart, in_first, longer_in, rest_as, rest_start}
-use Rattle.rdp_compare.specs.declared.RestPlace.{RestPlace}
-use Rattle.rdp_compare.specs.declared.RestPlace.TheVariants.{InFirst, InSecond}
-use Rattle.rdp_compare.specs.Places.{Decodable}
+use Rattle.rdp_compare.specs.Part.{RestStart, in_first, longer_in, rest_start}
 use Rattle.rdp_compare.specs.Steps.{decode_answer}
-
-pub commands-none : commands_of [] ≡ []
-unfolding commands_from
-commands-none = refl
-
-pub rest-none : rest_of [] ≡ []
-unfolding rest_from
-rest-none = refl
 
 some-long : (bs : List ℕ) → 0 < length bs → is_some bs ≡ true
 some-long [] h = absurd (omega arith)
 some-long (b ∷ bs) h = refl
 
-none-some : (bs : List ℕ) → is_some bs ≡ false → bs ≡ []
-none-some [] e = refl
-none-some (b ∷ bs) e = absurd (suc-ne-zero 0 (ap (λ (x : Bool). cond x 1 0) e))
+no-bytes : (bs : List ℕ) → length bs ≡ 0 → is_some bs ≡ false
+no-bytes [] e = refl
+no-bytes (b ∷ bs) e = absurd (omega arith)
 
--- ---- the walk to the end of a list of whole words
+-- ---- the end of a list's commands
 
--- the commands before a place are whole, and those after it end as the list does
-pub record Cutting (list : List ℕ) (words at : ℕ) : Type 0 where
-  pub long : length list ≡ 8 * words
-  pub few : words ≤ 4096
-  pub within : at ≤ words
-  pub same : rest_of (drop (8 * at) list) ≡ rest_of list
-  pub places : at + words_in (commands_of (drop (8 * at) list)) ≡ words_in (commands_of list)
+-- the bytes of its commands
+pub summed : (cs : List (List ℕ)) → AllAlone cs → sum_by (length {A = ℕ}) cs ≡ 8 * words_in cs
+summed [] h = refl
+summed (c ∷ cs) h = sum_by-cons (length {A = ℕ}) c cs ∙ omega (arith, h.0, summed cs h.1)
 
 abbrev pub cut_answer : List ℕ → ℕ → Answer
 cut_answer list words = cond (is_some (rest_of list)) (answer 3 (words_in (commands_of list))) (answer 0 words)
 
-pub cutting-first : (list : List ℕ) (words : ℕ) → (length list ≡ 8 * words) × (words ≤ 4096) → Cutting list words 0
-cutting-first list words h = record { long = h.0; few = h.1; within = omega arith; same = refl; places = omega arith }
+module _ (list : List ℕ) (words : ℕ) {end : ℕ} (is : end ≡ 8 * words_in (commands_of list)) where
+  pub cut : end < length list → answer 3 (end / 8) ≡ cut_answer list words
+  cut h =
+      let s : is_some (rest_of list) ≡ true = some-long (rest_of list) (omega (arith, length-split list)) in
+      let w : end / 8 ≡ words_in (commands_of list) = omega arith in
+      rw s (ap (answer 3) w)
 
-module _ {list : List ℕ} {words at : ℕ} (t : Cutting list words at) where
-  pub no_cut : words ≤ at → answer 0 words ≡ cut_answer list words
-  no_cut h =
-      let le : length list ≤ 8 * at = omega (arith, t.long) in
-      let e : rest_of list ≡ [] = sym t.same ∙ ap rest_of (drop_of_length-le list le) ∙ rest-none in
-      rw e
-
-  module _ (more : at < words) {count : ℕ} (is : count ≡ words_of (number_in (word_at list at))) where
-    abbrev n : ℕ
-    n = number_in (word_at list at)
-
-    pub cut : words - at < count → answer 3 at ≡ cut_answer list words
-    cut h =
-        let past : length list / 8 < at + words_of n = omega (arith, t.long, is) in
-        let e : rest_of list ≡ drop (8 * at) list = sym t.same ∙ rest-past list at n refl past in
-        let s : is_some (rest_of list) ≡ true = ap is_some e ∙ some-long (drop (8 * at) list) (omega (arith, length-drop (8 * at) list, t.long)) in
-        let z : words_in (commands_of (drop (8 * at) list)) ≡ 0 = ap words_in (commands-past list at n refl past) in
-        rw s (ap (answer 3) (omega (arith, z, t.places)))
-
-    module _ (whole : count ≤ words - at) where
-      fits : at + words_of n ≤ length list / 8
-      fits = omega (arith, t.long, is)
-
-      onward : 8 * (at + words_of n) ≡ 8 * (at + count)
-      onward = omega (arith, is)
-
-      next : words_in (commands_of (drop (8 * at) list)) ≡ count + words_in (commands_of (drop (8 * (at + count)) list))
-      next =
-          ap words_in (commands-at list at n refl fits) ∙
-          (λ i. words_of (command-number list at n refl fits i) + words_in (commands_of (drop (onward i) list))) ∙
-          ap (λ (k : ℕ). k + words_in (commands_of (drop (8 * (at + count)) list))) (sym is)
-
-      pub cutting-next : Cutting list words (at + count)
-      cutting-next =
-          record {
-            long = t.long;
-            few = t.few;
-            within = omega (arith, whole);
-            same = ap (λ (k : ℕ). rest_of (drop k list)) (sym onward) ∙ sym (rest_at list at n refl fits) ∙ t.same;
-            places = omega (arith, next, t.places);
-          }
-
-      pub falls : words - (at + count) < words - at
-      falls = omega (arith, is, some_words list at n refl, whole)
+  pub no_cut : length list ≤ end → answer 0 words ≡ cut_answer list words
+  no_cut h = rw (no-bytes (rest_of list) (omega (arith, length-split list)))
 
 -- ---- the grounds of a list: those of the check where a command has none of its own
 
@@ -157,21 +105,11 @@ module _ (list : List ℕ) where
   by-cut h e f = cut-first h e f ∙ sym opened
 
   -- where none holds
-  none-holds : first_of_three.number ≡ 0 → Decodable list (length list / 8)
-  none-holds z =
-      by-test (ltb 32768 (length list)) (λ t. absurd (suc-ne-zero 0 (rw t at z)))
-      (λ f.
-      by-test (eqb (length list % 8) 0)
-      (λ e.
-      by-test (is_some (rest_of list)) (λ t. absurd (suc-ne-zero 2 (rw (f, e, t) at z)))
-      (λ g.
-      let h : length list ≤ 32768 = ltb-false _ _ f in
-      let k : length list % 8 ≡ 0 = eqb-true _ _ e in
-      record { long = omega arith; few = omega arith; none = none-some (rest_of list) g }))
-      (λ e. absurd (suc-ne-zero 1 (rw (f, e) at z))))
+  short : first_of_three.number ≡ 0 → length list ≤ 32768
+  short z = by-test (ltb 32768 (length list)) (λ t. absurd (suc-ne-zero 0 (rw t at z))) (λ f. ltb-false _ _ f)
 
-  pub sound : (decode_answer list).number ≡ 0 → Decodable list (length list / 8)
-  sound z = none-holds (ap (λ (x : Answer). x.number) (sym opened) ∙ z)
+  pub sound : (decode_answer list).number ≡ 0 → length list ≤ 32768
+  sound z = short (ap (λ (x : Answer). x.number) (sym opened) ∙ z)
 
 -- ---- grounds one after the other
 
@@ -218,7 +156,7 @@ module _ (first second : List ℕ) where
       (passed (length first / 8) (decode_grounds second) (answer 0 (length second / 8)) (decode_grounds first) (numbered first)
       (ap (λ (x : Answer). x.number) (sym e) ∙ z))
 
-  -- where none holds, both lists decode
+  -- where none holds, both lists are short enough
   module _ {r : Answer} (is : r ≡ both_answer) (zero : r.number ≡ 0) where
     none : both_answer.number ≡ 0
     none = ap (λ (x : Answer). x.number) (sym is) ∙ zero
@@ -230,10 +168,10 @@ module _ (first second : List ℕ) where
         let ne = eqb-false (decode_answer first).number 0 f in
         absurd (ne (ap (λ (x : Answer). x.number) (of-first refl ne) ∙ none)))
 
-    pub first-sound : Decodable first (length first / 8)
+    pub first-sound : length first ≤ 32768
     first-sound = sound first none_first
 
-    pub second-sound : Decodable second (length second / 8)
+    pub second-sound : length second ≤ 32768
     second-sound = sound second (ap (λ (x : Answer). x.number) (of-second refl none_first refl) ∙ none)
 
 -- ---- the answer of the comparison, by the room
@@ -297,8 +235,3 @@ module _ (first second : List ℕ) (room : ℕ) where
   pub handed : {count : ℕ} → compare_answer first second room ≡ answer 0 count → {r : RestStart} → r ≡ longer_in first second → r ≡ rest_start first second room
   unfolding rest_start
   handed a e = e ∙ rw a
-
--- a place in a list, whatever the end
-pub same_place : (a b : ℕ) (p : RestPlace) → rest_as a (Ok p) ≡ rest_as b (Ok p)
-same_place a b (InFirst n) = refl
-same_place a b (InSecond n) = refl

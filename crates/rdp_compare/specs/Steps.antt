@@ -1,6 +1,6 @@
 -- What the comparison carries on its way. No public contract cites this.
-use Rattle.std.specs.Prelude.{ℕ, ◌+◌, ◌*◌, ◌/◌, ◌<◌, ◌≤◌, cond, ◌≡◌, ◌⊎◌, List, Option, Some, None, MatchOption, ltb, length}
-use Rattle.rdp_words.specs.Words.{word_at, number_in}
+use Rattle.std.specs.Prelude.{ℕ, ◌+◌, ◌/◌, ◌≤◌, cond, ◌≡◌, ◌⊎◌, List, [], ◌∷◌, Option, Some, None, MatchOption, length}
+use Rattle.rdp_check.specs.Commands.{commands_of}
 use Rattle.rdp_words.specs.Kinds.{words_of}
 use Rattle.rdp_words.specs.Lengths.{first_number}
 use Rattle.rdp_words.specs.Grounds.{Answer}
@@ -8,8 +8,8 @@ use Rattle.rdp_command.specs.Decode.{answer}
 use Rattle.rdp_check.specs.Order.{first_of}
 use Rattle.rdp_compare.specs.Differing.{differing_fields}
 use Rattle.rdp_compare.specs.Entries.{differ, pair_entries, decode_grounds, compare_answer}
-use Rattle.rdp_compare.specs.Part.{RestStart, in_first, in_second, longer_in}
-use Rattle.rdp_compare.specs.Places.{Decodable, OneCommand, words_from}
+use Rattle.rdp_compare.specs.Part.{RestStart, longer_from, longer_in}
+use Rattle.rdp_compare.specs.Places.{OneCommand}
 use Rattle.rdp_compare.specs.declared.pairs.Pair.{Pair}
 use Rattle.rdp_compare.specs.declared.pairs.Pairs.{Pairs}
 
@@ -28,45 +28,32 @@ pub record Alike (c d : List ℕ) (n : ℕ) : Type 0 where
 abbrev pub difference : List ℕ → List ℕ → Option ℕ
 difference c d = cond (differ c d) (Some (differing_fields c d)) None
 
--- the words of the command at a place
-abbrev pub words_at : List ℕ → ℕ → ℕ
-words_at list at = words_of (number_in (word_at list at))
+-- a list is at its end
+abbrev pub Over : Pairs → Type 0
+Over p = (commands_of p.first.0.now ≡ []) ⊎ (commands_of p.second.0.now ≡ [])
 
--- the pairs are at an end of a list, and stay there
-pub record Ends (s t : Pairs) : Type 0 where
-  pub first : t.first.now ≡ s.first.now
-  pub second : t.second.now ≡ s.second.now
-  pub a : t.a ≡ s.a
-  pub b : t.b ≡ s.b
-  pub over : (length s.first.now / 8 ≤ s.a) ⊎ (length s.second.now / 8 ≤ s.b)
-
--- the pair at the places, and the places after it
+-- the next pair, and the places after it
 pub record Turns (s : Pairs) (p : Pair) (t : Pairs) : Type 0 where
-  pub first : t.first.now ≡ s.first.now
-  pub second : t.second.now ≡ s.second.now
-  pub more-one : s.a < length s.first.now / 8
-  pub more-two : s.b < length s.second.now / 8
+  pub first : commands_of s.first.0.now ≡ p.first.now ∷ commands_of t.first.0.now
+  pub second : commands_of s.second.0.now ≡ p.second.now ∷ commands_of t.second.0.now
   pub a : p.a ≡ s.a
   pub b : p.b ≡ s.b
-  pub one : p.first.now ≡ words_from s.first.now s.a (words_at s.first.now s.a)
-  pub two : p.second.now ≡ words_from s.second.now s.b (words_at s.second.now s.b)
-  pub after_a : t.a ≡ s.a + words_at s.first.now s.a
-  pub after_b : t.b ≡ s.b + words_at s.second.now s.b
+  pub after_a : t.a ≡ s.a + words_of (first_number p.first.now)
+  pub after_b : t.b ≡ s.b + words_of (first_number p.second.now)
 
 abbrev pub Turn : Pairs → Option Pair → Pairs → Type 0
-Turn s r t = MatchOption r (Ends s t) (λ p. Turns s p t)
+Turn s r t = MatchOption r ((t ≡ s) × Over s) (λ p. Turns s p t)
 
--- where the rest begins after pairs
-abbrev pub rest_by : Pairs → RestStart
-rest_by p =
-    cond (ltb p.a (length p.first.now / 8)) (in_first 0 (8 * p.a))
-    (cond (ltb p.b (length p.second.now / 8)) (in_second (8 * p.b)) (in_first 0 (length p.first.now)))
+-- where the rest begins after pairs, of lists the first of which ends at this byte
+abbrev pub rest_in : ℕ → Pairs → RestStart
+rest_in end p = longer_from end p.a p.b (commands_of p.first.0.now) (commands_of p.second.0.now)
 
--- both lists decode, and there is room for so many numbers, those of their entries; the rest begins after the pairs
+-- both lists are short enough, and there is room for so many numbers, those of their entries; the rest begins after the pairs
 pub record Counted (first second : List ℕ) (room count : ℕ) (p : Pairs) : Type 0 where
-  pub one : Decodable first (length first / 8)
-  pub two : Decodable second (length second / 8)
+  pub one : length first ≤ 32768
+  pub two : length second ≤ 32768
   pub needed : count ≡ length (pair_entries first second)
   pub fits : count ≤ room
   pub answers : answer 0 count ≡ compare_answer first second room
-  pub rest : rest_by p ≡ longer_in first second
+  pub over : Over p
+  pub rest : rest_in (length first) p ≡ longer_in first second

@@ -1,11 +1,11 @@
 // The entries of paired commands that differ.
-ghost use Rattle.std.specs.Prelude.{◌≡◌, ◌+◌, ◌/◌, ◌≤◌, Ok, Err, MatchResult, length};
+ghost use Rattle.std.specs.Prelude.{◌≡◌, ◌+◌, ◌≤◌, Ok, Err, MatchResult, length};
 ghost use Rattle.rdp_words.specs.Words.{overwrite, WrittenIs};
 ghost use Rattle.rdp_words.specs.Grounds.{answered};
 ghost use Rattle.rdp_compare.specs.Entries.{pair_entry, pair_entries, compare_answer};
 ghost use Rattle.rdp_compare.specs.Part.{rest_as};
-ghost use Rattle.rdp_compare.specs.Places.{Decodable, OneCommand};
-ghost use Rattle.rdp_compare.specs.Steps.{difference, rest_by, Counted};
+ghost use Rattle.rdp_compare.specs.Places.{OneCommand};
+ghost use Rattle.rdp_compare.specs.Steps.{difference, Over, rest_in, Counted};
 
 use crate::pairs::{Pair, Pairs};
 use crate::{RestPlace, fieldwise, grounds};
@@ -83,8 +83,7 @@ pub fn counted<'a>(
 
 // Writes the entries of two lists.
 pub fn write_entries(first: &[u8], second: &[u8], entries: &mut [u32])
-    requires { Decodable first.now (length first.now / 8)
-        × (Decodable second.now (length second.now / 8) × (length (pair_entries first.now second.now) ≤ length entries.old)) }
+    requires { ((length first.now ≤ 32768) × (length second.now ≤ 32768)) × (length (pair_entries first.now second.now) ≤ length entries.old) }
     ensures { entries.new ≡ overwrite (pair_entries first.now second.now) entries.old }
 {
     let mut to = 0;
@@ -93,15 +92,18 @@ pub fn write_entries(first: &[u8], second: &[u8], entries: &mut [u32])
     }
 }
 
-// Where the rest begins after the paired commands.
-pub fn rest_after(pairs: Pairs) -> RestPlace
-    ensures { rest_as 0 (Ok result) ≡ rest_by pairs.entry }
+// Where the rest begins after the paired commands of lists the first of which ends at this byte.
+pub fn rest_after(pairs: Pairs, end: usize) -> RestPlace
+    requires { Over pairs }
+    ensures { rest_as end (Ok result) ≡ rest_in end pairs.entry }
 {
-    if pairs.a < pairs.first.len() / 8 {
+    let mut first = pairs.first;
+    let mut second = pairs.second;
+    if first.next().is_some() {
         return RestPlace::InFirst(8 * pairs.a);
     }
-    if pairs.b < pairs.second.len() / 8 {
+    if second.next().is_some() {
         return RestPlace::InSecond(8 * pairs.b);
     }
-    RestPlace::InFirst(pairs.first.len())
+    RestPlace::InFirst(end)
 }

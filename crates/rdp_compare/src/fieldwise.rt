@@ -67,7 +67,8 @@ fn field_bits(number: u8, first: &[u64], second: &[u64]) -> u64
         .sum()
 }
 
-// A bit for each field in which two commands differ, a triangle's suffix the last.
+// A bit for each field in which two commands differ, a triangle's suffix the last. Not inlined, so that comparing equal commands saves no registers for it.
+#[inline(never)]
 pub fn differing(number: u8, first: &[u8], second: &[u8]) -> u64
     requires { Alike first.now second.now number }
     ensures { result ≡ differing_fields first.now second.now }

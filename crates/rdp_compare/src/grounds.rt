@@ -1,8 +1,6 @@
 // Whether lists decode.
 ghost use Rattle.std.specs.Prelude.{cond, ◌≡◌, ◌++◌, ◌*◌, ◌/◌, ◌≤◌, length};
 ghost use Rattle.rdp_command.specs.Decode.{answer};
-ghost use Rattle.rdp_words.specs.Words.{word_at, number_in};
-ghost use Rattle.rdp_words.specs.Kinds.{words_of};
 ghost use Rattle.rdp_words.specs.Grounds.{answered};
 ghost use Rattle.rdp_check.specs.Commands.{commands_of, rest_of, words_in};
 ghost use Rattle.rdp_check.specs.Order.{first_of};
@@ -10,30 +8,20 @@ ghost use Rattle.rdp_check.specs.Refusals.{is_some};
 ghost use Rattle.rdp_compare.specs.Entries.{decode_grounds};
 ghost use Rattle.rdp_compare.specs.Steps.{decode_answer};
 
+use rdp_check::Commands;
 use rdp_words::{Answer, Ground, Refusal};
-
-// The words of the command at a place, by its number.
-pub fn words_at(list: &[u8], place: usize) -> usize
-    ensures { result ≡ words_of (number_in (word_at list.now place)) }
-{
-    rdp_words::words_of(rdp_words::number_at(list, place))
-}
 
 // The commands of a list of whole words: 3 at one that runs past the end, or the number of words.
 fn cut_at(list: &[u8], words: usize) -> Answer
     requires { (length list.now ≡ 8 * words) × (words ≤ 4096) }
     ensures { answered result ≡ cond (is_some (rest_of list.now)) (answer 3 (words_in (commands_of list.now))) (answer 0 words) }
 {
-    let mut at: usize = 0;
-    while at < words {
-        let count = words_at(list, at);
-        if words - at < count {
-            return Err(Refusal {
-                ground: Ground::Cut,
-                place: at as u32,
-            });
-        }
-        at += count;
+    let end: usize = Commands(list).map(|command| command.len()).sum();
+    if end < list.len() {
+        return Err(Refusal {
+            ground: Ground::Cut,
+            place: (end / 8) as u32,
+        });
     }
     Ok(words as u32)
 }

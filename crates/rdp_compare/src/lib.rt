@@ -37,7 +37,7 @@ pub fn rest_start(first: &[u8], second: &[u8], room: usize) -> Result<RestPlace,
     ensures { rest_as (length first.now) result ≡ rest_start first.now second.now room }
 {
     let (_, pairs) = entries::counted(first, second, room)?;
-    Ok(entries::rest_after(pairs))
+    Ok(entries::rest_after(pairs, first.len()))
 }
 
 // That rest, as a part of the list that was lent; where the comparison refuses, the empty end of the first list.

@@ -1,8 +1,9 @@
-// The commands of two lists that decode, paired by index from the first command.
-ghost use Rattle.std.specs.Prelude.{◌≡◌, ◌*◌, ◌/◌, ◌≤◌, length};
-ghost use Rattle.rdp_compare.specs.Places.{Decodable, At, OneCommand};
+// The commands of two lists, paired by index from the first command.
+ghost use Rattle.std.specs.Prelude.{◌≡◌, ◌+◌, ◌≤◌, length};
+ghost use Rattle.rdp_check.specs.Commands.{commands_of, words_in};
+ghost use Rattle.rdp_compare.specs.Places.{OneCommand};
 
-use crate::grounds::words_at;
+use rdp_check::Commands;
 
 // Two commands and their places.
 #[derive(Clone, Copy)]
@@ -16,66 +17,64 @@ pub struct Pair<'a> {
     ghost few: { (a ≤ 4096) × (b ≤ 4096) },
 }
 
-// The pairs from a place of each list on.
+// The commands that are left of each list, and the places of the first of them.
 #[derive(Clone, Copy)]
 pub struct Pairs<'a> {
-    pub first: &'a [u8],
-    pub second: &'a [u8],
+    pub first: Commands<'a>,
     pub a: usize,
+    pub second: Commands<'a>,
     pub b: usize,
-    ghost one: { At first.now (length first.now / 8) a },
-    ghost two: { At second.now (length second.now / 8) b },
+    ghost one: { a + words_in (commands_of first.0.now) ≤ 4096 },
+    ghost two: { b + words_in (commands_of second.0.now) ≤ 4096 },
 }
 
 impl<'a> Pairs<'a> {
     pub fn new(first: &'a [u8], second: &'a [u8]) -> Pairs<'a>
-        requires { Decodable first.now (length first.now / 8) × Decodable second.now (length second.now / 8) }
-        ensures { ((result.first.now ≡ first.now) × (result.second.now ≡ second.now)) × ((result.a ≡ 0) × (result.b ≡ 0)) }
+        requires { (length first.now ≤ 32768) × (length second.now ≤ 32768) }
+        ensures { ((result.first.0.now ≡ first.now) × (result.second.0.now ≡ second.now)) × ((result.a ≡ 0) × (result.b ≡ 0)) }
     {
         Pairs {
-            first,
-            second,
+            first: Commands(first),
             a: 0,
+            second: Commands(second),
             b: 0,
         }
     }
 }
 
 impl<'a> Iterator for Pairs<'a> {
-    ghost use Rattle.std.specs.Prelude.{◌-◌, ◌/◌, length};
+    ghost use Rattle.std.specs.Prelude.{length};
     ghost use Rattle.std.specs.Iterator.{at_most};
+    ghost use Rattle.rdp_check.specs.Commands.{commands_of};
     ghost use Rattle.rdp_compare.specs.Steps.{Turn};
 
     type Item = Pair<'a>;
 
     ghost next_gives = { Turn };
 
-    ghost remaining = { λ s. at_most (length s.first.now / 8 - s.a) };
+    ghost remaining = { λ s. at_most (length (commands_of s.first.0.now)) };
 
     #[inline]
     fn next(&mut self) -> Option<Pair<'a>> {
         let Pairs {
-            first,
-            second,
+            mut first,
             a,
+            mut second,
             b,
         } = *self;
-        if first.len() / 8 <= a || second.len() / 8 <= b {
-            return None;
-        }
-        let a_end = a + words_at(first, a);
-        let b_end = b + words_at(second, b);
+        let one = first.next()?;
+        let two = second.next()?;
         *self = Pairs {
             first,
+            a: a + one.len() / 8,
             second,
-            a: a_end,
-            b: b_end,
+            b: b + two.len() / 8,
         };
         Some(Pair {
             a,
-            first: &first[8 * a..8 * a_end],
+            first: one,
             b,
-            second: &second[8 * b..8 * b_end],
+            second: two,
         })
     }
 }

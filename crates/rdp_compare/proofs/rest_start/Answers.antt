@@ -1,7 +1,7 @@
-use Rattle.std.proofs.Common.{length, sym, ◌∙◌}
+use Rattle.std.proofs.Common.{sym, ◌∙◌}
 use Rattle.std.proofs.lemmas.Result.{err_from_is_err_and}
 use Rattle.rdp_words.proofs.GroundLaws.{refused-number}
-use Rattle.rdp_compare.proofs.GroundLaws.{refused_end, handed, same_place}
+use Rattle.rdp_compare.proofs.GroundLaws.{refused_end, handed}
 use Rattle.rdp_compare.proofs.rest_start.Goals as goal
 
 pub returns-in_err-pairs : goal.returns-in_err-pairs
@@ -12,6 +12,5 @@ returns-in_err-pairs c =
 
 pub returns : goal.returns
 returns c =
-    let first = c.args.first.now in
     let all = c.in_ok-pairs.ensures in
-    handed first c.args.second.now c.args.room (sym all.answers) (same_place (length first) 0 c.rest_after.result ∙ c.rest_after.ensures ∙ all.rest)
+    handed c.args.first.now c.args.second.now c.args.room (sym all.answers) (c.rest_after.ensures ∙ all.rest)
