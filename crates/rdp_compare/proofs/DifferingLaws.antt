@@ -23,7 +23,7 @@ use Rattle.rdp_words.proofs.GroundLaws.{refused-number}
 use Rattle.rdp_words.proofs.Tests.{below, both}
 use Rattle.rdp_words.proofs.KindLaws.{words-pos}
 use Rattle.rdp_words.proofs.PlaceLaws.{number_small, words-there}
-use Rattle.rdp_words.proofs.OverwriteLaws.{take-overwrite, overwrite-none}
+use Rattle.rdp_words.proofs.OverwriteLaws.{take-overwrite}
 use Rattle.rdp_command.specs.Layout.{layout}
 use Rattle.rdp_command.specs.Decode.{Decoded, Whole, Refused, decode_of, answer}
 use Rattle.rdp_command.specs.declared.Command.{Command}
@@ -128,31 +128,36 @@ module _ (c : List ℕ) (one : OneCommand c) where
 
 -- ---- its fields as the code takes them
 
-module _ (c numbers : List ℕ) (room : 37 ≤ length numbers) where
-  pub whole_numbers :
-      {x : Command} → Whole x ≡ decode_of c → (a : Result ℕ Refusal) {new : List ℕ} → answered a ≡ fields_answer x numbers → new ≡ fields_out x numbers →
-      ((result_unwrap_or a 0 ≡ length (field_numbers c)) × (result_unwrap_or a 0 ≤ 37)) × (new ≡ overwrite (field_numbers c) numbers)
-  unfolding fields_answer fields_out
-  whole_numbers {x} is a {new} is-a is-new =
-      let d : decode_of c ≡ Whole x = sym is in
-      let e : field_numbers c ≡ numbers_of x = ap numbers_in d in
-      let l : length (numbers_of x) ≤ 37 = rw (fields-decoded c d) (lines-most (first_number c) (number_small (word_at c 0))) in
-      let fits = le-ltb (length numbers) (length (numbers_of x)) (omega (arith, l, room)) in
-      let p = given a (is-a ∙ rw fits refl) in
-      ((p ∙ ap length (sym e), rw p l), is-new ∙ rw fits (ap (λ (l : List ℕ). overwrite l numbers) (sym e)))
-    where
-      given : (a : Result ℕ Refusal) {n : ℕ} → answered a ≡ answer 0 n → result_unwrap_or a 0 ≡ n
-      given (Ok m) f = ap (λ (y : Answer). y.place) f
-      given (Err r) f = absurd (refused-number r.ground (ap (λ (y : Answer). y.number) f))
+-- the numbers that are written, at the front of what is lent
+module _ (c lent : List ℕ) (room : 37 ≤ length lent) {x : Command} (is : Whole x ≡ decode_of c) where
+  numbers-are : field_numbers c ≡ numbers_of x
+  numbers-are = ap numbers_in (sym is)
 
-  pub no-numbers : {a : Answer} → Refused a ≡ decode_of c → ((0 ≡ length (field_numbers c)) × (0 ≤ 37)) × (numbers ≡ overwrite (field_numbers c) numbers)
-  no-numbers {a} w =
-      let e : field_numbers c ≡ [] = ap numbers_in (sym w) in
-      ((ap length (sym e), omega arith), sym (overwrite-none numbers) ∙ ap (λ (l : List ℕ). overwrite l numbers) (sym e))
+  few-numbers : length (numbers_of x) ≤ 37
+  few-numbers = rw (fields-decoded c (sym is)) (lines-most (first_number c) (number_small (word_at c 0)))
 
--- the numbers at the front of what holds them
-pub front : (c : List ℕ) {n : ℕ} {new : List ℕ} → n ≡ length (field_numbers c) → (old : List ℕ) → new ≡ overwrite (field_numbers c) old → take n new ≡ field_numbers c
-front c {n} is old e = ap (take n) e ∙ take-overwrite (field_numbers c) old n (sym is)
+  fits : ltb (length lent) (length (numbers_of x)) ≡ false
+  fits = le-ltb (length lent) (length (numbers_of x)) (omega (arith, few-numbers, room))
+
+  given : (a : Result ℕ Refusal) {n : ℕ} → answered a ≡ answer 0 n → result_unwrap_or a 0 ≡ n
+  given (Ok m) f = ap (λ (y : Answer). y.place) f
+  given (Err r) f = absurd (refused-number r.ground (ap (λ (y : Answer). y.number) f))
+
+  pub written-count : (a : Result ℕ Refusal) → answered a ≡ fields_answer x lent → result_unwrap_or a 0 ≡ length (field_numbers c)
+  unfolding fields_answer
+  written-count a e = given a (e ∙ rw fits refl) ∙ ap length (sym numbers-are)
+
+  pub few-fields : length (field_numbers c) ≤ 37
+  few-fields = rw numbers-are few-numbers
+
+  pub written-front : (a : Result ℕ Refusal) → answered a ≡ fields_answer x lent → {new : List ℕ} → new ≡ fields_out x lent → take (result_unwrap_or a 0) new ≡ field_numbers c
+  unfolding fields_out
+  written-front a e f =
+      ap (take (result_unwrap_or a 0)) (f ∙ rw fits (ap (λ (l : List ℕ). overwrite l lent) (sym numbers-are))) ∙
+      take-overwrite (field_numbers c) lent (result_unwrap_or a 0) (sym (written-count a e))
+
+pub no-fields : (c : List ℕ) {a : Answer} → Refused a ≡ decode_of c → [] ≡ field_numbers c
+no-fields c e = ap numbers_in e
 
 -- ---- two commands of one number
 
@@ -169,26 +174,17 @@ module _ {c d : List ℕ} {n : ℕ} (a : Alike c d n) where
   pub as_many : length (field_numbers c) ≡ length (field_numbers d)
   as_many = fields-long c a.one ∙ ap (λ (k : ℕ). length (layout k)) same ∙ sym (fields-long d a.two)
 
-  module _ {x y bits : ℕ} {xs ys : List ℕ} (is_x : x ≡ length (field_numbers c)) (is_y : y ≡ length (field_numbers d))
-      (is-xs : xs ≡ field_numbers c) (is-ys : ys ≡ field_numbers d) (is-bits : bits ≡ bits_from n 0 (unlike xs ys))
-      {s : Bool} (is-s : s ≡ same_bytes (suffix_of c) (suffix_of d)) where
-    together : differing_fields c d ≡ bits + cond (not s) (2 ^ line_index n x) 0
+  module _ {bits : ℕ} {xs ys : List ℕ} (is-xs : xs ≡ field_numbers c) (is-ys : ys ≡ field_numbers d) (is-bits : bits ≡ bits_from n 0 (unlike xs ys)) where
+    pub of-suffix : (s : Bool) → same_bytes (suffix_of c) (suffix_of d) ≡ s → differing_fields c d ≡ bits + cond (not s) (2 ^ line_index n (length xs)) 0
     unfolding differing_fields
-    together =
+    of-suffix s t =
         let us = unlike (field_numbers c) (field_numbers d) in
-        let k : 0 + length us ≡ x = zero-add (length us) ∙ length-unlike (field_numbers c) (field_numbers d) as_many ∙ sym is_x in
-        let t : same_bytes (suffix_of c) (suffix_of d) ≡ s = sym is-s in
+        let k : 0 + length us ≡ length xs = zero-add (length us) ∙ length-unlike (field_numbers c) (field_numbers d) as_many ∙ sym (ap length is-xs) in
         rw (eq-eqb (first_number c) (first_number d) same)
         (ap (λ (j : ℕ). bits_from j 0 (fields_differ c d)) (sym a.first) ∙
         bits-last n 0 us (not (same_bytes (suffix_of c) (suffix_of d))) ∙
         (λ i. bits_from n 0 (unlike (sym is-xs i) (sym is-ys i)) + cond (not (t i)) (2 ^ line_index n (k i)) 0) ∙
-        ap (λ (b : ℕ). b + cond (not s) (2 ^ line_index n x) 0) (sym is-bits))
-
-    pub same-suffix : s ≡ true → bits ≡ differing_fields c d
-    same-suffix t = sym (together ∙ rw t (add-zero bits))
-
-    pub other-suffix : s ≡ false → {b : ℕ} → b ≡ 2 ^ line_index n x → bits + b ≡ differing_fields c d
-    other-suffix f e = ap (λ (y : ℕ). bits + y) e ∙ sym (together ∙ rw f)
+        ap (λ (b : ℕ). b + cond (not s) (2 ^ line_index n (length xs)) 0) (sym is-bits))
 
 -- ---- commands of other numbers, and the same bytes
 

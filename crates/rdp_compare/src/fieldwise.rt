@@ -1,6 +1,6 @@
 // Which fields of two commands of one number differ.
 ghost use Rattle.std.specs.Prelude.{cond, not, eqb, ◌≡◌, ◌%◌, ◌^◌, ◌<◌, ◌≤◌, length};
-ghost use Rattle.rdp_words.specs.Words.{overwrite, same_bytes};
+ghost use Rattle.rdp_words.specs.Words.{same_bytes};
 ghost use Rattle.rdp_compare.specs.Differing.{field_numbers, unlike, unnamed_before, line_index, bits_from, differing_fields};
 ghost use Rattle.rdp_compare.specs.Places.{OneCommand};
 ghost use Rattle.rdp_compare.specs.Steps.{Alike};
@@ -13,16 +13,16 @@ pub fn same(first: &[u8], second: &[u8]) -> bool
     (0..first.len() / 8).all(|k| rdp_words::word_at(first, k) == rdp_words::word_at(second, k))
 }
 
-// Writes the numbers of a command's fields to the front, and answers their count.
-fn numbers_of(command: &[u8], numbers: &mut [u64]) -> usize
+// The numbers of a command's fields, written to the front of what is lent.
+fn numbers_of<'a>(command: &[u8], numbers: &'a mut [u64]) -> &'a [u64]
     requires { OneCommand command.now × (37 ≤ length numbers.old) }
-    ensures count { (result ≡ length (field_numbers command.now)) × (result ≤ 37) }
-    ensures numbers { numbers.new ≡ overwrite (field_numbers command.now) numbers.old }
+    ensures { (result.now ≡ field_numbers command.now) × (length result.now ≤ 37) }
 {
-    match rdp_command::decode(command) {
-        Ok(fields) => rdp_encode::fields(fields, numbers).unwrap_or(0) as usize,
-        Err(_) => 0,
-    }
+    let Ok(fields) = rdp_command::decode(command) else {
+        return &[];
+    };
+    let count = rdp_encode::fields(fields, numbers).unwrap_or(0) as usize;
+    &numbers[..count]
 }
 
 // The lines of Set Other Modes that name no field and stand before field k.
@@ -75,11 +75,11 @@ pub fn differing(number: u8, first: &[u8], second: &[u8]) -> u64
 {
     let mut one = [0u64; 37];
     let mut two = [0u64; 37];
-    let count = numbers_of(first, &mut one);
-    let other = numbers_of(second, &mut two);
-    let bits = field_bits(number, &one[..count], &two[..other]);
+    let firsts = numbers_of(first, &mut one);
+    let seconds = numbers_of(second, &mut two);
+    let bits = field_bits(number, firsts, seconds);
     if rdp_words::suffix(first) == rdp_words::suffix(second) {
         return bits;
     }
-    bits + bit_of(number, count)
+    bits + bit_of(number, firsts.len())
 }
