@@ -2,7 +2,7 @@
 use Rattle.std.specs.Prelude.{ℕ, ◌+◌, ◌*◌, ◌/◌, ◌%◌, ◌^◌, Bool, false, List, [], ◌∷◌}
 use Rattle.std.specs.List.{fold}
 use Rattle.std.specs.Int.Bits.{bit_or, bit_xor}
-use mir.Val.{bool_byte}
+use Rattle.std.specs.Int.{from_bool}
 use Rattle.rdp_command.specs.declared.Color.{Color}
 use Rattle.rdp_command.specs.declared.PrimitiveColor.{PrimitiveColor}
 use Rattle.rdp_command.specs.declared.KeyGb.{KeyGb}
@@ -39,10 +39,10 @@ unfoldable pub mixed_five : ℕ → ℕ → ℕ → ℕ → ℕ → ℕ
 mixed_five a b c d e = bit_xor (bit_xor (bit_xor (bit_xor a (rotated 13 51 b)) (rotated 26 38 c)) (rotated 39 25 d)) (rotated 52 12 e)
 
 abbrev pub mixed_flag : Bool → ℕ
-mixed_flag a = bool_byte a
+mixed_flag a = from_bool a
 
 abbrev pub mixed_bits : Bool → Bool → Bool → Bool → ℕ
-mixed_bits a b c d = laid 1 1 (bool_byte a) (bool_byte b ∷ bool_byte c ∷ bool_byte d ∷ [])
+mixed_bits a b c d = laid 1 1 (from_bool a) (from_bool b ∷ from_bool c ∷ from_bool d ∷ [])
 
 abbrev pub mixed_bytes : ℕ → ℕ → ℕ → ℕ → ℕ
 mixed_bytes a b c d = laid 8 8 a (b ∷ c ∷ d ∷ [])
@@ -54,10 +54,10 @@ mixed_halves a b c d = laid 16 16 a (b ∷ c ∷ d ∷ [])
 
 -- a register of one number
 abbrev pub mixed_number : Bool → ℕ → ℕ
-mixed_number set value = laid 8 8 (bool_byte set) (value ∷ [])
+mixed_number set value = laid 8 8 (from_bool set) (value ∷ [])
 
 abbrev pub mixed_image : Register Image → ℕ
-mixed_image g = laid 9 9 (bool_byte g.set) (g.value.format ∷ g.value.size ∷ g.value.width ∷ g.value.address ∷ [])
+mixed_image g = laid 9 9 (from_bool g.set) (g.value.format ∷ g.value.size ∷ g.value.width ∷ g.value.address ∷ [])
 
 abbrev pub mixed_color : Register Color → ℕ
 mixed_color g = mixed_five (mixed_flag g.set) (mixed_bytes g.value.red g.value.green g.value.blue g.value.alpha) 0 0 0

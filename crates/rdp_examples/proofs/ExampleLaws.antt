@@ -1,5 +1,5 @@
 -- Examples A to O and those of the requests hold of the definitions, which antt computes. Assumes nothing.
-use lib.Dec.{T}
+use Rattle.std.specs.Prelude.{T}
 use Rattle.rdp_words.specs.Words.{half_of, word_at, same_bytes, overwrite}
 use Rattle.rdp_words.specs.Kinds.{kind_of, words_of}
 use Rattle.rdp_command.specs.Layout.{layout}
