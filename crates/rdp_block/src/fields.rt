@@ -16,6 +16,7 @@ fn count_of(first: u16, last: u16) -> u64
 }
 
 // 17: what a Load Tile needs, and 1 to 2,048 texels.
+#[tactic(auto, unfolding(crate::specs::Block::block_needs))]
 pub fn block_needs(load: LoadFields) -> bool
     ensures { result ≡ block_needs load }
 {

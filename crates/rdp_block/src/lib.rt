@@ -24,16 +24,6 @@ pub fn block_refusal(load: LoadFields, start: u64, len: usize) -> Result<(), Gro
     fields::of_load(load, start).refusal(len)
 }
 
-// Loads a block of which no texel is refused. The loop over lines has one call, where the compiler puts it.
-fn load_texels(memory: &[u8], start: u64, texture: &mut [u8], load: LoadFields)
-    requires { (length texture.old ≡ 4096) × (block_refusal load start (length memory.now) ≡ 0) }
-    ensures { texture.new ≡ loaded start memory.now (block_moves load) texture.old }
-{
-    let block = fields::of_load(load, start);
-    let first = loading::load_words(memory, texture, block);
-    loading::load_lines(memory, texture, block, first);
-}
-
 // Loads a block out of memory that starts at address `start`. The refusals are 16, 17, 12 and 18, in this order; they leave texture memory as it was.
 pub fn load_block(
     memory: &[u8],
@@ -48,6 +38,8 @@ pub fn load_block(
         return Err(Ground::NoTextureMemory);
     }
     block_refusal(load, start, memory.len())?;
-    load_texels(memory, start, texture, load);
+    let block = fields::of_load(load, start);
+    let first = loading::load_words(memory, texture, block);
+    loading::load_lines(memory, texture, block, first);
     Ok(())
 }

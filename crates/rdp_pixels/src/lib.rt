@@ -9,7 +9,7 @@ pub fn first_kept(near: u16, clip: u16) -> u64
 {
     let first = near as u64 / 4;
     let edge = (clip as u64 + 3) / 4;
-    if first < edge { edge } else { first }
+    first.max(edge)
 }
 
 // The column, or row, past the last kept one: the rectangle's last is included, and 4p is below the scissor's edge.
@@ -18,20 +18,19 @@ pub fn end_kept(far: u16, clip: u16) -> u64
 {
     let past = far as u64 / 4 + 1;
     let end = (clip as u64 + 3) / 4;
-    if past < end { past } else { end }
+    past.min(end)
 }
 
 // Whether a scissor's field setting keeps row y.
+#[tactic(auto, unfolding(crate::specs::Kept::line_kept))]
 pub fn row_kept(field: bool, odd: bool, y: u64) -> bool
     ensures { result ≡ line_kept «field» odd y }
 {
-    if !field {
-        return true;
-    }
-    if odd { y % 2 == 1 } else { y % 2 == 0 }
+    !field | ((y % 2 == 1) == odd)
 }
 
 // The first row that a rectangle has and the scissor keeps, if there is one. The flags come one by one: a copy of the whole scissor would wait for its parts.
+#[tactic(auto, unfolding(crate::specs::Kept::kept_from))]
 pub fn first_kept_row(near: u16, clip: u16, field: bool, odd: bool) -> u64
     ensures { (result ≡ kept_from «field» odd (first_kept near clip)) × (result ≤ 16385) }
 {

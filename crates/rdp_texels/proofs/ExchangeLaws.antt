@@ -160,13 +160,26 @@ module _ (turn_to turn_from : Bool) (s d : ℕ) (from before : List ℕ) where
       ∙ part-joined turn_to turn_from s d from before 0 (first + m) n (omega arith) fits
 
 -- the first bytes and the last ones one by one, `groups` eights between them exchanged
-pub odd-three : (into : Bool) (s d first n groups : ℕ) (from before : List ℕ) {one two end : List ℕ} → first + 8 * groups ≤ n
+module _ (s d first n groups : ℕ) (from before : List ℕ) {one two end : List ℕ} (fits : first + 8 * groups ≤ n) where
+  odd-parts : (into : Bool) → (first < n → (cond into d s + first) % 8 ≡ 0) → one ≡ part into (not into) s d 0 first from before
+      → two ≡ exchanged (s + first) (d + first) (8 * groups) from one → end ≡ part into (not into) s d (first + 8 * groups) n from two
+      → end ≡ part into (not into) s d 0 n from before
+  odd-parts true whole a b c =
+      three true false s d from before first n (8 * groups) fits a
+      (b ∙ exchanged-to (s + first) (d + first) (8 * groups) from one (omega arith) (λ h. whole (omega arith))) c
+  odd-parts false whole a b c =
+      three false true s d from before first n (8 * groups) fits a
+      (b ∙ exchanged-from (s + first) (d + first) (8 * groups) from one (λ h. whole (omega arith))) c
+
+-- of a run that is odd, one side is turned
+turned-side : (into odd : Bool) → odd ≡ true → (s d n : ℕ) (from to : List ℕ)
+    → part into (not into) s d 0 n from to ≡ part (cond into odd false) (cond into false odd) s d 0 n from to
+turned-side true odd e s d n from to = rw e
+turned-side false odd e s d n from to = rw e
+
+pub odd-three : (into odd : Bool) → odd ≡ true → (s d first n groups : ℕ) (from before : List ℕ) {one two end : List ℕ} → first + 8 * groups ≤ n
     → (first < n → (cond into d s + first) % 8 ≡ 0) → one ≡ part into (not into) s d 0 first from before
     → two ≡ exchanged (s + first) (d + first) (8 * groups) from one → end ≡ part into (not into) s d (first + 8 * groups) n from two
-    → end ≡ part into (not into) s d 0 n from before
-odd-three true s d first n groups from before {one} fits whole a b c =
-    three true false s d from before first n (8 * groups) fits a
-    (b ∙ exchanged-to (s + first) (d + first) (8 * groups) from one (omega arith) (λ h. whole (omega arith))) c
-odd-three false s d first n groups from before {one} fits whole a b c =
-    three false true s d from before first n (8 * groups) fits a
-    (b ∙ exchanged-from (s + first) (d + first) (8 * groups) from one (λ h. whole (omega arith))) c
+    → end ≡ part (cond into odd false) (cond into false odd) s d 0 n from before
+odd-three into odd e s d first n groups from before fits whole a b c =
+    odd-parts s d first n groups from before fits into whole a b c ∙ turned-side into odd e s d n from before

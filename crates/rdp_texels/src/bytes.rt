@@ -15,6 +15,7 @@ pub struct Run {
 }
 
 // A byte number, with its bit 2 turned over in an odd row of texture memory.
+#[tactic(auto, unfolding(crate::specs::Texels::turned))]
 fn turn(b: usize, odd: bool) -> usize
     requires { b < 9223372036854775808 }
     ensures { result ≡ in_row odd b }
@@ -25,11 +26,12 @@ fn turn(b: usize, odd: bool) -> usize
     b
 }
 
-// How many of the n bytes of a row stand before the first that starts eight bytes of texture memory; `at` is the first one's byte there.
-fn head(at: usize, n: usize) -> usize
-    ensures { (result ≤ n) × ((result < n → (at + result) % 8 ≡ 0) × (result < 8)) }
+// How many bytes of a run stand before the first that starts eight bytes of texture memory.
+fn head<const INTO: bool>(run: Run) -> usize
+    ensures { (result ≤ run.n) × (result < run.n → (cond INTO run.d run.s + result) % 8 ≡ 0) }
 {
-    n.min((8 - at % 8) % 8)
+    let at = if INTO { run.d } else { run.s };
+    run.n.min((8 - at % 8) % 8)
 }
 
 // Eight bytes, whose halves exchange places where they are turned. All are read before one is written, so that more of them move at a time.
@@ -66,26 +68,18 @@ fn move_turned<const INTO: bool>(from: &[u8], to: &mut [u8], run: Run, a: usize,
     }
 }
 
-// An odd run. Its first bytes, up to where eight bytes of texture memory start, and its last ones go one by one.
-fn move_odd<const INTO: bool>(from: &[u8], to: &mut [u8], run: Run, first: usize)
-    requires { RunFits INTO run (length from.now) (length to.old) × (first ≤ run.n) × (first < run.n → (cond INTO run.d run.s + first) % 8 ≡ 0) }
-    ensures { to.new ≡ part INTO (not INTO) run.s run.d 0 run.n from.now to.old }
-{
-    let groups = (run.n - first) / 8;
-    move_turned::<INTO>(from, to, run, 0, first);
-    exchange_groups(from, run.s + first, to, run.d + first, groups);
-    move_turned::<INTO>(from, to, run, first + 8 * groups, run.n);
-}
-
-// Moves a run.
+// Moves a run. Of an odd one the first bytes, up to where eight bytes of texture memory start, and the last ones go one by one.
 pub fn move_run<const INTO: bool>(from: &[u8], to: &mut [u8], run: Run)
     requires { RunFits INTO run (length from.now) (length to.old) }
     ensures { to.new ≡ run_moved INTO run from.now to.old }
 {
-    if run.odd {
-        let at = if INTO { run.d } else { run.s };
-        move_odd::<INTO>(from, to, run, head(at, run.n));
+    if !run.odd {
+        to[run.d..run.d + run.n].copy_from_slice(&from[run.s..run.s + run.n]);
         return;
     }
-    to[run.d..run.d + run.n].copy_from_slice(&from[run.s..run.s + run.n]);
+    let first = head::<INTO>(run);
+    let groups = (run.n - first) / 8;
+    move_turned::<INTO>(from, to, run, 0, first);
+    exchange_groups(from, run.s + first, to, run.d + first, groups);
+    move_turned::<INTO>(from, to, run, first + 8 * groups, run.n);
 }

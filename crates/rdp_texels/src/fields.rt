@@ -7,14 +7,14 @@ ghost use Rattle.rdp_texels.specs.Views.{gridded, spanned};
 use crate::grids::{Corner, Plane, Texels, Window};
 use rdp_command::{CopyFields, LoadFields};
 
-// A whole number's part above 0, and its part below.
-pub fn ahead(z: i16) -> u64
+// What a whole number is above 0, and what it is below.
+fn above(z: i16) -> u64
     ensures { (result ≡ ahead_of z) × (result ≤ 32768) }
 {
     u64::from(z.max(0).unsigned_abs())
 }
 
-pub fn behind(z: i16) -> u64
+fn below(z: i16) -> u64
     ensures { (result ≡ behind_of z) × (result ≤ 32768) }
 {
     u64::from(z.min(0).unsigned_abs())
@@ -127,10 +127,10 @@ fn copy_corner(copy: CopyFields) -> Corner
     let near = copy.rectangle.upper_left;
     let tile = copy.tile_corner;
     Corner {
-        down: ahead(step.t) / 32,
-        right: ahead(step.s) / 32,
-        up: behind(step.t) / 32 + near.y as u64 / 4 + tile.t as u64 / 4,
-        left: behind(step.s) / 32 + near.x as u64 / 4 + tile.s as u64 / 4,
+        down: above(step.t) / 32,
+        right: above(step.s) / 32,
+        up: below(step.t) / 32 + near.y as u64 / 4 + tile.t as u64 / 4,
+        left: below(step.s) / 32 + near.x as u64 / 4 + tile.s as u64 / 4,
     }
 }
 

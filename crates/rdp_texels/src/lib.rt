@@ -25,6 +25,7 @@ use rdp_words::Ground;
 pub const TEXTURE_BYTES: usize = 4096;
 
 // Whether a load's texture image and its tile's descriptor are set and 16-bit RGBA: else 17 refuses it.
+#[tactic(auto, unfolding(crate::specs::Load::load_needs))]
 pub fn load_needs(load: LoadFields) -> bool
     ensures { result ≡ load_needs load }
 {
@@ -55,14 +56,6 @@ pub fn load_run(memory: &[u8], s: usize, texture: &mut [u8], d: usize, n: usize,
     }
 }
 
-// Loads a tile of which no texel is refused.
-fn load_texels(memory: &[u8], start: u64, texture: &mut [u8], load: LoadFields)
-    requires { (length texture.old ≡ 4096) × (load_refusal load start (length memory.now) ≡ 0) }
-    ensures { texture.new ≡ loaded start memory.now (load_moves load) texture.old }
-{
-    rows::move_texels::<true>(memory, texture, fields::of_load(load, start));
-}
-
 // Loads a tile out of memory that starts at address `start`. The refusals are 16, 17, 12 and 18, in this order; they leave texture memory as it was.
 pub fn load_tile(
     memory: &[u8],
@@ -77,7 +70,7 @@ pub fn load_tile(
         return Err(Ground::NoTextureMemory);
     }
     load_refusal(load, start, memory.len())?;
-    load_texels(memory, start, texture, load);
+    rows::move_texels::<true>(memory, texture, fields::of_load(load, start));
     Ok(())
 }
 
@@ -89,14 +82,6 @@ pub fn copy_refusal(copy: CopyFields, start: u64, len: usize) -> Result<(), Grou
         return Err(Ground::NotRgba16);
     }
     fields::of_copy(copy, start).refusal(len)
-}
-
-// Draws a texture rectangle of which no pixel is refused.
-fn copy_pixels(texture: &[u8], memory: &mut [u8], start: u64, copy: CopyFields)
-    requires { (length texture.now ≡ 4096) × (copy_refusal copy start (length memory.old) ≡ 0) }
-    ensures { memory.new ≡ copied start texture.now (copy_moves copy) memory.old }
-{
-    rows::move_texels::<false>(texture, memory, fields::of_copy(copy, start));
 }
 
 // Draws a texture rectangle in COPY mode into memory that starts at address `start`. The refusals are 16, 17, 12 and 18, in this order; they leave memory as
@@ -114,6 +99,6 @@ pub fn copy_rectangle(
         return Err(Ground::NoTextureMemory);
     }
     copy_refusal(copy, start, memory.len())?;
-    copy_pixels(texture, memory, start, copy);
+    rows::move_texels::<false>(texture, memory, fields::of_copy(copy, start));
     Ok(())
 }

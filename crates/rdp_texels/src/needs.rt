@@ -3,7 +3,6 @@ ghost use Rattle.std.specs.Prelude.{◌≡◌};
 ghost use Rattle.rdp_texels.specs.Load.{rgba16};
 ghost use Rattle.rdp_texels.specs.Copy.{whole_texels, step_needs, corner_needs, tile_needs, mode_needs, copy_needs};
 
-use crate::fields;
 use rdp_command::{CopyFields, TexelCorner, TextureStep, TileDescriptor};
 
 pub fn is_rgba16(format: u8, size: u8) -> bool
@@ -16,13 +15,13 @@ pub fn is_rgba16(format: u8, size: u8) -> bool
 fn is_whole(z: i16) -> bool
     ensures { result ≡ whole_texels z }
 {
-    (fields::ahead(z) % 32 == 0) & (fields::behind(z) % 32 == 0)
+    z % 32 == 0
 }
 
 fn step_needs(step: TextureStep) -> bool
     ensures { result ≡ step_needs step }
 {
-    let steps = (fields::ahead(step.dsdx) == 0x1000) & (fields::ahead(step.dtdy) == 0x0400);
+    let steps = (step.dsdx == 0x1000) & (step.dtdy == 0x0400);
     (steps & is_whole(step.s)) & is_whole(step.t)
 }
 
@@ -40,6 +39,7 @@ fn tile_needs(tile: TileDescriptor) -> bool
     ((tile.mask_s == 0) & (tile.mask_t == 0)) & shift
 }
 
+#[tactic(auto, unfolding(crate::specs::Copy::copy_needs))]
 pub fn copy_needs(copy: CopyFields) -> bool
     ensures { result ≡ copy_needs copy }
 {
