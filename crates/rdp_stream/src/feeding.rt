@@ -1,9 +1,9 @@
 // What the next bytes of a list and its end do to what is known of it.
-ghost use Rattle.std.specs.Prelude.{true, false, [], ◌≡◌, ◌+◌, ◌*◌, ◌-◌, ◌/◌, ◌%◌, ◌≤◌, length, take, MatchResult};
+ghost use Rattle.std.specs.Prelude.{◌≡◌, ◌+◌, ◌*◌, ◌/◌, ◌%◌, ◌≤◌, length};
 ghost use Rattle.rdp_words.specs.Lengths.{whole_words};
 ghost use Rattle.rdp_words.specs.Grounds.{answered, number_of, number_if};
 ghost use Rattle.rdp_stream.specs.Portions.{fed_bytes, closed, accepted, answer_of, remembering};
-ghost use Rattle.rdp_stream.specs.Records.{is_damaged, feeding_of, kept_in, stream_of, ended_as};
+ghost use Rattle.rdp_stream.specs.Records.{kept_in, stream_of, ended_as};
 ghost use Rattle.rdp_command.specs.Decode.{answer};
 ghost use Rattle.rdp_stream.specs.Steps.{Complete, holding_all, nothing_held};
 ghost use Rattle.rdp_stream.specs.Arrivals.{known, IsOpen, IsRead};
@@ -20,16 +20,6 @@ fn ended_as(before: u8, ended: bool) -> u8
         (false, _) => 0,
         (true, 0) => 1,
         (true, _) => before,
-    }
-}
-
-// A ground as the record's number, 0 where there is none.
-fn number_of(refused: Option<Ground>) -> u32
-    ensures { result ≡ number_if refused }
-{
-    match refused {
-        None => 0,
-        Some(refused) => u32::from(refused),
     }
 }
 
@@ -73,7 +63,7 @@ impl Arrival {
             held,
             held_count: self.held_count,
             taken: self.taken,
-            number: number_of(self.ground),
+            number: self.ground.map_or(0, u32::from),
             place: self.place,
             hazards: standing.hazards,
             ended: ended_as(before.ended, standing.ended),

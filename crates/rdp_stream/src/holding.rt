@@ -1,5 +1,5 @@
 // The held bytes and the numbers of a record.
-ghost use Rattle.std.specs.Prelude.{true, false, ◌≡◌, ◌+◌, ◌≤◌, length, MatchResult};
+ghost use Rattle.std.specs.Prelude.{◌≡◌, ◌+◌, ◌≤◌, length};
 ghost use Rattle.std.proofs.Math.Seq.{paste};
 ghost use Rattle.rdp_words.specs.Kinds.{among};
 ghost use Rattle.rdp_words.specs.Grounds.{number_of};
