@@ -47,8 +47,9 @@ fn put(part: &mut [u8], pixel: [u8; 4])
     }
 }
 
-// Writes so many pixels of an image to the front of the output.
-pub fn write(image: &[u8], size: PixelSize, count: usize, out: &mut [u8])
+// Writes so many pixels of an image to the front of the output. Where it is called the size is a constant, so that the compiler knows the step.
+#[inline(always)]
+fn write_sized(image: &[u8], size: PixelSize, count: usize, out: &mut [u8])
     requires { (count * pixel_bytes (size_number size) ≤ length image.now) × (4 * count ≤ length out.old) }
     ensures { out.new ≡ overwrite (pixels (size_number size) count image.now) out.old }
 {
@@ -57,5 +58,17 @@ pub fn write(image: &[u8], size: PixelSize, count: usize, out: &mut [u8])
         let pixel = first_pixel(&image[step * k..], size);
         let to = 4 * k;
         put(&mut out[to..to + 4], pixel);
+    }
+}
+
+// The same for any size. One loop for all sizes takes 2.5 times as long in the bench's rows of 16 and 32 bits.
+pub fn write(image: &[u8], size: PixelSize, count: usize, out: &mut [u8])
+    requires { (count * pixel_bytes (size_number size) ≤ length image.now) × (4 * count ≤ length out.old) }
+    ensures { out.new ≡ overwrite (pixels (size_number size) count image.now) out.old }
+{
+    match size {
+        PixelSize::Eight => write_sized(image, PixelSize::Eight, count, out),
+        PixelSize::Sixteen => write_sized(image, PixelSize::Sixteen, count, out),
+        PixelSize::ThirtyTwo => write_sized(image, PixelSize::ThirtyTwo, count, out),
     }
 }

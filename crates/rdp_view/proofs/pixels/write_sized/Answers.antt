@@ -3,7 +3,7 @@ use Rattle.std.proofs.Common.{arith, sym, ap, ◌∙◌, take}
 use Rattle.rdp_words.proofs.OverwriteLaws.{overwrite-none}
 use Rattle.rdp_view.specs.View.{pixels}
 use Rattle.rdp_view.proofs.PixelLaws.{pixel-written}
-use Rattle.rdp_view.proofs.pixels.write.Goals as goal
+use Rattle.rdp_view.proofs.pixels.write_sized.Goals as goal
 
 pub loop-k-init : goal.loop-k-init
 unfolding pixels
