@@ -11,8 +11,8 @@ const TILE: u32 = 64 * rdp_hazards::TILE_WAIT + 32;
 
 const PIPE: u32 = 64 * rdp_hazards::PIPE_WAIT + 48;
 
-// The totals before a command at the sixteen hazard states, and the choices there: 16 times the option, and the next hazards. Two arrays, since document 01
-// names `[u32; 16]` for the totals, and the choices are the bytes of the work buffer.
+// The totals before a command at the sixteen hazard states, and the choices there: 16 times the option, and the next hazards.
+// Two arrays: document 01 names `[u32; 16]` for the totals, and the choices are the bytes of the work buffer.
 #[derive(Clone, Copy)]
 pub struct Row {
     pub totals: [u32; 16],
