@@ -1,9 +1,10 @@
 -- Groups of eight bytes whose halves exchange places, as parts of an odd row. Assumes nothing.
 use mathlib.Core.Path.{◌≡◌, refl, sym, ap, subst, ◌∙◌}
-use mathlib.Core.Bool.{Bool, true, false, not, cond}
+use mathlib.Core.Bool.{Bool, true, false, not, cond, ◌&&◌}
 use mathlib.Core.List.{List, [], ◌∷◌, ◌++◌}
 use Prim.Native.Nat.{ℕ, ◌+◌, ◌-◌, ◌*◌, ◌/◌, ◌%◌, ◌≤◌, ◌<◌}
 use native.Mathlib.Omega.{arith}
+use lib.Dec.{eqb}
 use lib.ListN.{length, get_or, take, drop, length-append, length-drop}
 use lib.Seq.{get_or-drop, drop-drop, length-take-le}
 use borrow.Rule.Slice.PartMut.{put_mid, post_of}
@@ -113,6 +114,17 @@ module _ (s d n : ℕ) (from to : List ℕ) where
     exchanged-to =
         overlay-same (λ i. within (d + 0) (d + n) i) (λ i. within (d + 0) (d + n) (turned i))
         (λ i. get_or (drop s from) (turned (0 + (i - d))) 0) (λ i. get_or from (s + (turned i - d)) 0) to picks value
+
+-- eight bytes over eight others
+pub both-eight : (from to : List ℕ) {moved : List ℕ} → length from ≡ 8 → length to ≡ 8
+    → cond (eqb (length from) 8 && eqb (length to) 8) moved to ≡ moved
+both-eight from to h k = rw (h, k) refl
+
+-- eight bytes of a list
+pub slice-eight : (s : ℕ) (l : List ℕ) → s + 8 ≤ length l → length (take (s + 8 - s) (drop s l)) ≡ 8
+slice-eight s l h =
+    let n : s + 8 - s ≡ 8 = omega arith in
+    rw n (length-take-le 8 (drop s l) (simp length-drop (omega arith)))
 
 -- eight bytes that go to a multiple of 8 of texture memory
 pub eight-moved : (turned : Bool) (s d : ℕ) (from to : List ℕ) → s + 8 ≤ length from → d + 8 ≤ length to → d % 8 ≡ 0 → {xs : List ℕ}

@@ -1,5 +1,5 @@
 // A run of bytes: in an even row it is copied as it stands, in an odd one with the halves of each eight bytes of texture memory exchanged.
-ghost use Rattle.std.specs.Prelude.{false, not, cond, ◌≡◌, ◌+◌, ◌-◌, ◌*◌, ◌%◌, ◌<◌, ◌≤◌, ◌++◌, length, take, drop};
+ghost use Rattle.std.specs.Prelude.{false, not, cond, eqb, ◌&&◌, ◌≡◌, ◌+◌, ◌-◌, ◌*◌, ◌%◌, ◌<◌, ◌≤◌, ◌++◌, length, take, drop};
 ghost use Rattle.rdp_texels.specs.Run.{part};
 ghost use Rattle.rdp_texels.specs.Rows.{exchanged};
 ghost use Rattle.rdp_texels.specs.Views.{RunFits, run_moved};
@@ -34,11 +34,18 @@ fn head<const INTO: bool>(run: Run) -> usize
     run.n.min((8 - at % 8) % 8)
 }
 
-// Eight bytes, whose halves exchange places where they are turned. All are read before one is written, so that more of them move at a time.
+// Eight bytes over eight others, whose halves exchange places where they are turned; of other lengths nothing moves. All are read before one is written, so
+// that more of them move at a time.
 pub fn move_eight(from: &[u8], to: &mut [u8], turned: bool)
-    requires { (length from.now ≡ 8) × (length to.old ≡ 8) }
-    ensures { to.new ≡ cond turned (drop 4 from.now ++ take 4 from.now) from.now }
+    ensures {
+        to.new ≡
+            cond (eqb (length from.now) 8 && eqb (length to.old) 8) (cond turned (drop 4 from.now ++ take 4 from.now) from.now)
+                to.old
+    }
 {
+    if from.len() != 8 || to.len() != 8 {
+        return;
+    }
     let low = [from[0], from[1], from[2], from[3]];
     let high = [from[4], from[5], from[6], from[7]];
     let first = if turned { high } else { low };
