@@ -47,7 +47,7 @@ pub fn load_words(memory: &[u8], texture: &mut [u8], block: Block) -> u64
     4 * words
 }
 
-// The texels of a block from one on, line by line.
+// The texels of a block from one on, line by line. A while, as each turn goes to the end of a line, which is computed.
 pub fn load_lines(memory: &[u8], texture: &mut [u8], block: Block, first: u64)
     requires { Fits block (length memory.now) (length texture.old) × (first ≤ block.count) }
     ensures { texture.new ≡ loaded block.start memory.now (strip_moves (stripped block) first (block.count - first)) texture.old }

@@ -8,8 +8,8 @@ use native.Mathlib.Decide.{dec_le}
 use native.Mathlib.Omega.{arith}
 use borrow.Author.Tests.{le-leb, lt-ltb, leb-true, ltb-true}
 use lib.Dec.{leb, ltb}
-use lib.ListN.{length, get_or, set, length-set}
-use lib.Seq.{ext_get_or, get_or-set_same, get_or-set_other}
+use lib.ListN.{length, get_or}
+use lib.Seq.{ext_get_or}
 use Rattle.rdp_pixels.proofs.BoolLaws.{and_is, same_truth}
 use Rattle.rdp_pixels.specs.Overlay.{overlay, within}
 
@@ -97,12 +97,6 @@ pub overlay-cong : (p q : ℕ → Bool) (v : ℕ → ℕ) (a : ℕ) (m : List �
 overlay-cong p q v a m same =
     overlay-is q v a m (overlay p v a m) (length-overlay p v a m) (λ i h. get_d-overlay p v a m i h ∙ rw (same i h))
 
--- other values that are the same at the addresses of memory
-pub overlay-values : (p : ℕ → Bool) (v w : ℕ → ℕ) (a : ℕ) (m : List ℕ) → ((i : ℕ) → i < length m → v (a + i) ≡ w (a + i))
-    → overlay p v a m ≡ overlay p w a m
-overlay-values p v w a m same =
-    overlay-is p w a m (overlay p v a m) (length-overlay p v a m) (λ i h. get_d-overlay p v a m i h ∙ rw (same i h))
-
 -- by indices in place of addresses
 pub overlay-from : (test : ℕ → Bool) (v : ℕ → ℕ) (start : ℕ) (m : List ℕ)
     → overlay test v start m ≡ overlay (λ i. test (start + i)) (λ i. v (start + i)) 0 m
@@ -126,41 +120,3 @@ overlay-overlay p q v a m =
     twice true false x y = refl
     twice false true x y = refl
     twice false false x y = refl
-
--- two ranges that meet are one
-pub overlay-meeting : (first low mid end : ℕ) (v : ℕ → ℕ) (a : ℕ) (m : List ℕ) → first ≤ low → low ≤ mid → mid ≤ end
-    → overlay (within low end) v a (overlay (within first mid) v a m) ≡ overlay (within first end) v a m
-overlay-meeting first low mid end v a m l h k =
-    overlay-overlay (within first mid) (within low end) v a m
-    ∙ overlay-cong (λ i. within first mid i || within low end i) (within first end) v a m (λ i _. within-meeting first low mid end (a + i) l h k)
-
--- ---- a range of memory that starts at 0, which grows at its end by one byte
-
-module _ (v : ℕ → ℕ) (first i : ℕ) (m : List ℕ) (after : first ≤ i) (inside : i < length m) where
-  written : List ℕ
-  written = set (overlay (within first i) v 0 m) i (v i)
-
-  written_same : (j : ℕ) → i ≡ j → get_or written j 0 ≡ cond (within first (i + 1) j) (v j) (get_or m j 0)
-  unfolding written
-  written_same j e =
-      rw (← e)
-      (get_or-set_same (overlay (within first i) v 0 m) i (v i) 0 (rw length-overlay inside)
-      ∙ rw (within-true first (i + 1) i after (omega arith)))
-
-  written-other : (j : ℕ) → (j ≡ i → ⊥) → j < length m → get_or written j 0 ≡ cond (within first (i + 1) j) (v j) (get_or m j 0)
-  unfolding written
-  written-other j ne k =
-      get_or-set_other (overlay (within first i) v 0 m) i j (v i) 0 ne
-      ∙ get_d-overlay-0 (within first i) v m j k
-      ∙ ap (λ (b : Bool). cond b (v j) (get_or m j 0))
-      (within_same first i first (i + 1) j (λ x y. (x, omega arith)) (λ x y. (x, omega (arith, ne))))
-
-  pub overlay-more : set (overlay (within first i) v 0 m) i (v i) ≡ overlay (within first (i + 1)) v 0 m
-  unfolding written
-  overlay-more =
-      overlay-is-0 (within first (i + 1)) v m written
-      (length-set (overlay (within first i) v 0 m) i (v i) ∙ length-overlay (within first i) v 0 m)
-      (λ j k.
-      split j i
-      (λ x. split i j (λ y. written_same j (omega arith)) (λ y. written-other j (λ e. omega arith) k))
-      (λ x. written-other j (λ e. omega arith) k))

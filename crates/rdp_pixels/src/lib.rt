@@ -21,7 +21,7 @@ pub fn end_kept(far: u16, clip: u16) -> u64
     past.min(end)
 }
 
-// Whether a scissor's field setting keeps row y.
+// Whether a scissor's field setting keeps row y. The setting is two flags, as in the command, so that no caller is asked more.
 #[tactic(auto, unfolding(crate::specs::Kept::line_kept))]
 pub fn row_kept(field: bool, odd: bool, y: u64) -> bool
     ensures { result ≡ line_kept «field» odd y }

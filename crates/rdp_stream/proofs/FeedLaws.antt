@@ -263,9 +263,6 @@ module _ (b : Standing) (taken p count : ℕ) (held part : List ℕ) (k : Open h
   pub both_is : take (count + n) filled ≡ both
   both_is = ap (take (count + n)) is-filled ∙ take-paste held count part n (omega (arith, k.few, k.long)) few-copied
 
-  pub total-filled : count + n ≡ length (take (count + n) filled)
-  total-filled = sym (length-take-le (count + n) filled (omega (arith, filled-long, room-copied)))
-
   both_long : length both ≡ count + n
   both_long = length-append before (take n part) ∙ (λ i. before-long i + length-take-le n part few-copied i)
 

@@ -4,10 +4,10 @@ use mathlib.Core.Bool.{Bool, true, false, cond, not, ◌&&◌}
 use mathlib.Core.List.{List}
 use Prim.Native.Nat.{ℕ, ◌+◌, ◌<◌, ◌≤◌}
 use native.Mathlib.Omega.{arith}
-use borrow.Author.Tests.{eq-eqb, ne_eqb, eqb-true, le-leb, leb-true}
+use borrow.Author.Tests.{eq-eqb, ne_eqb, le-leb}
 use lib.Dec.{eqb, leb}
 use lib.ListN.{length}
-use Rattle.rdp_pixels.proofs.BoolLaws.{and_is, and-true-of}
+use Rattle.rdp_pixels.proofs.BoolLaws.{and-true-of}
 use Rattle.rdp_command.specs.declared.LoadFields.{LoadFields}
 use Rattle.rdp_command.specs.declared.CopyFields.{CopyFields}
 use Rattle.rdp_check.specs.Order.{first_of}
@@ -114,14 +114,6 @@ module _ (start : ℕ) (memory texture : List ℕ) (size : length texture ≡ 40
   copy-leaves c e = rw (eq-eqb (length texture) 4096 size, e)
 
 -- ---- a run
-
-pub run-parts : (len s size d n : ℕ) → run_fits len s size d n ≡ true → (size ≡ 4096) × (d + n ≤ 4096) × (s + n ≤ len)
-run-parts len s size d n e =
-    let parts = and_is (eqb size 4096) (leb (s + n) len && leb (d + n) size) e in
-    let ends = and_is (leb (s + n) len) (leb (d + n) size) parts.1 in
-    let whole = eqb-true size 4096 parts.0 in
-    let there = leb-true (d + n) size ends.1 in
-    (whole, omega arith, leb-true (s + n) len ends.0)
 
 module _ (s d n : ℕ) (odd : Bool) (memory texture : List ℕ) where
   pub run-loads : run_fits (length memory) s (length texture) d n ≡ true → part odd false s d 0 n memory texture ≡ run_texture s d n odd memory texture

@@ -16,11 +16,6 @@ use Rattle.rdp_texels.specs.Rows.{Grid, Span, grid_address, grid_ahead, grid_odd
 use Rattle.rdp_texels.proofs.TurnLaws.{row_next, row_below, row-below-is}
 use Rattle.rdp_texels.proofs.SpanLaws.{over_none, some-over-is, some-over-true}
 
-pub span-some : (q : Span) → span_some q ≡ true → (q.left < q.right) × (q.top < q.bottom)
-span-some q e =
-    let parts = and_is (ltb q.left q.right) (ltb q.top q.bottom) e in
-    (ltb-true q.left q.right parts.0, ltb-true q.top q.bottom parts.1)
-
 -- ---- even bytes
 
 even-product : (y l : ℕ) → l % 2 ≡ 0 → y * l % 2 ≡ 0
@@ -89,9 +84,6 @@ module _ (keeps : ℕ → Bool) (g : Grid) (q : Span) where
     module _ (test : Move → Bool) (base stride low size : ℕ)
         (sound : (y x : ℕ) → test (grid_move g y x) ≡ true → low ≤ base + y * stride + 2 * x → base + y * stride + 2 * x + 2 ≤ low + size → ⊥)
         (complete : (y x : ℕ) → test (grid_move g y x) ≡ false → (low ≤ base + y * stride + 2 * x) × (base + y * stride + 2 * x + 2 ≤ low + size)) where
-      corner-low : ℕ
-      corner-low = base + q.top * stride + 2 * q.left
-
       corner : some test (kept_moves keeps g q q.top) ≡ not (lies base stride q low size)
       corner =
           other-truth (some test (kept_moves keeps g q q.top)) (lies base stride q low size)

@@ -86,9 +86,6 @@ module _ (s : Scissor) (y : ℕ) where
       (let apart : k ≡ y - 1 → ⊥ = λ same. false≢true (sym e ∙ rw same at kept-k) in
       omega (arith, apart)))
 
-pub bottom-zero : (b o : Bool) → 0 ≡ bottom_from b o 0
-bottom-zero b o = by-test (line_kept b o (0 - 1)) (λ e. rw e) (λ e. rw e)
-
 -- ---- a copy rectangle
 
 module _ (c : CopyFields) where

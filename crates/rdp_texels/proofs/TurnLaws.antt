@@ -4,11 +4,18 @@ use mathlib.Core.Bool.{Bool, true, false, not, cond}
 use Prim.Native.Nat.{ℕ, ◌+◌, ◌*◌, ◌/◌, ◌%◌, ◌≤◌, ◌<◌}
 use native.Mathlib.Omega.{arith}
 use lib.Dec.{eqb}
+use Rattle.std.specs.Int.Bits.{bit_xor, xor_add_and}
+use Rattle.std.proofs.lemmas.Nat.Bits.{and_pow}
 use Rattle.rdp_texels.specs.Texels.{turned, in_row}
 
 -- a const parameter that is a bool, by its bits
 abbrev pub flag : ℕ → Bool
 flag bits = not (eqb bits 0)
+
+-- bit 2 turned over
+pub turned_xor : (b : ℕ) → bit_xor b 4 ≡ turned b
+unfolding turned
+turned_xor b = omega (arith, xor_add_and b 4, and_pow b 2)
 
 pub turned-twice : (b : ℕ) → turned (turned b) ≡ b
 unfolding turned
@@ -58,14 +65,6 @@ module _ (d : ℕ) (whole : d % 8 ≡ 0) where
   pub turned_on : (j : ℕ) → turned (d + j) ≡ d + turned j
   unfolding turned
   turned_on j = let at : d ≡ 8 * (d / 8) = omega arith in omega arith
-
-  pub group-low : (i : ℕ) → i < 4 → d + (4 + i) ≡ turned (d + i)
-  unfolding turned
-  group-low i h = let at : d ≡ 8 * (d / 8) = omega arith in omega arith
-
-  pub group-high : (i : ℕ) → i < 4 → d + i ≡ turned (d + (4 + i))
-  unfolding turned
-  group-high i h = let at : d ≡ 8 * (d / 8) = omega arith in omega arith
 
 -- a byte of texture memory stays in it
 turned-inside : (b n : ℕ) → n ≡ 4096 → b < n → turned b < n

@@ -15,15 +15,11 @@ pub struct Run {
 }
 
 // A byte number, with its bit 2 turned over in an odd row of texture memory.
-#[tactic(auto, unfolding(crate::specs::Texels::turned))]
+#[tactic(auto, using(crate::proofs::TurnLaws::turned_xor))]
 fn turn(b: usize, odd: bool) -> usize
-    requires { b < 9223372036854775808 }
     ensures { result ≡ in_row odd b }
 {
-    if odd {
-        return b + 4 - b / 4 % 2 * 8;
-    }
-    b
+    if odd { b ^ 4 } else { b }
 }
 
 // How many bytes of a run stand before the first that starts eight bytes of texture memory.

@@ -37,7 +37,7 @@ fn first_pixel(image: &[u8], size: PixelSize) -> [u8; 4]
     }
 }
 
-// Writes a pixel. The method `copy_from_slice` compares the two addresses, which takes longer.
+// Writes a pixel. By `rdp_words::copy` the bench's view of 32 bits takes a quarter longer.
 fn put(part: &mut [u8], pixel: [u8; 4])
     requires { length part.old ≡ 4 }
     ensures { part.new ≡ take 4 pixel }

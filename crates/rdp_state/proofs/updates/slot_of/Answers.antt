@@ -9,22 +9,6 @@ use Rattle.rdp_state.proofs.updates.slot_of.Goals as goal
 found : (c : After-tile_in-tile) → slot_in c.slot_entry-entry.result c.tile_in-tile.result ≡ slot_of c.args.number (tile_in c.args.w)
 found c = rw c.tile_in-tile.ensures.0 (found-slot c.args.number c.args.w _ c.slot_entry-entry.ensures c.requires)
 
-fits : (c : After-tile_in-tile) → slot_in c.slot_entry-entry.result c.tile_in-tile.result < 32
-fits c =
-    rw c.tile_in-tile.ensures.0 (found-small c.args.number c.args.w _ c.slot_entry-entry.ensures c.requires)
-
-pub overflow_cast-tile : goal.overflow_cast-tile
-overflow_cast-tile c = record { fits = omega (arith, c.tile_in-tile.ensures.1) }
-
-pub overflow_mul-slot : goal.overflow_mul-slot
-overflow_mul-slot c = record { fits = omega (arith, fits c) }
-
-pub overflow_add-slot : goal.overflow_add-slot
-overflow_add-slot c = record { fits = omega (arith, fits c) }
-
-pub overflow_cast-slot : goal.overflow_cast-slot
-overflow_cast-slot c = record { fits = omega (arith, fits c) }
-
 pub returns-then-slot-eq-NONE-clause-is : goal.returns-then-slot-eq-NONE-clause-is
 returns-then-slot-eq-NONE-clause-is c =
     rw (← found (goal.at.returns-then-slot-eq-NONE-clause-is c).After-tile_in-tile, eq-eqb _ 31 c.if-slot-eq-NONE.true)
@@ -33,4 +17,7 @@ pub returns-clause-is : goal.returns-clause-is
 returns-clause-is c = rw (← found (goal.at.returns-clause-is c).After-tile_in-tile, ne_eqb _ 31 c.if-slot-eq-NONE.false)
 
 pub returns-clause-small : goal.returns-clause-small
-returns-clause-small c = let small = fits (goal.at.returns-clause-small c).After-tile_in-tile in omega arith
+returns-clause-small c =
+    let small : slot_in c.slot_entry-entry.result c.tile_in-tile.result < 32 =
+    rw c.tile_in-tile.ensures.0 (found-small c.args.number c.args.w _ c.slot_entry-entry.ensures c.requires) in
+    omega arith
