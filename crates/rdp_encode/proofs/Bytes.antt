@@ -1,10 +1,5 @@
 -- The bytes of a command's words, written at the front of a list. Assumes nothing.
-use Prim.Native.Nat.{ℕ, zero, suc, ◌+◌, ◌-◌, ◌*◌, ◌/◌, min}
-use mathlib.Core.Path.{◌≡◌, refl, ap, sym, ◌∙◌}
-use mathlib.Core.List.{List, [], ◌∷◌, ◌++◌}
-use native.Mathlib.Numerals.{add-one}
-use native.Mathlib.Omega.{arith}
-use lib.ListN.{length, length-append, take, drop}
+use Rattle.std.proofs.Common.{ℕ, zero, suc, ◌+◌, ◌-◌, ◌*◌, ◌/◌, min, ◌≡◌, refl, ap, sym, ◌∙◌, List, [], ◌∷◌, ◌++◌, add-one, arith, length, length-append, take, drop}
 use Rattle.rdp_words.specs.Words.{bytes_of, overwrite, pasted}
 use Rattle.rdp_words.specs.Lengths.{suffix_words}
 use Rattle.rdp_words.proofs.OverwriteLaws.{overwrite-none, pasted-after}

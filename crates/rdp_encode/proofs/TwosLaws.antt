@@ -1,12 +1,6 @@
 -- Signed numbers in two's complement of 64 bits. Assumes nothing.
-use Prim.Native.Nat.{ℕ, ◌+◌, ◌<◌, ◌≤◌, ◌-◌, ◌^◌}
-use mathlib.Core.Path.{◌≡◌, refl}
-use native.Mathlib.Omega.{arith}
-use lib.IntN.{ℤ, pos, negsuc}
+use Rattle.std.proofs.Common.{ℕ, ◌+◌, ◌<◌, ◌≤◌, ◌-◌, ◌^◌, ◌≡◌, refl, arith, ℤ, pos, negsuc, w16, w64, to_z, of_z, ltb}
 use lib.Signed.{mag}
-use mir.Syntax.{w16, w64}
-use mir.Val.{to_z, of_z}
-use lib.Dec.{ltb}
 use Rattle.rdp_encode.specs.Placed.{fits_signed}
 use Rattle.rdp_command.proofs.Signed.{excess_of, read_back}
 

@@ -1,8 +1,4 @@
-use Prim.Native.Nat.{ℕ, ◌+◌, ◌≤◌}
-use mathlib.Core.Path.{◌≡◌, ap, sym}
-use native.Mathlib.Nat.{add-zero}
-use native.Mathlib.Omega.{arith}
-use borrow.Author.Tests.{eq-eqb, ne_eqb}
+use Rattle.std.proofs.Common.{ℕ, ◌+◌, ◌≤◌, ◌≡◌, ap, sym, add-zero, arith, eq-eqb, ne_eqb}
 use Rattle.rdp_compare.specs.Differing.{line_index}
 use Rattle.rdp_compare.proofs.DifferingLaws.{bit-most}
 use Rattle.rdp_compare.proofs.fieldwise.bit_of.Goals as goal

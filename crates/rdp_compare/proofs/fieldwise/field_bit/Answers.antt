@@ -1,4 +1,4 @@
-use borrow.Author.Tests.{eq-eqb, ne_eqb}
+use Rattle.std.proofs.Common.{eq-eqb, ne_eqb}
 use Rattle.rdp_compare.proofs.fieldwise.field_bit.Goals as goal
 
 pub returns-then-x-y : goal.returns-then-x-y

@@ -1,6 +1,4 @@
-use mathlib.Core.Path.{refl}
-use native.Mathlib.Omega.{arith}
-use lib.Dec.{leb}
+use Rattle.std.proofs.Common.{refl, arith, leb}
 use Rattle.rdp_command.proofs.Signed.{bool_le}
 use Rattle.rdp_compare.proofs.fieldwise.unnamed_before.Goals as goal
 
