@@ -15,7 +15,7 @@ use Rattle.rdp_words.proofs.KindLaws.{words-pos}
 use Rattle.rdp_words.proofs.PlaceLaws.{number_small, words-there}
 use Rattle.rdp_words.proofs.OverwriteLaws.{take-overwrite}
 use Rattle.rdp_command.specs.Layout.{layout}
-use Rattle.rdp_command.specs.Decode.{Decoded, Whole, Refused, decode_of, answer}
+use Rattle.rdp_command.specs.Decode.{Decoded, Whole, decode_of, answer}
 use Rattle.rdp_command.specs.declared.Command.{Command}
 use Rattle.rdp_command.proofs.ReadLaws.{decodes}
 use Rattle.rdp_command.proofs.BoundLaws.{lines-most}
@@ -145,9 +145,6 @@ module _ (c lent : List ℕ) (room : 37 ≤ length lent) {x : Command} (is : Who
   written-front a e f =
       ap (take (result_unwrap_or a 0)) (f ∙ rw fits (ap (λ (l : List ℕ). overwrite l lent) (sym numbers-are))) ∙
       take-overwrite (field_numbers c) lent (result_unwrap_or a 0) (sym (written-count a e))
-
-pub no-fields : (c : List ℕ) {a : Answer} → Refused a ≡ decode_of c → [] ≡ field_numbers c
-no-fields c e = ap numbers_in e
 
 -- ---- two commands of one number
 

@@ -3,12 +3,6 @@ use Rattle.rdp_compare.specs.Differing.{line_index}
 use Rattle.rdp_compare.proofs.DifferingLaws.{bit-most}
 use Rattle.rdp_compare.proofs.fieldwise.bit_of.Goals as goal
 
-pub overflow_add-result : goal.overflow_add-result
-overflow_add-result c = omega (arith, c.unnamed_before.ensures.1, c.requires)
-
-pub overflow_shl-result : goal.overflow_shl-result
-overflow_shl-result c = omega (arith, c.unnamed_before.ensures.1, c.requires)
-
 pub returns-then-number-eq47 : goal.returns-then-number-eq47
 returns-then-number-eq47 c =
     let a = c.args in
