@@ -1,15 +1,5 @@
 -- Which fields of two commands differ: field after field, their bits below a bound, and a suffix. Assumes nothing.
-use Prim.Native.Nat.{ℕ, zero, suc, ◌+◌, ◌*◌, ◌%◌, ◌^◌, ◌≤◌, ◌<◌}
-use mathlib.Core.Bool.{Bool, true, false, cond, not, ◌&&◌}
-use mathlib.Core.List.{List, [], ◌∷◌, ◌++◌}
-use mathlib.Core.Path.{◌≡◌, refl, ap, sym, ◌∙◌}
-use native.Mathlib.Nat.{le_refl, add-zero, zero-add}
-use native.Mathlib.Numerals.{add-one}
-use native.Mathlib.Omega.{arith}
-use borrow.Author.Tests.{eq-eqb, ne_eqb, le-ltb}
-use lib.Dec.{eqb, ltb, ltb→lt}
-use lib.ListN.{length, take}
-use lib.Pow.{pow_mono}
+use Rattle.std.proofs.Common.{ℕ, zero, suc, ◌+◌, ◌*◌, ◌%◌, ◌^◌, ◌≤◌, ◌<◌, Bool, true, false, cond, not, ◌&&◌, List, [], ◌∷◌, ◌++◌, ◌≡◌, refl, ap, sym, ◌∙◌, le_refl, add-zero, zero-add, add-one, arith, eq-eqb, ne_eqb, le-ltb, eqb, ltb, ltb→lt, length, take, pow_mono}
 use Rattle.std.specs.Prelude.{Some, None, Result, Ok, Err}
 use Rattle.std.specs.Result.{result_unwrap_or}
 use Rattle.std.specs.List.{zip, enumerate_from, sum_by}
@@ -25,7 +15,7 @@ use Rattle.rdp_words.proofs.KindLaws.{words-pos}
 use Rattle.rdp_words.proofs.PlaceLaws.{number_small, words-there}
 use Rattle.rdp_words.proofs.OverwriteLaws.{take-overwrite}
 use Rattle.rdp_command.specs.Layout.{layout}
-use Rattle.rdp_command.specs.Decode.{Decoded, Whole, Refused, decode_of, answer}
+use Rattle.rdp_command.specs.Decode.{Decoded, Whole, decode_of, answer}
 use Rattle.rdp_command.specs.declared.Command.{Command}
 use Rattle.rdp_command.proofs.ReadLaws.{decodes}
 use Rattle.rdp_command.proofs.BoundLaws.{lines-most}
@@ -155,9 +145,6 @@ module _ (c lent : List ℕ) (room : 37 ≤ length lent) {x : Command} (is : Who
   written-front a e f =
       ap (take (result_unwrap_or a 0)) (f ∙ rw fits (ap (λ (l : List ℕ). overwrite l lent) (sym numbers-are))) ∙
       take-overwrite (field_numbers c) lent (result_unwrap_or a 0) (sym (written-count a e))
-
-pub no-fields : (c : List ℕ) {a : Answer} → Refused a ≡ decode_of c → [] ≡ field_numbers c
-no-fields c e = ap numbers_in e
 
 -- ---- two commands of one number
 

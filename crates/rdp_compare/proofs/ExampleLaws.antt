@@ -1,5 +1,5 @@
 -- The examples hold of the definitions, which antt computes. Assumes nothing.
-use mathlib.Core.Path.{refl}
+use Rattle.std.proofs.Common.{refl}
 use Rattle.rdp_words.specs.Words.{half_of, word_at, overwrite, same_bytes}
 use Rattle.rdp_words.specs.Kinds.{kind_of, words_of}
 use Rattle.rdp_words.specs.Lengths.{whole_words, suffix_start, suffix_of}

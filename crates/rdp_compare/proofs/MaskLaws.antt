@@ -1,17 +1,10 @@
 -- The bits of the fields that differ, one by one. Promises: `mask-bit`, a bit is set exactly where a field of that index differs; `field-set`, the bit of
 -- each field, whatever the suffix; `value-clear`, `clear-value`, it is clear exactly where the values are the same; `suffix-set`, that of a triangle's suffix,
 -- bit 21; `unnamed-are`, the bit lines that name no field by their places. Assumes nothing.
-use Prim.Native.Nat.{ℕ, zero, suc, ◌+◌, ◌-◌, ◌*◌, ◌/◌, ◌%◌, ◌^◌, ◌≤◌, ◌<◌}
-use mathlib.Core.Bool.{Bool, true, false, cond, not, ◌&&◌, ◌||◌}
-use mathlib.Core.List.{List, [], ◌∷◌, ◌++◌, map}
-use mathlib.Core.Path.{◌≡◌, refl, ap, sym, ◌∙◌}
-use native.Mathlib.Nat.{zero-mul, one-mul, add-mul, mul_assoc, mul_comm, pow-suc, suc-ne-zero, add-zero, zero-add, add_comm, lt_of_le_of_lt}
-use native.Mathlib.Omega.{arith}
-use borrow.Author.Tests.{eq-eqb, ne_eqb, le-leb, leb-true, ltb-true, ltb-false, eqb-true, eqb-false}
-use lib.Dec.{eqb, leb, ltb, eqb→eq, lit≤}
-use lib.ListN.{length, get_or}
-use lib.Pow.{pow-add, pow-lt, shl-shr, shr-shr, high}
-use lib.Seq.{get_or-append_seam}
+use Rattle.std.proofs.Common.{ℕ, zero, suc, ◌+◌, ◌-◌, ◌*◌, ◌/◌, ◌%◌, ◌^◌, ◌≤◌, ◌<◌, Bool, true, false, cond, not, ◌&&◌, ◌||◌, List, [], ◌∷◌, ◌++◌, map, ◌≡◌, refl, ap, sym, ◌∙◌, zero-mul, one-mul, add-mul, mul_assoc, mul_comm, pow-suc, suc-ne-zero, add-zero, zero-add, add_comm, lt_of_le_of_lt, arith, eq-eqb, ne_eqb, le-leb, leb-true, ltb-true, ltb-false, eqb-true, eqb, leb, ltb, eqb→eq, lit≤, length, get_or, pow-add, shr-shr}
+use borrow.Author.Tests.{eqb-false}
+use Rattle.std.proofs.Math.Pow.{pow-lt, shl-shr, high}
+use Rattle.std.proofs.Math.Seq.{get_or-append_seam}
 use mir.Val.{bool_byte}
 use Rattle.rdp_words.specs.Lengths.{first_number, suffix_of}
 use Rattle.rdp_words.proofs.Tests.{below, by-test}

@@ -1,15 +1,7 @@
 -- Commands differ exactly where they decode differently or have another suffix, and two lists have no entry exactly where all paired commands are the
 -- same. Promises: `no-entries`, `all_same`, `same-encoding`. Assumes nothing.
-use Prim.Native.Nat.{ℕ, suc, ◌+◌, ◌^◌}
-use mathlib.Core.Bool.{Bool, true, false, cond, not}
-use mathlib.Core.List.{List, [], ◌∷◌, ◌++◌}
-use mathlib.Core.Path.{◌≡◌, refl, sym, ap, ◌∙◌}
-use native.Mathlib.Nat.{suc-ne-zero}
-use native.Mathlib.Omega.{arith}
-use borrow.Author.Tests.{eq-eqb, eqb-true, not-false}
-use lib.Dec.{eqb}
-use lib.ListN.{length, length-append}
-use lib.Pow.{pow_pos}
+use Rattle.std.proofs.Common.{ℕ, suc, ◌+◌, ◌^◌, Bool, true, false, cond, not, List, [], ◌∷◌, ◌++◌, ◌≡◌, refl, sym, ap, ◌∙◌, suc-ne-zero, arith, eq-eqb, eqb-true, eqb, length, length-append, pow_pos}
+use borrow.Author.Tests.{not-false}
 use Rattle.rdp_words.specs.Kinds.{words_of}
 use Rattle.rdp_words.specs.Lengths.{first_number, suffix_of}
 use Rattle.rdp_words.proofs.Tests.{neither}

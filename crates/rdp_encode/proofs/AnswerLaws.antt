@@ -1,6 +1,5 @@
 -- What encoding answers, by the tests that it makes. Assumes nothing.
-use Rattle.std.proofs.Common.{◌≡◌, ℕ, ◌*◌, ◌≤◌, ◌<◌, Bool, true, false, ◌&&◌, List, map, length, eqb, ltb, ap, ◌∙◌}
-use borrow.Author.Tests.{lt-ltb, le-ltb, eqb-true}
+use Rattle.std.proofs.Common.{◌≡◌, ℕ, ◌*◌, ◌≤◌, ◌<◌, Bool, true, false, ◌&&◌, List, map, length, eqb, ltb, ap, ◌∙◌, lt-ltb, le-ltb, eqb-true}
 use Rattle.rdp_words.specs.Kinds.{words_of}
 use Rattle.rdp_words.specs.Lengths.{suffix_words}
 use Rattle.rdp_command.specs.Layout.{Line, layout}

@@ -1,8 +1,5 @@
 -- A command from its own number and values is the command again. Assumes nothing.
-use mathlib.Core.Bool.{Bool, true, false}
-use mathlib.Core.List.{[]}
-use mathlib.Core.Path.{◌≡◌, refl, ap, ◌∙◌}
-use lib.Dec.{eqb}
+use Rattle.std.proofs.Common.{Bool, true, false, [], ◌≡◌, refl, ap, ◌∙◌, eqb}
 use mir.Val.{bool_byte}
 use Rattle.rdp_command.specs.Groups.{scissor_of, scissor_values, other_modes_of, other_modes_values, tile_descriptor_of, tile_descriptor_values, triangle_base_of, triangle_base_values}
 use Rattle.rdp_command.specs.Commands.{command_of, values_of, number_of}

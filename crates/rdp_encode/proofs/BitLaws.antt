@@ -1,14 +1,7 @@
 -- A word that is put together from numbers at falling bit lines holds at each line the low bits of its number. Assumes nothing.
-use Prim.Native.Nat.{ℕ, zero, suc, ◌+◌, ◌-◌, ◌*◌, ◌/◌, ◌%◌, ◌^◌, ◌≤◌, ◌<◌}
-use mathlib.Core.Bool.{Bool, true, false, cond, ◌&&◌}
-use mathlib.Core.List.{List, [], ◌∷◌}
-use mathlib.Core.Path.{◌≡◌, ap, sym, ◌∙◌}
-use native.Mathlib.Nat.{zero-add, add_assoc, add-mul, mul_assoc, suc-mul, mod-lt, mod-mod, le_trans, le_of_eq, lt_of_lt_of_le, mul-le-mul_right, mul-add-mod_self_right, not-suc-le-zero, le_of_suc-le-suc, suc_inj}
-use native.Mathlib.Omega.{arith}
-use borrow.Author.Tests.{eq-eqb}
-use lib.Dec.{T, eqb, leb, leb→le}
-use lib.ListN.{length, get_or}
-use lib.Pow.{pow_pos, pow-add, pow_mono, high}
+use Rattle.std.proofs.Common.{ℕ, zero, suc, ◌+◌, ◌-◌, ◌*◌, ◌/◌, ◌%◌, ◌^◌, ◌≤◌, ◌<◌, Bool, true, false, cond, ◌&&◌, List, [], ◌∷◌, ◌≡◌, ap, sym, ◌∙◌, zero-add, add_assoc, add-mul, mul_assoc, suc-mul, mod-lt, le_trans, le_of_eq, lt_of_lt_of_le, mul-le-mul_right, not-suc-le-zero, le_of_suc-le-suc, arith, eq-eqb, T, eqb, leb, leb→le, length, get_or, pow_pos, pow-add, pow_mono}
+use Rattle.std.proofs.Math.Nat.{mod-mod, mul-add-mod_self_right, suc_inj}
+use Rattle.std.proofs.Math.Pow.{high}
 use Rattle.rdp_command.specs.Layout.{Line, width}
 use Rattle.rdp_command.specs.Fields.{bits_at}
 use Rattle.rdp_encode.specs.Placed.{at_line, at_lines}

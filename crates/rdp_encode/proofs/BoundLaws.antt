@@ -1,11 +1,6 @@
 -- Which answers encoding gives, and how large their parts are. Assumes nothing.
-use Prim.Native.Nat.{ℕ, ◌≤◌}
-use mathlib.Core.Bool.{Bool, true, false, cond, ◌&&◌}
-use mathlib.Core.List.{List}
-use mathlib.Core.Path.{◌≡◌, ap, ◌∙◌}
-use native.Mathlib.Omega.{arith}
-use lib.Dec.{ltb}
-use lib.ListN.{length, length-map}
+use Rattle.std.proofs.Common.{ℕ, ◌≤◌, Bool, true, false, cond, ◌&&◌, List, ◌≡◌, ap, ◌∙◌, arith, ltb, length}
+use Rattle.std.proofs.Math.ListN.{length-map}
 use Rattle.rdp_words.specs.Words.{word_at}
 use Rattle.rdp_words.specs.Kinds.{words_of}
 use Rattle.rdp_command.specs.Layout.{layout}

@@ -1,12 +1,6 @@
 -- The bytes of a command's words, written at the front of a list. Assumes nothing.
-use Prim.Native.Nat.{ℕ, zero, suc, ◌+◌, ◌-◌, ◌*◌, ◌/◌, min}
-use mathlib.Core.Path.{◌≡◌, refl, ap, sym, ◌∙◌}
-use mathlib.Core.List.{List, [], ◌∷◌, ◌++◌}
-use native.Mathlib.Numerals.{add-one}
-use native.Mathlib.Omega.{arith}
-use lib.ListN.{length, length-append, take, drop}
+use Rattle.std.proofs.Common.{ℕ, zero, suc, ◌+◌, ◌-◌, ◌*◌, ◌≡◌, refl, ap, sym, ◌∙◌, List, [], ◌∷◌, ◌++◌, add-one, arith, length, length-append, take, drop}
 use Rattle.rdp_words.specs.Words.{bytes_of, overwrite, pasted}
-use Rattle.rdp_words.specs.Lengths.{suffix_words}
 use Rattle.rdp_words.proofs.OverwriteLaws.{overwrite-none, pasted-after}
 use Rattle.rdp_encode.specs.Encode.{packed_word, packed_bytes, base_words, bytes_with}
 
@@ -43,7 +37,3 @@ empty (x ∷ xs) e = absurd (omega arith)
 pub whole-bytes : (n : ℕ) (ns suffix : List ℕ) {k : ℕ} → k ≡ base_words n → packed_bytes n ns k ++ suffix ≡ bytes_with n ns suffix
 unfolding bytes_with
 whole-bytes n ns suffix e = ap (λ (k : ℕ). packed_bytes n ns k ++ suffix) e
-
--- the words of a base are those that the suffix leaves
-pub base-count : (n : ℕ) (suffix : List ℕ) → length suffix ≡ 8 * suffix_words n → n - length suffix / 8 ≡ min 4 n
-base-count n suffix e = omega arith

@@ -1,18 +1,8 @@
 -- A command as its number and the numbers of its fields, and back. Assumes nothing.
-use Prim.Native.Nat.{ℕ, ◌+◌, ◌-◌, ◌*◌, ◌/◌, ◌%◌, ◌^◌, ◌≤◌, ◌<◌}
-use mathlib.Core.Bool.{Bool, true, false, ◌&&◌}
-use mathlib.Core.List.{List, [], ◌∷◌, map}
-use mathlib.Core.Path.{◌≡◌, refl, ap, sym, subst, ◌∙◌}
-use native.Mathlib.Nat.{lt_of_lt_of_le, suc-ne-zero}
-use native.Mathlib.Omega.{arith}
-use borrow.Author.Tests.{eq-eqb, ltb-true, eqb-true}
-use lib.Dec.{T, eqb}
-use lib.ListN.{length, get_or, drop, replicate, length-replicate}
-use lib.Pow.{pow_mono}
+use Rattle.std.proofs.Common.{ℕ, ◌+◌, ◌-◌, ◌*◌, ◌/◌, ◌%◌, ◌^◌, ◌≤◌, ◌<◌, Bool, true, false, ◌&&◌, List, [], ◌∷◌, map, ◌≡◌, refl, ap, sym, subst, ◌∙◌, lt_of_lt_of_le, suc-ne-zero, arith, eq-eqb, ltb-true, eqb-true, T, eqb, length, get_or, drop, replicate, pow_mono, w64, to_z-of_z}
+use Rattle.std.proofs.Math.ListN.{length-replicate}
 use lib.Signed.{mag}
-use mir.Syntax.{w64}
 use mir.Val.{bool_byte}
-use mir.Facts.{to_z-of_z}
 use Rattle.rdp_words.specs.Words.{number_in}
 use Rattle.rdp_words.specs.Kinds.{words_of}
 use Rattle.rdp_words.specs.Lengths.{suffix_of}

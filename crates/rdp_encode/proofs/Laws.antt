@@ -1,9 +1,5 @@
 -- The laws of encoding that the layers above rest on, over what is answered. Assumes nothing.
-use Prim.Native.Nat.{ℕ, ◌/◌, ◌≤◌}
-use mathlib.Core.List.{List, ◌++◌}
-use mathlib.Core.Path.{◌≡◌, ap, sym, subst, ◌∙◌}
-use borrow.Author.Tests.{leb-true}
-use lib.ListN.{length}
+use Rattle.std.proofs.Common.{ℕ, ◌/◌, ◌≤◌, List, ◌++◌, ◌≡◌, ap, sym, subst, ◌∙◌, leb-true, length}
 use Rattle.rdp_words.specs.Words.{overwrite}
 use Rattle.rdp_words.specs.Kinds.{words_of}
 use Rattle.rdp_command.specs.Commands.{number_of}

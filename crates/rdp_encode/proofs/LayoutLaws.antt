@@ -1,12 +1,6 @@
 -- The bit lines of every command fall within each word, so that its words hold each field's bits. Assumes nothing.
-use Prim.Native.Nat.{ℕ, zero, suc, ◌+◌, ◌*◌, ◌/◌, ◌%◌, ◌^◌, ◌≤◌, ◌<◌, zero-le, suc-le-suc}
-use mathlib.Core.Bool.{Bool, true, false, cond, ◌&&◌}
-use mathlib.Core.List.{List, [], ◌∷◌, map}
-use mathlib.Core.Path.{◌≡◌, refl, ap, sym, ◌∙◌}
-use native.Mathlib.Nat.{not-suc-le-zero, le_of_suc-le-suc, zero-add, suc_inj}
-use native.Mathlib.Omega.{arith}
-use lib.Dec.{T, eqb, ltb, ltb→lt}
-use lib.ListN.{length, get_or}
+use Rattle.std.proofs.Common.{ℕ, zero, suc, ◌+◌, ◌*◌, ◌/◌, ◌%◌, ◌^◌, ◌≤◌, ◌<◌, zero-le, suc-le-suc, Bool, true, false, cond, ◌&&◌, List, [], ◌∷◌, map, ◌≡◌, refl, ap, sym, ◌∙◌, not-suc-le-zero, le_of_suc-le-suc, zero-add, arith, T, eqb, ltb, ltb→lt, length, get_or}
+use Rattle.std.proofs.Math.Nat.{suc_inj}
 use Rattle.rdp_command.specs.Layout.{Line, width, layout, bits}
 use Rattle.rdp_encode.specs.Table.{Readable}
 use Rattle.std.specs.List.{AllByRecursion}

@@ -1,14 +1,5 @@
 -- The number of a command that can be encoded, and that every command that was read is one. Assumes nothing.
-use Prim.Native.Nat.{ℕ, ◌+◌, ◌*◌, ◌/◌, ◌%◌, ◌^◌, ◌≤◌, ◌<◌}
-use mathlib.Core.Bool.{true, cond}
-use mathlib.Core.List.{List, [], ◌∷◌, map}
-use mathlib.Core.Path.{◌≡◌, refl, ap, sym, subst, ◌∙◌}
-use native.Mathlib.Nat.{mod-lt}
-use native.Mathlib.Omega.{arith}
-use borrow.Author.Tests.{eq-eqb, eqb-true}
-use lib.Dec.{T, eqb, lit<}
-use lib.ListN.{length, get_or, drop}
-use lib.Pow.{pow_pos}
+use Rattle.std.proofs.Common.{ℕ, ◌+◌, ◌*◌, ◌/◌, ◌%◌, ◌^◌, ◌≤◌, ◌<◌, true, cond, List, [], ◌∷◌, map, ◌≡◌, refl, ap, sym, subst, ◌∙◌, mod-lt, arith, eq-eqb, eqb-true, T, eqb, lit<, length, get_or, drop, pow_pos}
 use mir.Val.{bool_byte}
 use Rattle.rdp_words.specs.Words.{number_in}
 use Rattle.rdp_command.specs.Layout.{Line, width, layout, triangle_base_lines}

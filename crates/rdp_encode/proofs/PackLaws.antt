@@ -1,7 +1,7 @@
 -- Numbers at their bit lines. Assumes nothing.
-use Rattle.std.proofs.Common.{◌≡◌, ℕ, ◌+◌, ◌*◌, ◌%◌, ◌^◌, ◌<◌, Bool, cond, ◌&&◌, eqb, List, [], ◌∷◌, map, length, refl, ap, ◌∙◌, arith}
-use native.Mathlib.Nat.{one-mul, mod-eq_of_lt, mod-lt, suc_inj}
-use lib.Pow.{pow_pos, pow-lt, shl_exact}
+use Rattle.std.proofs.Common.{◌≡◌, ℕ, ◌+◌, ◌*◌, ◌%◌, ◌^◌, ◌<◌, Bool, cond, ◌&&◌, eqb, List, [], ◌∷◌, map, length, refl, ap, ◌∙◌, arith, one-mul, mod-eq_of_lt, mod-lt, pow_pos, shl_exact}
+use Rattle.std.proofs.Math.Nat.{suc_inj}
+use Rattle.std.proofs.Math.Pow.{pow-lt}
 use Rattle.std.specs.List.{zip, list_all, sum_by}
 use Rattle.std.proofs.lemmas.List.Sums.{sum_by-cons}
 use Rattle.rdp_command.specs.Layout.{Line, width}

@@ -1,6 +1,5 @@
 -- The bit lines of the layout can be read, by one test that antt computes over the 64 numbers. Assumes nothing.
-use Rattle.std.proofs.Common.{◌≡◌, ℕ, ◌<◌, Bool, ◌&&◌, ltb, leb, List, [], ◌∷◌, map, sym, subst}
-use lib.Dec.{T, leb→le, ltb→lt}
+use Rattle.std.proofs.Common.{◌≡◌, ℕ, ◌<◌, Bool, ◌&&◌, ltb, leb, List, [], ◌∷◌, map, sym, subst, T, leb→le, ltb→lt}
 use Rattle.std.specs.List.{All, AllByRecursion, list_all}
 use Rattle.std.proofs.lemmas.List.Elements.{All-from_recursion}
 use Rattle.rdp_command.specs.Layout.{Line, width, layout}

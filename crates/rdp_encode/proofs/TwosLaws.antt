@@ -1,25 +1,8 @@
 -- Signed numbers in two's complement of 64 bits. Assumes nothing.
-use Prim.Native.Nat.{ℕ, ◌+◌, ◌<◌, ◌≤◌, ◌-◌, ◌^◌}
-use mathlib.Core.Path.{◌≡◌, refl}
-use native.Mathlib.Omega.{arith}
-use lib.IntN.{ℤ, pos, negsuc}
+use Rattle.std.proofs.Common.{ℕ, ◌<◌, ◌^◌, ◌≡◌, refl, ℤ, pos, negsuc, w16, w64, to_z, of_z, ltb}
 use lib.Signed.{mag}
-use mir.Syntax.{w16, w64}
-use mir.Val.{to_z, of_z}
-use lib.Dec.{ltb}
 use Rattle.rdp_encode.specs.Placed.{fits_signed}
-use Rattle.rdp_command.proofs.Signed.{excess_of, read_back}
-
--- two's complement of 64 bits, out of a number with 2 ^ 16 added to it
-pub low-back : (z : ℤ) → mag z < 2 ^ 15 → excess_of z < 2 ^ 16 → excess_of z + 0xFFFF_FFFF_FFFF_0000 ≡ of_z w64 z
-unfolding excess_of
-low-back (pos n) h l = absurd (omega arith)
-low-back (negsuc n) h l = omega arith
-
-pub high-back : (z : ℤ) → mag z < 2 ^ 15 → 2 ^ 16 ≤ excess_of z → excess_of z - 2 ^ 16 ≡ of_z w64 z
-unfolding excess_of
-high-back (pos n) h l = omega arith
-high-back (negsuc n) h l = absurd (omega arith)
+use Rattle.rdp_command.proofs.Signed.{read_back}
 
 -- what a call of `twos` on a signed field gives
 pub given :

@@ -1,18 +1,8 @@
 -- The value of a line from its bits, and its number back. Assumes nothing.
-use Prim.Native.Nat.{ℕ, zero, suc, ◌+◌, ◌-◌, ◌*◌, ◌%◌, ◌^◌, ◌≤◌, ◌<◌}
-use mathlib.Core.Bool.{Bool, true, false}
-use mathlib.Core.Path.{◌≡◌, refl, ap, sym, ◌∙◌}
-use native.Mathlib.Nat.{mod-eq_of_lt, add-mul-mod_self_right, pow-suc, mul_comm, suc-mul, add_comm, not-suc-le-zero}
-use native.Mathlib.Numerals.{sub-one}
-use native.Mathlib.Omega.{arith}
-use borrow.Author.Tests.{lt-ltb, le-ltb, ltb-true, ltb-false}
-use lib.Dec.{T, ltb}
-use lib.IntN.{ℤ, pos, negsuc}
-use lib.Pow.{pow_pos, pow-add}
+use Rattle.std.proofs.Common.{ℕ, zero, suc, ◌+◌, ◌-◌, ◌*◌, ◌%◌, ◌^◌, ◌≤◌, ◌<◌, Bool, true, false, ◌≡◌, refl, ap, sym, ◌∙◌, mod-eq_of_lt, pow-suc, mul_comm, suc-mul, add_comm, not-suc-le-zero, sub-one, arith, lt-ltb, le-ltb, ltb-true, ltb-false, T, ltb, ℤ, pos, negsuc, pow_pos, pow-add, w64, of_z}
+use Rattle.std.proofs.Math.Nat.{add-mul-mod_self_right}
 use lib.Signed.{mag}
-use mir.Syntax.{w64}
-use mir.Val.{of_z}
-use mir.Facts.{of_z-to_z}
+use Rattle.std.proofs.Math.Facts.{of_z-to_z}
 use Rattle.rdp_command.specs.Layout.{Line, width}
 use Rattle.rdp_command.specs.Fields.{Value, unsigned, signed, twos_complement, value_of}
 use Rattle.rdp_encode.specs.Placed.{number_of_value, fits_line}

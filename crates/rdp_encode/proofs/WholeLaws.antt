@@ -1,14 +1,6 @@
 -- Encoding by the words of the first command: steps to the laws over answers. Assumes nothing.
-use Prim.Native.Nat.{ℕ, zero, suc, ◌+◌, ◌*◌, ◌/◌, ◌^◌, ◌≤◌, ◌<◌}
-use mathlib.Core.Bool.{Bool, true, false, cond, ◌&&◌}
-use mathlib.Core.List.{List, ◌++◌, map, append_assoc}
-use mathlib.Core.Path.{◌≡◌, refl, ap, sym, ◌∙◌}
-use native.Mathlib.Nat.{not-suc-le-zero}
-use native.Mathlib.Omega.{arith}
-use borrow.Author.Tests.{lt-ltb, le-leb, eq-eqb, eqb-true, eqb-false, ltb-true, ltb-false}
-use lib.Dec.{eqb, ltb}
-use lib.ListN.{length, get_or, take, drop, length-append, length-take, length-drop}
-use lib.Seq.{take_at, drop_at}
+use Rattle.std.proofs.Common.{ℕ, zero, suc, ◌+◌, ◌*◌, ◌/◌, ◌^◌, ◌≤◌, ◌<◌, Bool, true, false, cond, ◌&&◌, List, ◌++◌, map, append_assoc, ◌≡◌, refl, ap, sym, ◌∙◌, not-suc-le-zero, arith, lt-ltb, le-leb, eq-eqb, eqb-true, ltb-true, ltb-false, eqb, ltb, length, get_or, take, drop, length-append, length-take, length-drop, take_at, drop_at}
+use borrow.Author.Tests.{eqb-false}
 use Rattle.rdp_words.specs.Words.{word_of, word_at, number_in, bytes_of, overwrite}
 use Rattle.rdp_words.specs.Kinds.{words_of}
 use Rattle.rdp_command.specs.Layout.{layout}

@@ -103,7 +103,7 @@ fn suffix_len(n: usize) -> usize
     requires { n ≤ 22 }
     ensures { result ≡ 8 * suffix_words n }
 {
-    if n < 4 { 0 } else { 8 * (n - 4) }
+    8 * n.saturating_sub(4)
 }
 
 // The n words of a command, or 15 at 0 where it can't be encoded, else 14 at its words where there is no room for them.

@@ -1,17 +1,7 @@
-use Prim.Native.Nat.{ℕ, ◌+◌, ◌≤◌}
-use mathlib.Core.Path.{◌≡◌, ap, sym}
-use native.Mathlib.Nat.{add-zero}
-use native.Mathlib.Omega.{arith}
-use borrow.Author.Tests.{eq-eqb, ne_eqb}
+use Rattle.std.proofs.Common.{ℕ, ◌+◌, ◌≤◌, ◌≡◌, ap, sym, add-zero, arith, eq-eqb, ne_eqb}
 use Rattle.rdp_compare.specs.Differing.{line_index}
 use Rattle.rdp_compare.proofs.DifferingLaws.{bit-most}
 use Rattle.rdp_compare.proofs.fieldwise.bit_of.Goals as goal
-
-pub overflow_add-result : goal.overflow_add-result
-overflow_add-result c = omega (arith, c.unnamed_before.ensures.1, c.requires)
-
-pub overflow_shl-result : goal.overflow_shl-result
-overflow_shl-result c = omega (arith, c.unnamed_before.ensures.1, c.requires)
 
 pub returns-then-number-eq47 : goal.returns-then-number-eq47
 returns-then-number-eq47 c =

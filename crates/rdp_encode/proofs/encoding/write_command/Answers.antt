@@ -1,7 +1,6 @@
 use Rattle.std.proofs.Common.{◌≡◌, ℕ, ◌*◌, ◌/◌, List, true, false, ◌&&◌, eqb, leb, Some, None, length, arith, ap, sym, ◌∙◌}
 use Rattle.std.proofs.lemmas.Option.{MatchOption-at_none, MatchOption-at_some}
 use Rattle.std.proofs.lemmas.Result.{err_from_is_err_and}
-use borrow.Author.Tests.{eqb-true, leb-true}
 use Rattle.rdp_words.specs.Words.{overwrite}
 use Rattle.rdp_words.specs.Kinds.{words_of}
 use Rattle.rdp_words.specs.Grounds.{Answer}
@@ -11,7 +10,6 @@ use Rattle.rdp_encode.specs.Encode.{verdict_of, has_room, answer_with, out_with,
 use Rattle.rdp_encode.specs.Numbers.{numbers_fit}
 use Rattle.rdp_encode.specs.Steps.{encodable_by}
 use Rattle.rdp_words.proofs.KindLaws.{words-most}
-use Rattle.rdp_words.proofs.Tests.{and-true}
 use Rattle.rdp_encode.proofs.AnswerLaws.{unfit-by}
 use Rattle.rdp_encode.proofs.encoding.write_command.Goals.{After-suffix_len, After-branch-packable}
 use Rattle.rdp_encode.proofs.encoding.write_command.Goals as goal
@@ -76,14 +74,6 @@ returns-in_err-count c =
     let at = (goal.at.returns-in_err-count c).After-suffix_len in
     let p = err_from_is_err_and c.from_residual-in_err-count.result c.from_residual-in_err-count.ensures.1 in
     record { answer = rw (p.1, p.2) (by_code at c.in_err-count.ensures.answer); output = rw (sym (tests at) ∙ sym c.in_err-count.ensures.whole) }
-
-pub write_whole-requires : goal.write_whole-requires
-write_whole-requires c =
-    let at = (goal.at.write_whole-requires c).After-suffix_len in
-    let ok = and-true (eqb (length (suffix at)) c.suffix_len.result) (leb c.words_of-n.result (length (out at) / 8)) (sym c.in_ok-count.ensures.whole) in (
-      c.words_of-n.ensures ∙ ap words_of (sym (same at).0),
-      (omega (arith, leb-true c.words_of-n.result (length (out at) / 8) ok.1), eqb-true (length (suffix at)) c.suffix_len.result ok.0 ∙ c.suffix_len.ensures),
-    )
 
 pub returns : goal.returns
 unfolding answer_with out_with

@@ -1,11 +1,8 @@
-use mathlib.Core.List.{List, [], ◌∷◌, ◌++◌}
-use Prim.Native.Nat.{ℕ}
-use lib.ListN.{get_or}
+use Rattle.std.proofs.Common.{List, [], ◌∷◌, ◌++◌, ℕ, get_or, rules}
 use mir.Val.{bool_byte}
 use Rattle.rdp_command.specs.Fields.{unsigned, signed, flag}
 use Rattle.rdp_command.specs.declared.TriangleBase.{TriangleBase}
 use Rattle.rdp_encode.proofs.TwosLaws.{given}
-use borrow.Author.Rules.{rules}
 use Rattle.rdp_encode.proofs.values.triangle_base.Goals as goal
 
 -- the numbers in the order of the layout

@@ -1,8 +1,7 @@
-use Rattle.std.proofs.Common.{ℕ, List, ap, ◌∙◌}
+use Rattle.std.proofs.Common.{ℕ, List, ap, ◌∙◌, lit<}
 use Rattle.rdp_command.specs.Layout.{Line, layout}
 use Rattle.rdp_encode.specs.Placed.{at_lines}
 use Rattle.rdp_encode.proofs.LayoutLaws.{rest_lt, word_lt}
-use lib.Dec.{lit<}
 use Rattle.rdp_encode.proofs.encoding.Packable.word.Goals as goal
 
 pub packed-rest-requires : goal.packed-rest-requires
