@@ -33,11 +33,9 @@ fn head<const INTO: bool>(run: Run) -> usize
 // Eight bytes over eight others, whose halves exchange places where they are turned; of other lengths nothing moves. All are read before one is written, so
 // that more of them move at a time.
 pub fn move_eight(from: &[u8], to: &mut [u8], turned: bool)
-    ensures {
-        to.new ≡
-            cond (eqb (length from.now) 8 && eqb (length to.old) 8) (cond turned (drop 4 from.now ++ take 4 from.now) from.now)
-                to.old
-    }
+    ensures { to.new ≡
+        cond (eqb (length from.now) 8 && eqb (length to.old) 8) (cond turned (drop 4 from.now ++ take 4 from.now) from.now)
+        to.old }
 {
     if from.len() != 8 || to.len() != 8 {
         return;
