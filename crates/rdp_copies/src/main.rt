@@ -26,7 +26,6 @@ fn show_all(page: &mut Page<impl Write>) -> io::Result<()> {
 fn main(rt: HostRuntime) -> io::Result<()> {
     let mut page = Page {
         out: BufWriter::new(rt.alloc(), io::writer(&rt))?,
-        alloc: rt.alloc(),
     };
     show_all(&mut page)?;
     page.out.flush()

@@ -1,15 +1,13 @@
 // Lists, drawn into four rows of 16 bytes from address 0 on, which are printed. A case is a name, and the words after those that fill.
 use rdp_text::words::*;
 use rdp_words::Answer;
-use std::alloc::Global;
 use std::io;
 use std::io::Write;
 
-// What is printed to, and what lists are made of.
+// What is printed to.
 #[derive(Drop)]
 pub struct Page<W> {
     pub out: W,
-    pub alloc: Global,
 }
 
 fn print_answer(page: &mut Page<impl Write>, name: &str, answer: Answer) -> io::Result<()> {
@@ -33,22 +31,24 @@ fn print_memory(page: &mut Page<impl Write>, memory: &[u8; 64]) -> io::Result<()
     writeln!(page.out)
 }
 
-// What each list begins with.
+// What each list begins with: 48 bytes.
 const FILLED: [u64; 6] = [FILL, IMAGE, SCISSOR, COLOR, RECTANGLE, PIPE_SYNC];
 
-// Draws the list of FILLED and further words with some texture memory.
+// Draws the list of FILLED and at most 26 further words with some texture memory.
 fn draw_with(
     page: &mut Page<impl Write>,
     name: &str,
     words: &[u64],
     texture: &mut [u8],
 ) -> io::Result<()> {
-    let mut all = Vec::from_slice(page.alloc, &FILLED)?;
-    all.extend_from_slice(words)?;
-    let mut list = vec![in page.alloc; 0u8; all.len().saturating_mul(8)]?;
-    rdp_text::lay(&all, &mut list);
+    let mut bytes = [0u8; 256];
+    let (first, further) = bytes.split_at_mut(48);
+    rdp_text::lay(&FILLED, first);
+    rdp_text::lay(words, further);
+    let length = 48 + 8 * words.len();
+    let list = bytes.get(..length).ok_or(io::ErrorKind::InvalidInput)?;
     let mut memory = [0x55u8; 64];
-    let answer = rdp_draw::draw(&list, &mut memory, 0, texture);
+    let answer = rdp_draw::draw(list, &mut memory, 0, texture);
     print_answer(page, name, answer)?;
     print_memory(page, &memory)
 }

@@ -1,21 +1,21 @@
 // Lists, drawn into memory of which the bytes are printed. A case is a name, the words of its list, and what the memory is.
 use rdp_words::Answer;
-use std::alloc::Global;
 use std::io;
 use std::io::Write;
 
-// What is printed to, and what lists and memories are made of.
+// What is printed to.
 #[derive(Drop)]
 pub struct Page<W> {
     pub out: W,
-    pub alloc: Global,
 }
 
-// Bytes in rows, each row on a line after the present one.
+// At most 512 bytes in rows, each row on a line after the present one.
 fn print_rows(page: &mut Page<impl Write>, bytes: &[u8], row: usize) -> io::Result<()> {
-    let mut text = vec![in page.alloc; 0u8; bytes.len().saturating_mul(3)]?;
-    rdp_text::spell(bytes, row, &mut text);
-    page.out.write_all(&text)
+    let mut text = [0u8; 1536];
+    let length = bytes.len().saturating_mul(3);
+    let rows = text.get_mut(..length).ok_or(io::ErrorKind::InvalidInput)?;
+    rdp_text::spell(bytes, row, rows);
+    page.out.write_all(rows)
 }
 
 // A sum modulo 2^32 - 1.
@@ -60,7 +60,7 @@ fn draw(
     print_answer(page, name, answer)
 }
 
-// Draws the list of words.
+// Draws the list of at most 32 words.
 fn draw_words(
     page: &mut Page<impl Write>,
     name: &str,
@@ -68,12 +68,14 @@ fn draw_words(
     memory: &mut [u8],
     start: u64,
 ) -> io::Result<()> {
-    let mut list = vec![in page.alloc; 0u8; 8 * words.len()]?;
-    rdp_text::lay(words, &mut list);
-    draw(page, name, &list, memory, start)
+    let mut bytes = [0u8; 256];
+    let length = 8 * words.len();
+    let list = bytes.get_mut(..length).ok_or(io::ErrorKind::InvalidInput)?;
+    rdp_text::lay(words, list);
+    draw(page, name, list, memory, start)
 }
 
-// Draws a list into memory of `length` bytes `before` that starts at address `start`, and prints it in rows of `row` bytes.
+// Draws a list into memory of `length` bytes `before`, at most 512, that starts at address `start`, and prints it in rows of `row` bytes.
 fn draw_in_rows(
     page: &mut Page<impl Write>,
     name: &str,
@@ -83,9 +85,10 @@ fn draw_in_rows(
     start: u64,
     row: usize,
 ) -> io::Result<()> {
-    let mut memory = vec![in page.alloc; before; length]?;
-    draw_words(page, name, words, &mut memory, start)?;
-    print_rows(page, &memory, row)?;
+    let mut bytes = [before; 512];
+    let memory = bytes.get_mut(..length).ok_or(io::ErrorKind::InvalidInput)?;
+    draw_words(page, name, words, memory, start)?;
+    print_rows(page, memory, row)?;
     writeln!(page.out)
 }
 
@@ -131,18 +134,20 @@ pub fn pictures_on_zeros(page: &mut Page<impl Write>, cases: &[(&str, &[u64])]) 
     Ok(())
 }
 
-// Lists of so many zeros, into four bytes.
+// Lists of so many zeros, at most 32,769, into four bytes.
 pub fn drawings_of_zeros(page: &mut Page<impl Write>, cases: &[(&str, usize)]) -> io::Result<()> {
+    let zeros = [0u8; 32769];
     for &(name, length) in cases {
-        let list = vec![in page.alloc; 0u8; length]?;
+        let list = zeros.get(..length).ok_or(io::ErrorKind::InvalidInput)?;
         let mut memory = [0x55u8; 4];
-        draw(page, name, &list, &mut memory, 0)?;
+        draw(page, name, list, &mut memory, 0)?;
         print_rows(page, &memory, 4)?;
         writeln!(page.out)?;
     }
     Ok(())
 }
 
+// Into memory of at most 153,600 bytes: 320 by 240 pixels of 16 bits.
 fn draw_long(
     page: &mut Page<impl Write>,
     name: &str,
@@ -150,11 +155,12 @@ fn draw_long(
     length: usize,
     start: u64,
 ) -> io::Result<()> {
-    let mut memory = vec![in page.alloc; 0x55u8; length]?;
-    draw_words(page, name, words, &mut memory, start)?;
-    write!(page.out, ", checksum {:016x}", checksum(&memory))?;
-    print_rows(page, &memory[..length.min(16)], 16)?;
-    print_rows(page, &memory[length.saturating_sub(16)..], 16)?;
+    let mut bytes = [0x55u8; 153600];
+    let memory = bytes.get_mut(..length).ok_or(io::ErrorKind::InvalidInput)?;
+    draw_words(page, name, words, memory, start)?;
+    write!(page.out, ", checksum {:016x}", checksum(memory))?;
+    print_rows(page, &memory[..memory.len().min(16)], 16)?;
+    print_rows(page, &memory[memory.len().saturating_sub(16)..], 16)?;
     writeln!(page.out)
 }
 

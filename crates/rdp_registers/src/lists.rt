@@ -7,6 +7,8 @@
 //               18 and 19 26, 1A, 1B and 20 to 23 28, 1C to 1F 34, 31 00;
 //   6           none is changed.
 // All other bits are as they came. With w = n mod 49 list n has w words; for 7, w words and 1 + w mod 7 bytes, which are zero.
+ghost use Rattle.std.specs.Prelude.{◌<◌};
+
 const SEED: u64 = 0x9E37_79B9_7F4A_7C15;
 
 // A step of the generator, which is a 64-bit xorshift.
@@ -77,7 +79,9 @@ pub fn lay(n: u64, out: &mut [u8]) {
 }
 
 // How many bytes list n has.
-pub fn length_of(n: u64) -> usize {
+pub fn length_of(n: u64) -> usize
+    ensures { result < 392 }
+{
     let words = (n % 49) as usize;
     if n % 8 == 7 {
         return 8 * words + 1 + words % 7;

@@ -11,26 +11,31 @@ mod digest;
 mod lists;
 mod show;
 
-use std::alloc::Global;
 use std::io;
 use std::io::{BufWriter, Write};
 
-// List n, with zeros after its words up to `length` bytes.
-fn show_list(out: &mut impl Write, alloc: Global, n: u64, length: usize) -> io::Result<()> {
-    let mut list = vec![in alloc; 0u8; length]?;
-    lists::lay(n, &mut list);
-    show::show(out, &list)
+// Lays list n into the zeros that are lent.
+fn show_list(out: &mut impl Write, n: u64, list: &mut [u8]) -> io::Result<()> {
+    lists::lay(n, list);
+    show::show(out, list)
 }
 
-fn show_all(out: &mut impl Write, alloc: Global) -> io::Result<()> {
+fn show_lists(out: &mut impl Write) -> io::Result<()> {
     for n in 0..245u64 {
-        show_list(out, alloc, n, lists::length_of(n))?;
+        let mut bytes = [0u8; 392];
+        show_list(out, n, &mut bytes[..lists::length_of(n)])?;
     }
-    show_list(out, alloc, 0, 32776)
+    Ok(())
+}
+
+fn show_long(out: &mut impl Write) -> io::Result<()> {
+    let mut bytes = [0u8; 32776];
+    show_list(out, 0, &mut bytes)
 }
 
 fn main(rt: HostRuntime) -> io::Result<()> {
     let mut out = BufWriter::new(rt.alloc(), io::writer(&rt))?;
-    show_all(&mut out, rt.alloc())?;
+    show_lists(&mut out)?;
+    show_long(&mut out)?;
     out.flush()
 }
