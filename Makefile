@@ -13,7 +13,7 @@ WARNINGS = -Wall -Wextra -Werror
 
 SOURCES = crates.txt $(shell find crates -name out -prune -o '(' -name '*.rt' -o -name '*.antt' ')' -print)
 ARCHIVE = build/liblanyardrove.a
-TESTS = boundary stack
+TESTS = boundary stack first_call
 
 all: cli-libraries $(ARCHIVE) cli
 

@@ -94,7 +94,7 @@ impl<'a> Packable<'a> {
         self.write_base(base, out);
         let start = 8 * base;
         let end = start + suffix.len();
-        out[start..end].copy_from_slice(suffix);
+        rdp_words::copy(&mut out[start..end], suffix);
     }
 }
 

@@ -4,7 +4,7 @@ ghost use Rattle.std.specs.Option.{ForSome};
 
 use std::marker::Model;
 
-// At most 37 numbers, as many as a Set Other Modes has fields.
+// At most 37 numbers, as many as a Set Other Modes has fields: an array and a count, since there is no heap.
 #[derive(Drop)]
 pub struct Numbers {
     values: [u64; 37],

@@ -8,12 +8,12 @@ use rdp_command::FillFields;
 use std::marker::Model;
 
 // The bytes of the kept pixels of a fill: `rows` runs of `size` bytes each, the first at the address `first`, each next one `stride` bytes on.
-#[derive(Drop)]
+#[derive(Clone, Copy)]
 pub struct Area {
-    first: u64,
-    size: u64,
-    stride: u64,
-    rows: u64,
+    pub first: u64,
+    pub size: u64,
+    pub stride: u64,
+    pub rows: u64,
 }
 
 impl Model for Area {
@@ -22,6 +22,8 @@ impl Model for Area {
     ghost Value = { Runs };
 
     ghost view = { λ a. record { first = a.first; size = a.size; stride = a.stride; rows = a.rows } };
+
+    ghost inverse = { λ r. record { first = r.first; size = r.size; stride = r.stride; rows = r.rows } };
 
     ghost invariant = { λ a. SmallArea (record { first = a.first; size = a.size; stride = a.stride; rows = a.rows }) };
 }
@@ -86,7 +88,7 @@ fn pixel_address(address: u32, width: u16, size: u8, x: u64, y: u64) -> u64
 
 impl Area {
     // The kept pixels of a fill as runs of bytes, a run for each kept row.
-    pub fn of(fill: FillFields) -> Area
+    pub(crate) fn of(fill: FillFields) -> Area
         ensures { result ≡ area_of fill }
     {
         let x = rdp_pixels::first_kept(fill.rectangle.upper_left.x, fill.scissor.upper_left.x);
@@ -102,7 +104,7 @@ impl Area {
     }
 
     // Whether no byte is in a run.
-    pub fn is_empty(&self) -> bool
+    pub(crate) fn is_empty(&self) -> bool
         ensures { result ≡ area_empty self.now }
     {
         (self.size == 0) | (self.rows == 0)
@@ -117,7 +119,7 @@ impl Area {
     }
 
     // Whether every run lies in `len` bytes of memory that starts at address `start`. Nothing is added to `start`, which could wrap.
-    pub fn is_inside(&self, start: u64, len: usize) -> bool
+    pub(crate) fn is_inside(&self, start: u64, len: usize) -> bool
         ensures { result ≡ area_inside self.now start len }
     {
         if self.is_empty() {
@@ -130,7 +132,7 @@ impl Area {
     }
 
     // The runs by the indices of memory that starts at an address.
-    pub fn runs_from(&self, start: u64) -> Runs
+    pub(crate) fn runs_from(&self, start: u64) -> Runs
         requires { start ≤ self.now.first }
         ensures { result ≡ runs_from start self.now }
     {

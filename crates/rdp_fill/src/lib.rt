@@ -7,7 +7,7 @@ ghost use Rattle.rdp_fill.specs.Fill.{outside, fill_memory};
 mod areas;
 mod run;
 
-use areas::Area;
+pub use areas::Area;
 use rdp_command::FillFields;
 
 // Whether every byte of the kept pixels is in memory of `len` bytes that starts at address `start`: 12 does not hold.

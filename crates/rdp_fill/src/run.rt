@@ -82,14 +82,12 @@ fn write_run<const N: usize>(run: &mut [u8], pattern: &[u8])
     }
 }
 
-// The colour's four bytes, over and over.
-fn pattern_of<const P: usize>(color: u32) -> [u8; P]
-    requires { P % 4 ≡ 0 }
-    ensures { Holds color 0 result P }
+// Lays out the colour's four bytes, over and over, where the pattern stands: an array that is answered lies on the stack once more at each move.
+fn lay_pattern(pattern: &mut [u8], color: u32)
+    requires { length pattern.old % 4 ≡ 0 }
+    ensures { Holds color 0 pattern.new (length pattern.old) }
 {
-    let mut pattern = [0u8; P];
-    let _ = blocks::<4>(&mut pattern, &color.to_be_bytes());
-    pattern
+    let _ = blocks::<4>(pattern, &color.to_be_bytes());
 }
 
 // Writes runs, N bytes at a time. It stays a function of its own, and the code that calls it as it was. The parts of the runs are read one by one, before
@@ -100,7 +98,8 @@ fn paint_with<const N: usize, const P: usize>(memory: &mut [u8], runs: &Runs, co
     requires fit { Fit runs.now (length memory.old) }
     ensures { memory.new ≡ overlay (is_in runs.now) (λ i. color_byte color (runs.now.start + i)) 0 memory.old }
 {
-    let bytes = pattern_of::<P>(color);
+    let mut bytes = [0u8; P];
+    lay_pattern(&mut bytes, color);
     let pattern = &bytes[..];
     let turn = (runs.start % 4) as usize;
     let (from, size, stride) = (runs.from, runs.size, runs.stride);
@@ -136,7 +135,7 @@ impl Runs {
     {
         let runs = self.joined();
         if (runs.size < 1024) | ((runs.size < 8192) & (runs.rows < 8)) {
-            paint_with::<16, 24>(memory, &runs, color);
+            paint_with::<16, 32>(memory, &runs, color);
             return;
         }
         paint_with::<2048, 2056>(memory, &runs, color);

@@ -7,8 +7,12 @@ use native.Mathlib.Omega.{arith}
 use borrow.Author.Tests.{eqb-true, eqb-false}
 use lib.Dec.{eqb}
 use lib.ListN.{length, get_or, take, drop, set, length-set, length-append, length-drop}
-use lib.Seq.{get_or-set_same, get_or-set_other, length-take-le}
+use lib.Seq.{get_or-set_same, get_or-set_other, length-take-le, take_all}
 use borrow.Rule.Slice.PartMut.{put_mid}
+use Rattle.std.proofs.Math.Seq.{drop-length}
+use Rattle.std.proofs.Common.{append-nil}
+use Rattle.rdp_words.specs.Words.{overwrite}
+use Rattle.rdp_words.proofs.OverwriteLaws.{overwrite-is}
 use Rattle.std.proofs.lemmas.List.{get_or-append_right, get_or_append_left, get_or-take, get_or-drop}
 use Rattle.rdp_words.proofs.Tests.{by-test}
 use Rattle.rdp_pixels.specs.Overlay.{overlay, within}
@@ -138,6 +142,14 @@ module _ (d n : ℕ) (to xs : List ℕ) (inside : d + n ≤ length to) (long : l
       (λ h. let w = within-is (d + 0) (d + n) i h in rw h (e (i - d) (omega arith)))
       (λ h. rw h))
 
+-- what is as long as what it is written over takes all of it
+overwrite-whole : (new old : List ℕ) → length new ≡ length old → overwrite (take (length old) new) old ≡ new
+overwrite-whole new old e =
+    ap (λ (r : List ℕ). overwrite r old) (take_all (length old) new (omega (arith, e)))
+    ∙ overwrite-is new old (length old) e
+    ∙ ap (λ (r : List ℕ). new ++ r) (drop-length old)
+    ∙ append-nil new
+
 -- a run of an even row is copied as it stands
 module _ (s d n : ℕ) (from to : List ℕ) (source : s + n ≤ length from) (target : d + n ≤ length to) {xs : List ℕ} (is : xs ≡ take (s + n - s) (drop s from)) where
   pub copied-as : put_mid d (d + n - d) to xs ≡ part false false s d 0 n from to
@@ -153,6 +165,16 @@ module _ (s d n : ℕ) (from to : List ℕ) (source : s + n ≤ length from) (ta
       → put_mid d (d + n - d) to xs ≡ part (cond into odd false) (cond into false odd) s d 0 n from to
   copied-even true odd e = rw e copied-as
   copied-even false odd e = rw e copied-as
+
+-- a run that is written over as many bytes is all that stands there
+pub written-over :
+    (s d n : ℕ) (from to : List ℕ) → s + n ≤ length from → d + n ≤ length to → {xs : List ℕ} →
+    xs ≡ overwrite (take (length (take (d + n - d) (drop d to))) (take (s + n - s) (drop s from))) (take (d + n - d) (drop d to)) →
+    xs ≡ take (s + n - s) (drop s from)
+written-over s d n from to source target is =
+    let there : length (take (s + n - s) (drop s from)) ≡ s + n - s = length-take-le (s + n - s) (drop s from) (simp length-drop (omega arith)) in
+    let here : length (take (d + n - d) (drop d to)) ≡ d + n - d = length-take-le (d + n - d) (drop d to) (simp length-drop (omega arith)) in
+    is ∙ overwrite-whole (take (s + n - s) (drop s from)) (take (d + n - d) (drop d to)) (omega (arith, there, here))
 
 -- ---- in a loop: bytes a up to k are taken
 

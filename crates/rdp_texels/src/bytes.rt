@@ -75,7 +75,7 @@ pub fn move_run<const INTO: bool>(from: &[u8], to: &mut [u8], run: Run)
     ensures { to.new ≡ run_moved INTO run from.now to.old }
 {
     if !run.odd {
-        to[run.d..run.d + run.n].copy_from_slice(&from[run.s..run.s + run.n]);
+        rdp_words::copy(&mut to[run.d..run.d + run.n], &from[run.s..run.s + run.n]);
         return;
     }
     let first = head::<INTO>(run);

@@ -14,7 +14,7 @@ loop-row-preserved g c =
     let fits = run-fits r k (length c.args.memory.now) c.requires.fit c.loop-row-test.true in
     let inside : r.from + k * r.stride + r.size ≤ length c.loop-row.memory = omega arith in
     let size = part-size (r.from + k * r.stride) (r.from + k * r.stride + r.size) c.loop-row.memory inside in
-    run-written c.args.color r k _ _ _ _ _ _ c.loop-row.invariant c.write_run.ensures c.pattern_of-bytes.ensures (omega arith)
+    run-written c.args.color r k _ _ _ _ _ _ c.loop-row.invariant c.write_run.ensures c.lay_pattern.ensures (omega arith)
     (omega arith)
     (c.write_run.auto.run ∙ size)
     size

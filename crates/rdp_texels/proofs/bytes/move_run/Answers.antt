@@ -1,7 +1,7 @@
 -- `rdp_texels::bytes::move_run` meets its contract. Assumes nothing.
 use Rattle.std.proofs.Common.{arith}
 use borrow.Author.Tests.{not-true, not-false}
-use Rattle.rdp_texels.proofs.PartLaws.{copied-even}
+use Rattle.rdp_texels.proofs.PartLaws.{copied-even, written-over}
 use Rattle.rdp_texels.proofs.TurnLaws.{flag}
 use Rattle.rdp_texels.proofs.ExchangeLaws.{odd-three}
 use Rattle.rdp_texels.proofs.bytes.move_run.Goals as goal
@@ -10,7 +10,8 @@ pub returns-then-not-run : goal.returns-then-not-run
 returns-then-not-run g c =
     let r = c.args.run in
     let f = c.requires in
-    copied-even r.s r.d r.n c.args.from.now c.args.to.now f.source f.target c.copy_from_slice.ensures.after (flag g.row.INTO) r.odd (not-true _ c.if-not-run.true)
+    copied-even r.s r.d r.n c.args.from.now c.args.to.now f.source f.target (written-over r.s r.d r.n c.args.from.now c.args.to.now f.source f.target c.copy.ensures)
+    (flag g.row.INTO) r.odd (not-true _ c.if-not-run.true)
 
 pub returns : goal.returns
 returns g c =
