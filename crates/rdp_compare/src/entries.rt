@@ -68,6 +68,7 @@ pub fn counted<'a>(
     grounds::of_both(first, second)?;
     let mut pairs = Pairs::new(first, second);
     let mut count = 0;
+    // `for` would take the pairs, and what they leave of both lists is answered.
     while let Some(pair) = pairs.next() {
         count += entry_len(pair);
     }

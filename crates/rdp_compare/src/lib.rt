@@ -1,7 +1,7 @@
 // The comparison of two lists (#110).
 #![tactic(auto)]
 
-ghost use Rattle.std.specs.Prelude.{◌≡◌, length};
+ghost use Rattle.std.specs.Prelude.{◌≡◌, length, Err, IfErr};
 ghost use Rattle.rdp_words.specs.Grounds.{answered};
 ghost use Rattle.rdp_compare.specs.Entries.{compare_answer, entries_after};
 ghost use Rattle.rdp_compare.specs.Part.{Handed, rest_as, rest_start};
@@ -32,12 +32,15 @@ pub fn differences(first: &[u8], second: &[u8], entries: &mut [u32]) -> Answer
 }
 
 // Where the rest begins of the list that has more commands, where so many numbers are lent for the entries; with equal counts, the empty end of the first
-// list. Refused as the comparison is.
+// list. Refused as the comparison is, at its place.
 pub fn rest_start(first: &[u8], second: &[u8], room: usize) -> Result<RestPlace, Refusal>
-    ensures { rest_as (length first.now) result ≡ rest_start first.now second.now room }
+    ensures start { rest_as (length first.now) result ≡ rest_start first.now second.now room }
+    ensures refusal { IfErr result (λ e. answered (Err e) ≡ compare_answer first.now second.now room) }
 {
-    let (_, pairs) = entries::counted(first, second, room)?;
-    Ok(entries::rest_after(pairs, first.len()))
+    match entries::counted(first, second, room) {
+        Ok((_, pairs)) => Ok(entries::rest_after(pairs, first.len())),
+        Err(refusal) => Err(refusal),
+    }
 }
 
 // That rest, as a part of the list that was lent; where the comparison refuses, the empty end of the first list.

@@ -5,10 +5,10 @@ use Rattle.rdp_compare.proofs.rest.Goals as goal
 
 -- the rest begins inside its list
 inside-first : (c : In-Ok-InFirst) → c.in-Ok-InFirst.start ≤ length c.args.first.now
-inside-first c = start-inside c.args.first.now c.args.second.now c.args.room (rw c.in-Ok-InFirst.field-0-is at c.in-Ok-InFirst.ensures) refl
+inside-first c = start-inside c.args.first.now c.args.second.now c.args.room (rw c.in-Ok-InFirst.field-0-is at c.in-Ok-InFirst.ensures.start) refl
 
 inside-second : (c : In-Ok-InSecond) → c.in-Ok-InSecond.start ≤ length c.args.second.now
-inside-second c = start-inside c.args.first.now c.args.second.now c.args.room (rw c.in-Ok-InSecond.field-0-is at c.in-Ok-InSecond.ensures) refl
+inside-second c = start-inside c.args.first.now c.args.second.now c.args.room (rw c.in-Ok-InSecond.field-0-is at c.in-Ok-InSecond.ensures.start) refl
 
 pub slice_bounds-result-count : goal.slice_bounds-result-count
 slice_bounds-result-count c = omega (arith, inside-first c)
