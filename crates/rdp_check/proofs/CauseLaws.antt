@@ -7,7 +7,7 @@ use Prim.Native.Nat.{ℕ, ◌+◌, ◌*◌, ◌/◌, ◌<◌, ◌≤◌}
 use native.Mathlib.Omega.{arith}
 use borrow.Author.Tests.{ne_eqb}
 use lib.Dec.{T, eqb, eqb→eq}
-use lib.ListN.{length, take, drop, length-append}
+use lib.ListN.{length, take, drop, length-append, length-drop}
 use lib.Seq.{take_at, drop_at}
 use Rattle.rdp_words.specs.Words.{word_at, number_in}
 use Rattle.rdp_words.specs.Kinds.{between, has_bit, kind_of, is_among, words_of}
@@ -27,6 +27,9 @@ use Rattle.rdp_check.specs.View.{refusals_by, Numbers, IsJudged}
 use Rattle.rdp_hazards.proofs.HazardLaws.{at-state}
 use Rattle.rdp_check.proofs.MarkLaws.{IsMark, is-P, is_T, is-D, is-G, exactly, state-low}
 use Rattle.rdp_check.proofs.JoinLaws.{Alone, AllAlone, command-some, commands-joined, rest-joined, length-joined, words_append, joined-append, parsed}
+use native.Mathlib.Nat.{lt_of_not-le}
+use native.Mathlib.Decide.{dec_le}
+use Rattle.rdp_check.proofs.ListLaws.{command_at, commands-at, command-number, rest-past}
 use Rattle.rdp_check.proofs.OrderLaws.{among-parts}
 use Rattle.rdp_check.proofs.FirstLaws.{Numbered, own-numbered, check-numbered, commands-first, check-first}
 
@@ -417,6 +420,17 @@ pub record Seeking (numbers : ℕ) (list : List ℕ) (other : ℕ) (rest : List 
 pub seek-first : (numbers : ℕ) (list : List ℕ) (other : ℕ) → Seeking numbers list other list 0 other
 seek-first numbers list other = record { same = refl; within = omega arith }
 
+-- of a list of whole commands each one is all there
+pub seek-fits :
+    (list : List ℕ) (at n : ℕ) → n ≡ number_in (word_at list at) → rest_of (drop (8 * at) list) ≡ [] → at < length list / 8 → at + words_of n ≤ length list / 8
+seek-fits list at n is none more =
+    elim (dec_le (at + words_of n) (length list / 8)) [
+      | yes h ↦ h
+      | no h ↦
+          let empty = sym (rest-past list at n is (lt_of_not-le h)) ∙ none in
+          absurd (omega (arith, ap length empty, length-drop (8 * at) list, more))
+    ]
+
 module _ {numbers : ℕ} {list : List ℕ} {other : ℕ} {rest : List ℕ} {at found : ℕ} (s : Seeking numbers list other rest at found) (c rest' : List ℕ) (steps : commands_of rest ≡ c ∷ commands_of rest') where
   left : at + (words_of (first_number c) + words_in (commands_of rest')) ≡ words_in (commands_of list)
   left = ap (λ (cs : List (List ℕ)). at + words_in cs) (sym steps) ∙ s.within
@@ -434,6 +448,17 @@ module _ {numbers : ℕ} {list : List ℕ} {other : ℕ} {rest : List ℕ} {at f
             s.same;
         within = omega (arith, left);
       }
+
+-- at the command at a place of the list, which has the number n
+pub seek-on :
+    {numbers : ℕ} {list : List ℕ} {other at found : ℕ} → Seeking numbers list other (drop (8 * at) list) at found → (n : ℕ) → n ≡ number_in (word_at list at) →
+    at + words_of n ≤ length list / 8 → (found' : ℕ) → found' ≡ cond (is_among numbers n) at found →
+    Seeking numbers list other (drop (8 * (at + words_of n)) list) (at + words_of n) found'
+seek-on {numbers} {list} {other} {at} {found} s n is whole found' is-found =
+    let number = command-number list at n is whole in
+    subst (λ (m : ℕ). Seeking numbers list other (drop (8 * (at + words_of n)) list) (at + words_of m) found') number
+    (seek-next s (command_at list at n) (drop (8 * (at + words_of n)) list) (commands-at list at n is whole) found'
+    (is-found ∙ ap (λ (m : ℕ). cond (is_among numbers m) at found) (sym number)))
 
 pub seek-end : {numbers : ℕ} {list : List ℕ} {other : ℕ} {rest : List ℕ} {at found : ℕ} → Seeking numbers list other rest at found → commands_of rest ≡ [] → found ≡ latest (is_among numbers) other 0 (commands_of list)
 unfolding latest

@@ -22,7 +22,8 @@ pub fn first_command(list: &[u8]) -> Option<Base>
     })
 }
 
-// The command of a base.
+// The command of a base. It goes into its callers, so that the command is laid where it is answered and not moved there.
+#[inline(always)]
 pub fn command_in(base: Base) -> Command
     ensures { result ≡ command_in base.number (base.w0 ∷ base.w1 ∷ base.w2 ∷ base.w3 ∷ []) }
 {

@@ -562,11 +562,15 @@ pub fn tile_fields(descriptor: u64, size: u64) -> TileFields
     }
 }
 
-// The command of a base, or the refusal where there is none.
+// The command of a base, or the refusal where there is none. A match: by `map` and `ok_or` the command is moved twice more, and comparing lists of which every
+// command differs takes a quarter longer.
 pub fn command_or<E: Drop>(base: Option<Base>, refusal: E) -> Result<Command, E>
     ensures { result ≡ command_or base refusal }
 {
-    base.map(decoding::command_in).ok_or(refusal)
+    match base {
+        Some(whole) => Ok(decoding::command_in(whole)),
+        None => Err(refusal),
+    }
 }
 
 // The first command of a list, or 3 at 0 where its words are not all there. Bytes beyond its words are not read.

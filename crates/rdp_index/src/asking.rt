@@ -19,7 +19,9 @@ pub fn last_before(entries: &[u32], place: u32) -> Option<usize>
     None
 }
 
-// Reads commands from a place and hazards on: at most 64, and none that starts past the asked place or outside the list.
+// Reads commands from a place and hazards on: at most 64, and none that starts past the asked place or outside the list. It stays a
+// function of its own: within the question its loop's branches come to lie where they take a tenth longer.
+#[inline(never)]
 pub fn read_on(
     table: &StepTable,
     list: &[u8],

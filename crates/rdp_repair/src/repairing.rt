@@ -237,7 +237,9 @@ impl<'a> Basis<'a> {
         }
     }
 
-    // Repairs a list that none of refusals 1 to 6 and 19 holds for, where the work buffer has sixteen bytes for each command.
+    // Repairs a list that none of refusals 1 to 6 and 19 holds for, where the work buffer has sixteen bytes for each command. It stays a function of its own:
+    // the check's table is off the stack before this one's stands there.
+    #[inline(never)]
     fn repair_whole(self, work: &mut [u8], out: &mut [u8]) -> Result<Repaired, Refusal>
         requires { ((outcome_within 2048 repair_refusals self.list.now).number ≡ 0) × (16 * length (commands_of self.list.now) ≤ length work.old) }
         ensures { Repairs (basis_of self.entry.afresh self.entry.list.now) self.entry.list.now work.old out.old (told result) work.new out.new }

@@ -1,6 +1,6 @@
 -- The registers after the commands of a list, as the loop of the replay meets them and as the outcome has them. Assumes nothing.
-use Rattle.std.proofs.Common.{Bool, not, ◌||◌, List, [], ◌∷◌, ◌≡◌, refl, sym, ap, ◌∙◌, ℕ, zero, suc, ◌+◌, ◌*◌, ◌%◌, ◌≤◌, ◌<◌, le_refl, arith, lt-ltb, le-ltb, T, eqb, ltb, length, replicate, Result, Ok, Err}
-use Rattle.rdp_words.specs.Words.{word_at}
+use Rattle.std.proofs.Common.{Bool, not, ◌||◌, List, [], ◌∷◌, ◌≡◌, refl, sym, ap, subst, ◌∙◌, ℕ, zero, suc, ◌+◌, ◌*◌, ◌/◌, ◌%◌, ◌≤◌, ◌<◌, le_refl, arith, lt-ltb, le-ltb, T, eqb, ltb, length, drop, replicate, Result, Ok, Err}
+use Rattle.rdp_words.specs.Words.{word_at, number_in}
 use Rattle.rdp_words.specs.Kinds.{words_of}
 use Rattle.rdp_words.specs.Lengths.{first_number}
 use Rattle.rdp_words.proofs.Tests.{by-test, false_of}
@@ -14,7 +14,9 @@ use Rattle.rdp_check.specs.declared.Registers.{Registers}
 use Rattle.rdp_check.specs.declared.Accepted.{Accepted}
 use Rattle.rdp_check.specs.declared.Refused.{Refused}
 use Rattle.rdp_words.specs.Grounds.{Answer}
-use Rattle.rdp_words.proofs.PlaceLaws.{number_small}
+use Rattle.rdp_words.proofs.PlaceLaws.{number_small, some_words}
+use Rattle.rdp_words.proofs.KindLaws.{words-most}
+use Rattle.rdp_check.proofs.ListLaws.{command_at, commands-at, command-number, command-word, commands-past}
 use Rattle.rdp_check.proofs.JoinLaws.{command-some, words_inside}
 use Rattle.rdp_check.proofs.AppendLaws.{judge-from}
 use Rattle.rdp_check.proofs.OrderLaws.{all_give}
@@ -71,6 +73,25 @@ module _ {list : List ℕ} {end : ℕ} {before : List ℕ} {waits : ℕ} {rest f
           same = rw (← v.same, is-file, low, steps, lt-ltb _ _ more);
           sums = rw (← v.sums, is-waited, steps, lt-ltb _ _ more);
         }
+
+-- a turn at the command at a place of the list, which has the number n
+module _ {list : List ℕ} {end : ℕ} {before : List ℕ} {waits : ℕ} {file : List ℕ} {waited at : ℕ} (v : Replayed list end before waits (drop (8 * at) list) file waited at) (n : ℕ) (is : n ≡ number_in (word_at list at)) where
+  pub next-small : (at ≤ length list) × (1 ≤ words_of n) × (words_of n ≤ 22)
+  next-small =
+      (omega (arith, v.within, words_inside list), some_words list at n is, words-most n (rw is (number_small (word_at list at))))
+
+  pub cut-short : length list / 8 < at + words_of n → Leaves list end before waits file waited
+  cut-short cut = past v (commands-past list at n is cut)
+
+  pub at-next :
+      at + words_of n ≤ length list / 8 → at < end → (file' : List ℕ) → file' ≡ words_after file (n % 64) (word_at list at) → (waited' : ℕ) →
+      waited' ≡ waited_after waited n → Replayed list end before waits (drop (8 * (at + words_of n)) list) file' waited' (at + words_of n)
+  at-next whole more file' is-file waited' is-waited =
+      let number = command-number list at n is whole in
+      let word = command-word list at n is whole in
+      subst (λ (m : ℕ). Replayed list end before waits (drop (8 * (at + words_of n)) list) file' waited' (at + words_of m)) number
+      (again v (command_at list at n) (drop (8 * (at + words_of n)) list) (commands-at list at n is whole) more file'
+      (is-file ∙ (λ i. words_after file (sym number i % 64) (sym word i))) waited' (is-waited ∙ ap (waited_after waited) (sym number)))
 
 -- ---- the registers after the loop
 

@@ -46,7 +46,9 @@ pub struct Resumed {
     pub outcome: Answer,
 }
 
-// What the check tells of a list, and the hazards there.
+// What the check tells of a list, and the hazards there. This and the next are functions of their own, so that their matches don't stand between the zeros of a
+// file and the words that it is made into, which the compiler would then copy by a call of `memcpy`.
+#[inline(never)]
 fn told_of(checked: Result<Accepted, Refused>) -> (Answer, u8)
     ensures { told_in result ≡ told_by checked }
 {
@@ -57,6 +59,7 @@ fn told_of(checked: Result<Accepted, Refused>) -> (Answer, u8)
 }
 
 // Where the commands end whose registers an answer of the check has: at its place, but for 1 and 2 before the first.
+#[inline(never)]
 fn end_of(outcome: Answer) -> usize
     ensures { result ≡ end_of (answered outcome).number (answered outcome).place }
 {
@@ -91,8 +94,9 @@ pub fn registers_after(list: &[u8]) -> ListState
     ensures { list_state_in result ≡ list_state_of list.now }
 {
     let (outcome, hazards) = told_of(rdp_check::check(list));
-    let replay = updates::replay_from([0; 32], 0, list, end_of(outcome));
-    let registers = updates::registers_of(replay.words);
+    let end = end_of(outcome);
+    let replay = updates::replay_from([0; 32], 0, list, end);
+    let registers = updates::registers_of(&replay.words);
     ListState {
         outcome,
         hazards,

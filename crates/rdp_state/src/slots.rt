@@ -33,3 +33,6 @@ pub const COLOR_IMAGE: usize = 14;
 pub const TILES: usize = 15;
 
 pub const TILE_SIZES: usize = 23;
+
+// The slot of no register.
+pub const NONE: usize = 31;

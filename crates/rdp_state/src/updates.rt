@@ -9,6 +9,7 @@ ghost use Rattle.rdp_state.specs.Replay.{slot_row, slot_entry, set_slot, words_u
 use crate::{Replay, slots};
 use rdp_check::*;
 use rdp_command::{ColorFields, CombinerFields, ImageFields, ModeFields, RegisterWords};
+use rdp_hazards::Sync;
 
 // The slots of eight command numbers, a byte for each: a slot, and 32 more where the tile counts. Slot 31 stands for none. By a `match` on the number the
 // registers of 4,096 setters take half as long again (`make bench`): its jump is not foretold.
@@ -19,8 +20,6 @@ const SLOTS_30: u64 = 0x061F_2F37_3737_1F37;
 const SLOTS_38: u64 = 0x0E0D_0C0B_0A09_0807;
 
 const NO_SLOTS: u64 = 0x1F1F_1F1F_1F1F_1F1F;
-
-const NONE: usize = 31;
 
 // The slots of eight numbers, by their eighth.
 #[tactic(auto, unfolding(crate::specs::Replay::slot_row))]
@@ -52,7 +51,7 @@ pub fn slot_of(number: u8, w: u64) -> Option<usize>
     let entry = slot_entry(number);
     let tile = crate::tile_in(w) as u8;
     let slot = (entry % 32 + entry / 32 * tile) as usize;
-    if slot == NONE {
+    if slot == slots::NONE {
         return None;
     }
     Some(slot)
@@ -64,9 +63,9 @@ fn wait_of(number: u8) -> u32
     ensures { result ≡ command_wait number }
 {
     match number {
-        rdp_hazards::SYNC_LOAD => rdp_hazards::LOAD_WAIT,
-        rdp_hazards::SYNC_TILE => rdp_hazards::TILE_WAIT,
-        rdp_hazards::SYNC_PIPE => rdp_hazards::PIPE_WAIT,
+        rdp_hazards::SYNC_LOAD => Sync::Load.wait(),
+        rdp_hazards::SYNC_TILE => Sync::Tile.wait(),
+        rdp_hazards::SYNC_PIPE => Sync::Pipe.wait(),
         _ => 0,
     }
 }
@@ -75,20 +74,25 @@ fn wait_of(number: u8) -> u32
 pub fn replay_from(file: [u64; 32], before: u32, list: &[u8], end: usize) -> Replay
     ensures { (result.words ≡ words_up_to end 0 file (commands_of list.now)) × (result.waited ≡ waited_up_to end 0 before (commands_of list.now)) }
 {
-    let mut words = file;
-    let mut waited = before;
+    let count = list.len() / 8;
+    let mut replay = Replay {
+        words: file,
+        waited: before,
+    };
     let mut at: usize = 0;
-    for command in Commands(list) {
-        if end <= at {
-            return Replay { words, waited };
+    // No range has a command's own length as its step. By `rdp_check::Commands` the compiler knows that the word is there and reads it byte by byte: the
+    // registers' rows take half as long again.
+    while at < end {
+        let number = rdp_command::head_at(list, at).number;
+        let next = at + rdp_words::words_of(number);
+        if count < next {
+            return replay;
         }
-        let word = rdp_words::word_at(command, 0);
-        let number = rdp_words::number_in(word);
-        crate::store(&mut words, number, word);
-        waited = waited.wrapping_add(wait_of(number));
-        at += rdp_words::words_of(number);
+        crate::store(&mut replay.words, number, rdp_words::word_at(list, at));
+        replay.waited = replay.waited.wrapping_add(wait_of(number));
+        at = next;
     }
-    Replay { words, waited }
+    replay
 }
 
 // The words of the registers but the tiles.
@@ -189,28 +193,41 @@ fn tile_of(descriptor: u64, size: u64) -> Tile
     }
 }
 
+// The tile of a number.
+fn tile_at(file: &[u64; 32], t: usize) -> Tile
+    requires { t < 8 }
+    ensures { result ≡ tile_by (is_set file.now) (word file.now) t }
+{
+    tile_of(file[slots::TILES + t], file[slots::TILE_SIZES + t])
+}
+
+// One by one: by `from_fn` the eight are moved four times more, each time by a call of `memcpy`.
 fn tiles_of(file: &[u64; 32]) -> [Tile; 8]
     ensures { result ≡ tiles_by (is_set file.now) (word file.now) }
 {
-    std::array::from_fn(
-        |t: usize| -> Tile
-            requires { t < 8 }
-            ensures { result ≡ tile_by (is_set file.entry.now) (word file.entry.now) t }
-        { tile_of(file[slots::TILES + t], file[slots::TILE_SIZES + t]) },
-    )
+    [
+        tile_at(file, 0),
+        tile_at(file, 1),
+        tile_at(file, 2),
+        tile_at(file, 3),
+        tile_at(file, 4),
+        tile_at(file, 5),
+        tile_at(file, 6),
+        tile_at(file, 7),
+    ]
 }
 
 // The registers of the words.
 #[tactic(auto, unfolding(crate::specs::RegisterWords::registers_by))]
-pub fn registers_of(file: [u64; 32]) -> Registers
-    ensures { result ≡ registers_in file }
+pub fn registers_of(file: &[u64; 32]) -> Registers
+    ensures { result ≡ registers_in file.now }
 {
-    let fields = rdp_command::register_fields(words_in(&file));
-    let colors = colors_of(&file, fields.colors);
-    let combiner = combiner_of(&file, fields.combiner);
-    let modes = modes_of(&file, fields.modes);
-    let images = images_of(&file, fields.images);
-    let tiles = tiles_of(&file);
+    let fields = rdp_command::register_fields(words_in(file));
+    let colors = colors_of(file, fields.colors);
+    let combiner = combiner_of(file, fields.combiner);
+    let modes = modes_of(file, fields.modes);
+    let images = images_of(file, fields.images);
+    let tiles = tiles_of(file);
     Registers {
         colors,
         combiner,

@@ -24,7 +24,8 @@ fn ended_as(before: u8, ended: bool) -> u8
 }
 
 impl Arrival {
-    // What a record stands for, or 28.
+    // What a record stands for, or 28. It goes into its callers, so that what it answers is not moved once more.
+    #[inline(always)]
     pub fn read(stream: &Stream) -> Result<Arrival, Ground>
         ensures { IsRead stream.now result }
     {
@@ -52,6 +53,7 @@ impl Arrival {
     }
 
     // The record that stands for it, with what it keeps of the record before.
+    #[inline(always)]
     pub fn recorded(&self, before: &Stream) -> Stream
         ensures { result ≡ stream_of (kept_in before.now) (known self.now) }
     {

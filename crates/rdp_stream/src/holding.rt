@@ -9,13 +9,15 @@ ghost use Rattle.rdp_stream.specs.Arrivals.{IsRemembered};
 
 use rdp_words::Ground;
 
+// No held bytes. A static, as an array of its own would be laid on the stack at each call.
+static NONE: [u8; 176] = [0; 176];
+
 // Whether the held bytes of a record are such that these calls cannot have left them.
 fn bytes_damaged(held: &[u8; 176], count: usize) -> bool
     requires { count ≤ 175 }
     ensures { result ≡ bytes_damaged count held.now }
 {
-    let zero = [0u8; 176];
-    if held[count..] != zero[count..] {
+    if held[count..] != NONE[count..] {
         return true;
     }
     rdp_words::whole_words(&held[..count]) != 0

@@ -45,8 +45,7 @@ pub fn feed_value(before: Stream, portion: &[u8]) -> Fed
     ensures { fed result ≡ fed_of before portion.now }
 {
     match Arrival::read(&before) {
-        Ok(arrival) => {
-            let mut fed = arrival;
+        Ok(mut fed) => {
             fed.feed(portion);
             Fed {
                 after: fed.recorded(&before),
@@ -65,8 +64,7 @@ pub fn close_value(before: Stream) -> Fed
     ensures { fed result ≡ closed_of before }
 {
     match Arrival::read(&before) {
-        Ok(arrival) => {
-            let mut closed = arrival;
+        Ok(mut closed) => {
             closed.close();
             Fed {
                 after: closed.recorded(&before),

@@ -10,7 +10,7 @@ returns c =
     let e = told-is list _ _ c.told_of-outcome.ensures c.check.ensures in
     let registers =
     c.registers_of-registers.ensures ∙
-    registers-final list c.end_of.result c.replay_from-replay.result.words c.replay_from-replay.ensures.0 ∙
-    ap (final list) (c.end_of.ensures ∙ (λ i. end_of (e i).0.number (e i).0.place)) ∙
+    registers-final list c.end_of-end.result c.replay_from-replay.result.words c.replay_from-replay.ensures.0 ∙
+    ap (final list) (c.end_of-end.ensures ∙ (λ i. end_of (e i).0.number (e i).0.place)) ∙
     outcome-registers 4096 list in
     λ i. record { number = (e i).0.number; place = (e i).0.place; hazards = (e i).1; registers = registers i }

@@ -4,7 +4,7 @@ use native.Mathlib.Nat.{sub-zero}
 use Rattle.rdp_words.specs.Grounds.{number_if}
 use Rattle.rdp_check.specs.Cause.{awaited}
 use Rattle.rdp_check.specs.View.{Numbers}
-use Rattle.rdp_check.proofs.CauseLaws.{Missing, cause-else, missing-of, place_inside, cause-sought}
+use Rattle.rdp_check.proofs.CauseLaws.{Missing, cause-else, missing-of, place_inside, rest-before, cause-sought}
 use Rattle.rdp_check.proofs.cause.cause_of.Goals.{After-number_at-number}
 use Rattle.rdp_check.proofs.cause.cause_of.Goals as goal
 
@@ -17,6 +17,9 @@ returns-then-not-whole-misses_sync c = let a = c.args in cause-else a.list.now (
 
 pub slice_bounds-latest_among-end : goal.slice_bounds-latest_among-end
 slice_bounds-latest_among-end c = let inside = place_inside (missing (goal.at.slice_bounds-latest_among-end c).After-number_at-number) in search (rules, inside)
+
+pub latest_among-requires : goal.latest_among-requires
+latest_among-requires c = rw sub-zero (rest-before (missing (goal.at.latest_among-requires c).After-number_at-number))
 
 pub returns : goal.returns
 returns c =

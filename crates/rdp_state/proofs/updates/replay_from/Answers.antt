@@ -1,39 +1,39 @@
 -- `rdp_state::updates::replay_from` meets its contract: the words after the commands that are left are those after the list. Assumes nothing.
 use Rattle.std.proofs.Common.{◌≡◌, ℕ, ◌+◌, ◌%◌, ◌^◌, ap, ◌∙◌, arith}
-use Rattle.rdp_words.specs.Words.{number_in}
-use Rattle.rdp_words.specs.Kinds.{words_of}
-use Rattle.rdp_words.specs.Lengths.{first_number}
-use Rattle.rdp_hazards.specs.Syncs.{command_wait}
+use Rattle.rdp_words.specs.Words.{number_in, word_at}
 use Rattle.rdp_state.specs.RegisterWords.{words_after}
-use Rattle.rdp_state.proofs.ReplayLaws.{first, ended, past, few, again}
-use Rattle.rdp_state.proofs.updates.replay_from.Goals.{After-words_of-at}
+use Rattle.rdp_state.proofs.ReplayLaws.{first, ended, next-small, cut-short, at-next}
+use Rattle.rdp_state.proofs.updates.replay_from.Goals.{After-words_of}
 use Rattle.rdp_state.proofs.updates.replay_from.Goals as goal
 
-pub loop-command-init : goal.loop-command-init
-loop-command-init c = rw c.into_iter-command-iterator.ensures.into_iter_gives (first c.args.list.now c.args.end c.args.file c.args.before)
+pub loop-at-init : goal.loop-at-init
+loop-at-init c = first c.args.list.now c.args.end c.args.file c.args.before
 
-pub returns-then-end-at : goal.returns-then-end-at
-returns-then-end-at c = ended c.loop-command.invariant c.if-end-at.true
+number-is : (c : After-words_of) → c.head_at-number.result.number ≡ number_in (word_at c.args.list.now c.loop-at.at)
+number-is c = ap (λ h. h.number) c.head_at-number.ensures
 
-number-is : (c : After-words_of-at) → c.number_in-number.result ≡ first_number c.in-Some.command.now
-number-is c = c.number_in-number.ensures ∙ ap number_in c.word_at-word.ensures
+pub overflow_add-next : goal.overflow_add-next
+overflow_add-next c =
+    let small = next-small c.loop-at.invariant _ (number-is c) in
+    let words = c.words_of.ensures in
+    search (arith, words, small)
 
-words-is : (c : After-words_of-at) → c.words_of-at.result ≡ words_of (first_number c.in-Some.command.now)
-words-is c = c.words_of-at.ensures ∙ ap words_of (number-is c)
+pub returns-then-count-next : goal.returns-then-count-next
+returns-then-count-next c =
+    cut-short c.loop-at.invariant _ (number-is (goal.at.returns-then-count-next c).After-words_of) (rw (← c.words_of.ensures) c.if-count-next.true)
 
-pub overflow_add-at : goal.overflow_add-at
-overflow_add-at c =
-    let words = words-is (goal.at.overflow_add-at c).After-words_of-at in
-    let inside = few c.loop-command.invariant _ _ c.in-Some.ensures.steps in
-    search (arith, words, inside)
+pub loop-at-smaller : goal.loop-at-smaller
+loop-at-smaller c =
+    let small = next-small c.loop-at.invariant _ (number-is (goal.at.loop-at-smaller c).After-words_of) in
+    omega (arith, small, c.words_of.ensures, c.if-count-next.false)
 
-pub loop-command-preserved : goal.loop-command-preserved
-loop-command-preserved c =
-    let k = (goal.at.loop-command-preserved c).After-words_of-at in
-    rw (words-is k)
-    (again c.loop-command.invariant _ _ c.in-Some.ensures.steps c.if-end-at.false _
-    (c.store.ensures ∙ (λ i. words_after c.loop-command.words (number-is k i % 64) (c.word_at-word.ensures i))) _
-    (ap (λ (n : ℕ). (c.loop-command.waited + n) % 2 ^ 32) (c.wait_of-waited.ensures ∙ ap command_wait (number-is k))))
+pub loop-at-preserved : goal.loop-at-preserved
+loop-at-preserved c =
+    rw (c.words_of.ensures)
+    (at-next c.loop-at.invariant _ (number-is (goal.at.loop-at-preserved c).After-words_of)
+    (rw (← c.words_of.ensures) (omega (arith, c.if-count-next.false))) c.loop-at-test.true _
+    (c.store.ensures ∙ ap (words_after c.loop-at.replay.words (c.head_at-number.result.number % 64)) c.word_at.ensures) _
+    (ap (λ (n : ℕ). (c.loop-at.replay.waited + n) % 2 ^ 32) c.wait_of.ensures))
 
 pub returns : goal.returns
-returns c = past c.loop-command.invariant c.in-None.ensures.steps.0
+returns c = ended c.loop-at.invariant (omega (arith, c.loop-at-test.false))
