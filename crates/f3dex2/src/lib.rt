@@ -27,7 +27,7 @@ pub struct Untranslated {
 
 // What the next command must be: any, or a half-word of a texture rectangle. The second holds the value of the first.
 #[derive(Clone, Copy, Default)]
-enum Due {
+pub enum Due {
     #[default]
     Command,
     FirstHalf,
@@ -36,7 +36,7 @@ enum Due {
 
 // The high and the low word of the other modes, and what is due next.
 #[derive(Clone, Copy, Default)]
-struct Setting {
+pub struct Setting {
     pub high: u32,
     pub low: u32,
     pub due: Due,
@@ -44,7 +44,7 @@ struct Setting {
 
 // What a command does: a word is written, nothing but that it is read, a list is called, a list is gone to for good, the list ends.
 #[derive(Clone, Copy)]
-enum Action {
+pub enum Action {
     Write(u64),
     Pass,
     Call(usize),

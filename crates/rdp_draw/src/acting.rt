@@ -49,6 +49,7 @@ pub fn act_all(list: &[u8], words: usize, memory: &mut [u8], start: u64, texture
 {
     let mut file = [0u64; 32];
     let mut next = 0;
+    // Each act is read with the file as `next_act` leaves it, which an iterator that held the file could not lend beside the act.
     while let Some(reached) = walk::next_act(list, next, &mut file) {
         act(list, reached, &file, memory, start, texture);
         next = reached.place + rdp_words::words_of(reached.number);

@@ -26,7 +26,11 @@ pub fn draw(list: &[u8], memory: &mut [u8], start: u64, texture: &mut [u8]) -> A
         });
     }
     let words = list.len() / 8;
-    let accepted = refusals::first_refusal(list, words, start, memory.len())?;
-    acting::act_all(list, words, memory, start, texture);
-    Ok(accepted)
+    match refusals::first_refusal(list, words, start, memory.len()) {
+        Ok(accepted) => {
+            acting::act_all(list, words, memory, start, texture);
+            Ok(accepted)
+        }
+        Err(refusal) => Err(refusal),
+    }
 }

@@ -75,6 +75,7 @@ pub fn first_refusal(list: &[u8], words: usize, start: u64, len: usize) -> Answe
 {
     let mut file = [0u64; 32];
     let mut next = 0;
+    // Each act is read with the file as `next_act` leaves it, which an iterator that held the file could not lend beside the act.
     while let Some(reached) = walk::next_act(list, next, &mut file) {
         let place = reached.place;
         if let Err(ground) = refusal_at(list, reached, &file, start, len) {

@@ -40,14 +40,12 @@ first_refusal-requires c =
     let a = accepted _ (accepts (goal.at.first_refusal-requires c).In_ok-check) in
     (refl, (omega (arith, a.few), a.whole))
 
-pub returns-in_err-accepted : goal.returns-in_err-accepted
-returns-in_err-accepted c =
+pub returns-in-Err : goal.returns-in-Err
+returns-in-Err c =
     let s = c.args in
     let m = memories s.memory.now s.texture.now in
-    let p = err_from_is_err_and c.from_residual-in_err-accepted.result c.from_residual-in_err-accepted.ensures.1 in
-    let said = ap answered p.1 ∙ ap (λ q. answered (Err q)) p.2 in
-    let r = said ∙ c.in_err-accepted.ensures ∙ answer-acts s.list.now s.start m (accepts (goal.at.returns-in_err-accepted c).In_ok-check) c.if-texture-ne-TEXTURE_BYTES.false in
-    let kept = drawn-kept s.list.now s.start m _ r (λ z. refused-number _ (sym (ap (λ k. k.number) said) ∙ z)) in
+    let r = c.in-Err.ensures ∙ answer-acts s.list.now s.start m (accepts (goal.at.returns-in-Err c).In_ok-check) c.if-texture-ne-TEXTURE_BYTES.false in
+    let kept = drawn-kept s.list.now s.start m _ r (λ z. refused-number _ z) in
     record { answer = r; memory = ap (λ x. x.memory) kept; texture = ap (λ x. x.texture) kept }
 
 pub act_all-requires : goal.act_all-requires
@@ -55,13 +53,13 @@ act_all-requires c =
     let a = accepted _ (accepts (goal.at.act_all-requires c).In_ok-check) in
     record {
       words_value = (refl, (omega (arith, a.few), a.whole));
-      texture_len = (c.if-texture-ne-TEXTURE_BYTES.false, sym (ap (λ r. r.number) c.in_ok-accepted.ensures));
+      texture_len = (c.if-texture-ne-TEXTURE_BYTES.false, sym (ap (λ r. r.number) c.in-Ok.ensures));
     }
 
-pub returns : goal.returns
-returns c =
+pub returns-in-Ok : goal.returns-in-Ok
+returns-in-Ok c =
     let s = c.args in
     let m = memories s.memory.now s.texture.now in
-    let r = c.in_ok-accepted.ensures ∙ answer-acts s.list.now s.start m (accepts (goal.at.returns c).In_ok-check) c.if-texture-ne-TEXTURE_BYTES.false in
+    let r = c.in-Ok.ensures ∙ answer-acts s.list.now s.start m (accepts (goal.at.returns-in-Ok c).In_ok-check) c.if-texture-ne-TEXTURE_BYTES.false in
     let done = c.act_all.ensures ∙ drawn-acted s.list.now s.start m _ r refl in
     record { answer = r; memory = ap (λ x. x.memory) done; texture = ap (λ x. x.texture) done }
