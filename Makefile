@@ -25,10 +25,10 @@ $(ARCHIVE): $(SOURCES)
 	cp crates/lanyardrove/out/liblanyardrove.a $@
 
 # Names are looked up at their first call, as test_first_call.c measures it.
-build/test_%_c: tests/c/test_%.c include/lanyardrove.h $(ARCHIVE)
+build/test_%_c: tests/c/test_%.c tests/c/own_stack.h include/lanyardrove.h $(ARCHIVE)
 	$(CC) -std=c11 -pedantic $(WARNINGS) -O2 -Iinclude $< $(ARCHIVE) -Wl,-z,lazy -o $@
 
-build/test_%_cpp: tests/c/test_%.c include/lanyardrove.h $(ARCHIVE)
+build/test_%_cpp: tests/c/test_%.c tests/c/own_stack.h include/lanyardrove.h $(ARCHIVE)
 	$(CXX) -x c++ -std=c++17 $(WARNINGS) -O2 -Iinclude $< -x none $(ARCHIVE) -Wl,-z,lazy -o $@
 
 TEST_PROGRAMS = $(foreach name,$(TESTS),build/test_$(name)_c build/test_$(name)_cpp)

@@ -3,19 +3,12 @@
  * whose lists have had every name looked up before. A fill of rows that are many bytes long is drawn on a stack of its own that was painted before.
  * It compiles as C11 and as C++17, prints the bytes, and its exit status says whether the promise of include/lanyardrove.h holds, less than 8 KiB.
  */
-#ifndef _XOPEN_SOURCE
-#define _XOPEN_SOURCE 700 /* for ucontext.h */
-#endif
+#include "own_stack.h"
+
 #include "lanyardrove.h"
 
 #include <stdio.h>
-#include <ucontext.h>
 
-#define PROMISED 8192
-#define PAINT 0x5C
-
-static uint8_t own_stack[8 * PROMISED];
-static ucontext_t here, there;
 static uint64_t answer;
 
 static uint8_t memory[512 * 1024], texture[LANYARDROVE_TEXTURE_BYTES];
@@ -27,21 +20,6 @@ static const uint8_t list[] = {
 };
 
 static void draw(void) { answer = lanyardrove_draw(list, sizeof list, memory, sizeof memory, 0, texture, sizeof texture); }
-
-/* The bytes of the stack that a call touches. Nothing here calls memcpy, nor anything that might. */
-static size_t touched_by(void (*call)(void)) {
-    volatile uint8_t *byte = own_stack;
-    size_t deepest = 0;
-    for (; deepest < sizeof own_stack; deepest++) byte[deepest] = PAINT;
-    getcontext(&there);
-    there.uc_stack.ss_sp = own_stack;
-    there.uc_stack.ss_size = sizeof own_stack;
-    there.uc_link = &here;
-    makecontext(&there, call, 0);
-    swapcontext(&here, &there);
-    for (deepest = 0; deepest < sizeof own_stack && byte[deepest] == PAINT;) deepest++;
-    return sizeof own_stack - deepest;
-}
 
 int main(void) {
     const size_t first = touched_by(draw), second = touched_by(draw);

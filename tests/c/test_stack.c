@@ -3,37 +3,14 @@
  * of its own that was painted before, with the longest lists and on its deep ways. What the test itself uses there is counted too.
  * It compiles as C11 and as C++17, prints the bytes of each function, and its exit status says whether the promise holds.
  */
-#ifndef _XOPEN_SOURCE
-#define _XOPEN_SOURCE 700 /* for ucontext.h */
-#endif
+#include "own_stack.h"
+
 #include "lanyardrove.h"
 
 #include <stdio.h>
 #include <string.h>
-#include <ucontext.h>
 
-#define PROMISED 8192
-#define PAINT 0x5C
-
-/* ---- A stack of its own. */
-
-static uint8_t own_stack[8 * PROMISED];
-static ucontext_t here, there;
 static unsigned wrong;
-
-/* The bytes of the stack that a call touches, from the first to the deepest. */
-static size_t touched_by(void (*call)(void)) {
-    size_t deepest = 0;
-    memset(own_stack, PAINT, sizeof own_stack);
-    getcontext(&there);
-    there.uc_stack.ss_sp = own_stack;
-    there.uc_stack.ss_size = sizeof own_stack;
-    there.uc_link = &here;
-    makecontext(&there, call, 0);
-    swapcontext(&here, &there);
-    while (deepest < sizeof own_stack && own_stack[deepest] == PAINT) deepest++;
-    return sizeof own_stack - deepest;
-}
 
 /* An answer has this number: so the call went the way that is meant. */
 static void answers(uint64_t answer, uint32_t number) { wrong += lanyardrove_number(answer) != number; }
